@@ -24,7 +24,7 @@ use Rattle.mcs_node.specs.Nodes.{IsAbove, NodeData, done_level, round_at}
 use Rattle.mcs_node.specs.Playing.{HasState, has_begun, has_not}
 use Rattle.mcs_node.proofs.DoneLemmas.{done_rounds_are_quiet}
 use Rattle.mcs_mesh.specs.Players.{AreNodesOf, HasRoundCause, HaveFinished, HaveReached, IsPlayed, IsReadyRound, as_new, known_to, oracles_of}
-use Rattle.mcs_mesh.specs.Rounds.{AreFresh, AreKnown, AreNew, CanGoOn, EvaluationData, HasFewRules, HaveFinishedLast, IsEvaluation, IsLastRound, IsLastRoundOf, IsSoundRound, evaluation_of, evaluator_state_of, round_of}
+use Rattle.mcs_mesh.specs.Rounds.{AreFresh, AreKnown, AreNew, CanGoOn, EvaluationData, HasFewRules, HaveFinishedLast, IsEvaluation, HasEndedBy, IsLastRound, IsLastRoundOf, HasShown, IsSoundRound, evaluation_of, evaluator_state_of, round_of}
 use Rattle.mcs_mesh.proofs.General.{question_higher}
 use Rattle.mcs_mesh.proofs.LastingLemmas.{count_higher, known_higher}
 use Rattle.mcs_mesh.proofs.NodeLemmas.{oracles_rest, still_nodes}
@@ -140,8 +140,8 @@ module _ (m : System) (budget : ℕ) (nodes : List NodeData) (own : AreNodesOf m
       none_there k x none h = subst (λ xs. IsAmong x (questions_in xs)) none h
 
 -- ---- the beginning
-pub fresh : (m : System) (budget : ℕ) (os : List OracleState) (nodes : List NodeData) → AreFresh m os → AreNew m budget os nodes → IsEvaluation (evaluation_of m budget None None false None nodes) 0
-fresh m budget os nodes own new = record {
+pub fresh : (w : ℕ) (m : System) (budget : ℕ) (os : List OracleState) (nodes : List NodeData) → AreFresh m os → AreNew m budget os nodes → IsEvaluation (evaluation_of w m budget None None false None nodes) 0
+fresh w m budget os nodes own new = record {
   own = record {
     one_each = new.one_each;
     each = λ i d at. let one = new.each i d at in record {
@@ -229,16 +229,35 @@ module _ (m : System) (level budget asked : ℕ) (nodes : List NodeData) (r : Ha
   done_ended = ((done_rounds_are_quiet (round_of m level budget s.before) s.configuration.nodes are_finished).1, λ i st at. (finished_state i st at).1.done)
 
 -- what is left of the last round
-pub left_at : (m : System) (level : ℕ) (nodes : List NodeData) (leaves : System → ℕ → List NodeData → Type 0) (m' : System) → m' ≡ m → leaves m' level nodes → (n : ℕ) → Some level ≡ Some n → leaves m n nodes
-left_at m level nodes leaves m' same left n is = subst (λ (k : ℕ). leaves m k nodes) (same_Some level n is) (subst (λ (k : System). leaves k level nodes) same left)
+pub shown_at : {T : Type 0} (m : System) (level : ℕ) (leaves : System → ℕ → Result ℕ Halt → T → Type 0) (m' : System) → m' ≡ m → (trail : T) (total : Result ℕ Halt) → leaves m' level total trail → (halt : Option Halt) → HasEndedBy halt total
+    → (n : ℕ) → Some level ≡ Some n → HasShown (leaves m n) halt (Some trail)
+shown_at m level leaves m' same trail total left halt ended n is =
+    (trail, refl, total, subst (λ (k : ℕ). leaves m k total trail) (same_Some level n is) (subst (λ (k : System). leaves k level total trail) same left), ended)
+
+-- and stays so after want of memory
+pub shown_on : {T : Type 0} (leaves : Result ℕ Halt → T → Type 0) (shown : Option T) (halt halt' : Option Halt) → halt ≡ None → halt' ≡ Some Memory → HasShown leaves halt shown → HasShown leaves halt' shown
+shown_on leaves shown halt halt' none memory (trail, is, total, left, ended) = (trail, is, total, left, subst (λ (h : Option Halt). HasEndedBy h total) (sym memory) (on total (subst (λ (h : Option Halt). HasEndedBy h total) none ended)))
+  where
+    on : (total : Result ℕ Halt) → HasEndedBy None total → HasEndedBy (Some Memory) total
+    on (Ok n) ended = refl
+    on (Err h) ended = absurd ended
+
+pub ended_err : (kept : Option Halt) (h : Halt) (total : Result ℕ Halt) → kept ≡ Some h → total ≡ Err h → HasEndedBy kept total
+ended_err kept h total is ends = rw (is, ends) refl
 
 -- ---- an evaluation, seen as `now`
-module _ (m : System) (budget : ℕ) (reached : Option ℕ) (halt : Option Halt) (replayed : Bool) (last : Option ℕ) (nodes : List NodeData) (asked : ℕ)
-    (l : IsEvaluation (evaluation_of m budget reached halt replayed last nodes) asked) (now : EvaluationData) (view : evaluation_of m budget reached halt replayed last nodes ≡ now) where
+module _ (w : ℕ) (m : System) (budget : ℕ) (reached : Option ℕ) (halt : Option Halt) (replayed : Bool) (last : Option ℕ) (nodes : List NodeData) (asked : ℕ)
+    (l : IsEvaluation (evaluation_of w m budget reached halt replayed last nodes) asked) (now : EvaluationData) (view : evaluation_of w m budget reached halt replayed last nodes ≡ now) where
   no_halt : now.state.halted ≡ false → (halt ≡ None) × (replayed ≡ false)
   no_halt going = neither halt replayed (ap (λ (e : EvaluationData). e.state.halted) view ∙ going)
 
-  can_go_on : now.state.halted ≡ false → CanGoOn (evaluation_of m budget reached halt replayed last nodes) asked
+  pub ended_ok : now.state.halted ≡ false → (total : Result ℕ Halt) (n : ℕ) → total ≡ Ok n → HasEndedBy halt total
+  ended_ok going total n ends = rw ((no_halt going).0, ends) tt
+
+  pub memory_shown : {T : Type 0} (leaves : Result ℕ Halt → T → Type 0) (shown : Option T) (kept : Option Halt) → now.state.halted ≡ false → kept ≡ Some Memory → HasShown leaves halt shown → HasShown leaves kept shown
+  memory_shown leaves shown kept going is one = shown_on leaves shown halt kept (no_halt going).0 is one
+
+  can_go_on : now.state.halted ≡ false → CanGoOn (evaluation_of w m budget reached halt replayed last nodes) asked
   can_go_on going = l.ready (ap (λ (e : EvaluationData). e.state.halted) view ∙ going)
 
   -- the last round, where a level was done
@@ -248,12 +267,12 @@ module _ (m : System) (budget : ℕ) (reached : Option ℕ) (halt : Option Halt)
       let (n, last_is, low, alike) = last_of m last d (subst (λ o. IsLastRound m last o) is g.last) in
       (n, low, alike, subst (λ o. HaveReached m budget o asked nodes) last_is g.reached)
 
-  pub again_done : (d level : ℕ) → now.state.halted ≡ false → reached ≡ Some d → level ≤ d → HasDone now.state (evaluation_of m budget reached halt replayed last nodes).state level
+  pub again_done : (d level : ℕ) → now.state.halted ≡ false → reached ≡ Some d → level ≤ d → HasDone now.state (evaluation_of w m budget reached halt replayed last nodes).state level
   again_done d level going is less =
       let (none, not) = no_halt going in
       let (n, low, alike, r) = last_at d going is in
       let top : Some d ≡ raised (Some d) level = let e : d ≡ max d level = omega (arith, less) in ap (λ n. Some n) e in
-      subst (λ (x : EvaluationData). HasDone x.state (evaluation_of m budget reached halt replayed last nodes).state level) view
+      subst (λ (x : EvaluationData). HasDone x.state (evaluation_of w m budget reached halt replayed last nodes).state level) view
       (rw (is, none, not) (has_done m budget nodes l.own asked n r d low alike (Some d) None false (oracles_of nodes) refl level less top))
 
   -- its level has no questions and rows that the one before has not
@@ -275,15 +294,15 @@ module _ (m : System) (budget : ℕ) (reached : Option ℕ) (halt : Option Halt)
     lasting_round : IsLastRound m last (Some level)
     lasting_round = let (n, last_is, below, alike) = lasting in subst (λ (o : Option ℕ). IsLastRound m o (Some level)) (sym last_is) (below, alike)
 
-    pub lasting_kept : IsEvaluation (evaluation_of m budget (Some level) halt replayed last nodes) asked
+    pub lasting_kept : IsEvaluation (evaluation_of w m budget (Some level) halt replayed last nodes) asked
     lasting_kept = record { own = l.own; new = l.new; ready = λ _. record { last = lasting_round; reached = (can_go_on going).reached; finished = (can_go_on going).finished } }
 
-    pub lasting_done : HasDone now.state (evaluation_of m budget (Some level) halt replayed last nodes).state level
+    pub lasting_done : HasDone now.state (evaluation_of w m budget (Some level) halt replayed last nodes).state level
     lasting_done =
         let (n, last_is, below, alike) = lasting in
         let (none, not) = no_halt going in
         let r = subst (λ (o : Option ℕ). HaveReached m budget o asked nodes) last_is (can_go_on going).reached in
-        subst (λ (x : EvaluationData). HasDone x.state (evaluation_of m budget (Some level) halt replayed last nodes).state level) view
+        subst (λ (x : EvaluationData). HasDone x.state (evaluation_of w m budget (Some level) halt replayed last nodes).state level) view
         (rw (none, not) (has_done m budget nodes l.own asked n r level below alike reached None false (oracles_of nodes) refl level (omega arith) (raised_to reached level (λ d is. let less = low d is in omega (arith, less)))))
 
   -- what is known at the level done
@@ -302,7 +321,7 @@ module _ (m : System) (budget : ℕ) (reached : Option ℕ) (halt : Option Halt)
       from (Some n) r = asked_in_journals m budget nodes l.own asked n r n (omega arith) (λ less. absurd (omega (arith, less)))
 
   -- ---- its nodes
-  round_by : (level : ℕ) → last ≡ Some level → IsSoundRound m level budget nodes → (halted : Bool) → ((halted ≡ false) → CanGoOn (evaluation_of m budget reached halt replayed last nodes) asked)
+  round_by : (level : ℕ) → last ≡ Some level → IsSoundRound m level budget nodes → (halted : Bool) → ((halted ≡ false) → CanGoOn (evaluation_of w m budget reached halt replayed last nodes) asked)
       → (s : IsSoundRound m level budget nodes) × (halted ≡ false → IsQuiet (round_of m level budget s.before) s.configuration × IsDone s.configuration)
   round_by level is s true ready = (s, λ going. absurd (true≢false going))
   round_by level is s false ready =
@@ -327,34 +346,34 @@ module _ (m : System) (budget : ℕ) (reached : Option ℕ) (halt : Option Halt)
 
     module _ (after : List NodeData) where
       -- it was done
-      pub played_kept : (total : ℕ) → IsPlayed m level budget nodes after (Ok total) → IsEvaluation (evaluation_of m budget (Some level) halt replayed (Some level) after) total
+      pub played_kept : (total : ℕ) → IsPlayed m level budget nodes after (Ok total) → IsEvaluation (evaluation_of w m budget (Some level) halt replayed (Some level) after) total
       played_kept total p = record {
         own = still_nodes after nodes p.same m budget l.own;
         new = λ _ none. absurd (none-some level (sym none));
         ready = λ _. record { last = (omega arith, λ less. absurd (omega (arith, less))); reached = p.ends.0; finished = p.ends.1 };
       }
 
-      pub played_done : (total : ℕ) → IsPlayed m level budget nodes after (Ok total) → HasDone now.state (evaluation_of m budget (Some level) halt replayed (Some level) after).state level
+      pub played_done : (total : ℕ) → IsPlayed m level budget nodes after (Ok total) → HasDone now.state (evaluation_of w m budget (Some level) halt replayed (Some level) after).state level
       played_done total p =
           let (none, not) = no_halt going in
-          subst (λ (x : EvaluationData). HasDone x.state (evaluation_of m budget (Some level) halt replayed (Some level) after).state level) view
+          subst (λ (x : EvaluationData). HasDone x.state (evaluation_of w m budget (Some level) halt replayed (Some level) after).state level) view
           (rw (none, not) (has_done m budget after (still_nodes after nodes p.same m budget l.own) total level p.ends.0 level (omega arith) (λ less. absurd (omega (arith, less)))
           reached None false (oracles_of nodes) (oracles_rest after nodes p.same) level (omega arith) (raised_to reached level (λ d is. let less = below d is in omega (arith, less)))))
 
       -- it stopped
-      pub stopped_kept : (h : Halt) (n : ℕ) → map as_new after ≡ map as_new nodes → IsEvaluation (evaluation_of m budget reached (Some h) replayed (Some level) after) n
+      pub stopped_kept : (h : Halt) (n : ℕ) → map as_new after ≡ map as_new nodes → IsEvaluation (evaluation_of w m budget reached (Some h) replayed (Some level) after) n
       stopped_kept h n same = record { own = still_nodes after nodes same m budget l.own; new = λ _ none. absurd (none-some level (sym none)); ready = λ on. absurd (true≢false on) }
 
-      pub played_halted : (h : Halt) → IsPlayed m level budget nodes after (Err h) → HasHalted now.state (evaluation_of m budget reached (Some h) replayed (Some level) after).state level h
+      pub played_halted : (h : Halt) → IsPlayed m level budget nodes after (Err h) → HasHalted now.state (evaluation_of w m budget reached (Some h) replayed (Some level) after).state level h
       played_halted h p = record { cause = subst (λ (x : EvaluationData). HasHaltCause x.state level h) view (halt_cause h p.ends); told = refl; over = refl }
         where
-          halt_cause : (h : Halt) → HasRoundCause m level budget (oracles_of nodes) h → HasHaltCause (evaluation_of m budget reached halt replayed last nodes).state level h
+          halt_cause : (h : Halt) → HasRoundCause m level budget (oracles_of nodes) h → HasHaltCause (evaluation_of w m budget reached halt replayed last nodes).state level h
           halt_cause (Spent at drawn) c = c
           halt_cause (Missing i x) (o, at, lacks, question) = record { oracle = o; is_its = at; lacks = lacks; question = question }
           halt_cause Memory c = tt
 
       -- nothing else of it changed
-      pub played_rest : (done' : Option ℕ) (halt' : Option Halt) → map as_new after ≡ map as_new nodes → KeepsRest now.state (evaluation_of m budget done' halt' replayed (Some level) after).state
+      pub played_rest : (done' : Option ℕ) (halt' : Option Halt) → map as_new after ≡ map as_new nodes → KeepsRest now.state (evaluation_of w m budget done' halt' replayed (Some level) after).state
       played_rest done' halt' same = record {
         system = ap (λ (e : EvaluationData). e.state.system) view;
         budget = ap (λ (e : EvaluationData). e.state.budget) view;
@@ -362,8 +381,8 @@ module _ (m : System) (budget : ℕ) (reached : Option ℕ) (halt : Option Halt)
       }
 
   -- memory ran out before it
-  pub memory_halted : (level : ℕ) → HasHalted now.state (evaluation_of m budget reached (Some Memory) replayed last nodes).state level Memory
+  pub memory_halted : (level : ℕ) → HasHalted now.state (evaluation_of w m budget reached (Some Memory) replayed last nodes).state level Memory
   memory_halted level = record { cause = tt; told = refl; over = refl }
 
-  pub memory_kept : IsEvaluation (evaluation_of m budget reached (Some Memory) replayed last nodes) asked
+  pub memory_kept : IsEvaluation (evaluation_of w m budget reached (Some Memory) replayed last nodes) asked
   memory_kept = record { own = l.own; new = λ on. absurd (true≢false on); ready = λ on. absurd (true≢false on) }

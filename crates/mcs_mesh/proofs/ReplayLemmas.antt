@@ -377,7 +377,7 @@ left_sound m level budget events nodes told t = record {
   sound = runs_are_sound (only_round m level budget) events t.0.outcomes t.0.left t.0.run;
 }
 
-module _ (m : System) (budget : ℕ) (done : Option ℕ) (halt : Option Halt) (replayed : Bool) (last : Option ℕ) (nodes : List NodeData) (asked : ℕ) (l : IsEvaluation (evaluation_of m budget done halt replayed last nodes) asked) (now : EvaluationData) (view : evaluation_of m budget done halt replayed last nodes ≡ now) where
+module _ (w : ℕ) (m : System) (budget : ℕ) (done : Option ℕ) (halt : Option Halt) (replayed : Bool) (last : Option ℕ) (nodes : List NodeData) (asked : ℕ) (l : IsEvaluation (evaluation_of w m budget done halt replayed last nodes) asked) (now : EvaluationData) (view : evaluation_of w m budget done halt replayed last nodes ≡ now) where
   pub replay_new : now.state.halted ≡ false → now.last ≡ None → AreNew m budget (oracles_of nodes) nodes
   replay_new going first = l.new (ap (λ (e : EvaluationData). e.state.halted) view ∙ going) (ap (λ (e : EvaluationData). e.last) view ∙ first)
 
@@ -401,14 +401,14 @@ module _ (m : System) (budget : ℕ) (done : Option ℕ) (halt : Option Halt) (r
     over : (is_some halt || true) ≡ true
     over = or_right (is_some halt) true refl
 
-    pub replay_kept : (last' : Option ℕ) → IsEvaluation (evaluation_of m budget done halt true last' after) asked
+    pub replay_kept : (last' : Option ℕ) → IsEvaluation (evaluation_of w m budget done halt true last' after) asked
     replay_kept last' = record {
       own = still_nodes after nodes same m budget l.own;
       new = λ on none. absurd (true≢false (sym over ∙ on));
       ready = λ on. absurd (true≢false (sym over ∙ on));
     }
 
-    pub replay_rest : (last' : Option ℕ) → KeepsRest now.state (evaluation_of m budget done halt true last' after).state
+    pub replay_rest : (last' : Option ℕ) → KeepsRest now.state (evaluation_of w m budget done halt true last' after).state
     replay_rest last' = record {
       system = ap (λ (e : EvaluationData). e.state.system) view;
       budget = ap (λ (e : EvaluationData). e.state.budget) view;

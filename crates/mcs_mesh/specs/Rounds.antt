@@ -1,5 +1,5 @@
 -- What an evaluation is seen as, and what it keeps of its contexts from round to round.
-use Rattle.std.specs.Prelude.{◌≡◌, ℕ, ◌<◌, ◌≤◌, Bool, true, false, ◌||◌, List, [], map, length, Option, Some, None, slice_get, is_some, refl}
+use Rattle.std.specs.Prelude.{◌≡◌, ℕ, ◌<◌, ◌≤◌, Bool, true, false, ◌||◌, List, [], map, length, Option, Some, None, Result, Ok, Err, slice_get, is_some, refl}
 use Rattle.std.specs.Coded.{Coded, code_by, coded×, coded_ℕ, coded_list, coded_option}
 use Rattle.mcs_sets.specs.Sets.{size, common, union}
 use Rattle.mcs_base.specs.Pairs.{removed_of, forced_of}
@@ -10,6 +10,7 @@ use Rattle.mcs_states.specs.Oracles.{OracleState}
 use Rattle.mcs_states.specs.Evaluators.{EvaluatorState}
 use Rattle.mcs_states.specs.Codes.{coded_evaluator}
 use Rattle.mcs_states.specs.declared.halt.Halt.{Halt}
+use Rattle.mcs_states.specs.declared.halt.Halt.TheVariants.{Memory}
 use Rattle.mcs_node.specs.Known.{IsKnown, Knowledge}
 use Rattle.mcs_node.specs.Codes.{coded_node}
 use Rattle.mcs_node.specs.Nodes.{NodeData, IsFreshOracle, IsNewNode}
@@ -68,6 +69,8 @@ pub record AreNew (m : System) (budget : ℕ) (oracles : List OracleState) (node
 -- ---- what an evaluation is seen as
 pub record EvaluationData : Type 0 where
   pub state : EvaluatorState
+  -- how many workers play its rounds
+  pub workers : ℕ
   -- the level of the last round that was played, if one was
   pub last : Option ℕ
   -- for each context, in order, its node
@@ -75,16 +78,17 @@ pub record EvaluationData : Type 0 where
 
 -- by what a proof tells them apart
 abbrev pub coded_evaluation : Coded EvaluationData
-coded_evaluation = code_by (EvaluatorState × (Option ℕ × List NodeData)) (coded× coded_evaluator (coded× (coded_option coded_ℕ) (coded_list coded_node)))
-    (λ e. (e.state, (e.last, e.nodes))) (λ t. record { state = t.0; last = t.1.0; nodes = t.1.1 }) (λ _. refl)
+coded_evaluation = code_by (EvaluatorState × (ℕ × (Option ℕ × List NodeData))) (coded× coded_evaluator (coded× coded_ℕ (coded× (coded_option coded_ℕ) (coded_list coded_node))))
+    (λ e. (e.state, (e.workers, (e.last, e.nodes)))) (λ t. record { state = t.0; workers = t.1.0; last = t.1.1.0; nodes = t.1.1.1 }) (λ _. refl)
 
 -- the evaluator's parts
 abbrev pub evaluator_state_of : System → ℕ → Option ℕ → Option Halt → List OracleState → EvaluatorState
 evaluator_state_of m budget done halt oracles = record { system = m; budget = budget; done = done; halt = halt; halted = is_some halt; oracles = oracles }
 
 -- an evaluation's parts: it can be asked no more after a halt, and once events were replayed over its nodes
-abbrev pub evaluation_of : System → ℕ → Option ℕ → Option Halt → Bool → Option ℕ → List NodeData → EvaluationData
-evaluation_of m budget done halt replayed last nodes = record {
+abbrev pub evaluation_of : ℕ → System → ℕ → Option ℕ → Option Halt → Bool → Option ℕ → List NodeData → EvaluationData
+evaluation_of workers m budget done halt replayed last nodes = record {
+  workers = workers;
   state = record { system = m; budget = budget; done = done; halt = halt; halted = is_some halt || replayed; oracles = oracles_of nodes };
   last = last;
   nodes = nodes;
@@ -130,3 +134,15 @@ pub record IsEvaluation (e : EvaluationData) (asked : ℕ) : Type 0 where
   pub own : AreNodesOf e.state.system e.state.budget e.nodes
   pub new : e.state.halted ≡ false → e.last ≡ None → AreNew e.state.system e.state.budget (oracles_of e.nodes) e.nodes
   pub ready : e.state.halted ≡ false → CanGoOn e asked
+
+-- ---- what its player has shown of its last round
+-- the round had this total, or this halt: an evaluation that has not halted has had no halt of a round, and one that has halted after the round did so for want of memory
+abbrev pub HasEndedBy : Option Halt → Result ℕ Halt → Type 0
+HasEndedBy None (Ok total) = Unit {0}
+HasEndedBy None (Err halt) = ⊥
+HasEndedBy (Some halt) (Ok total) = halt ≡ Memory
+HasEndedBy (Some halt) (Err own) = halt ≡ own
+
+-- this was shown of it, where `leaves` says what a round leaves with a total or halt
+abbrev pub HasShown : {T : Type 0} → (Result ℕ Halt → T → Type 0) → Option Halt → Option T → Type 0
+HasShown {T} leaves halt shown = (trail : T) × (shown ≡ Some trail) × (total : Result ℕ Halt) × leaves total trail × HasEndedBy halt total

@@ -10,6 +10,7 @@ ghost use Rattle.mcs_node.specs.Nodes.{IsNodeData, NodeData};
 ghost use Rattle.mcs_mesh.specs.Players.{known_to};
 ghost use Rattle.mcs_mesh.specs.Rounds.{AreDone, AreKnown};
 
+use crate::nodes::NodeList;
 use crate::tables::{changed_tables, minimal_tables};
 use mcs_base::{Marks, Memory, Pair, Vars};
 use mcs_import::Plan;
@@ -51,7 +52,9 @@ pub fn states_of<O: Oracle>(
     ensures { IfOk result (λ states. AreStates plan.now pair states.items) }
 {
     look_at_each(nodes);
-    changed_states(alloc, plan, nodes, pair)
+    let own = changed_tables(alloc, plan, nodes, pair)?;
+    let states = states_in(alloc, plan, own, pair)?;
+    Ok(states)
 }
 
 /// The level at which all is known of the contexts of nodes that are done in one round: that of the round, or the least
@@ -77,35 +80,35 @@ fn look_at_each<O: Oracle>(nodes: &[Node<O>])
 
 /// The equilibria of the plan's system that the pair changes, once all questions of a level were asked that is no less
 /// than the number of the pair's marks.
-pub(crate) fn changed_states<O: Oracle>(
+pub(crate) fn changed_states<N: NodeList>(
     alloc: Global,
     plan: &Plan,
-    nodes: &[Node<O>],
+    nodes: &N,
     pair: Pair,
 ) -> Result<Vec<Vars>, Memory>
-    requires one_each { length nodes.now ≡ length plan.now.contexts }
-    requires known { (k : ℕ) × (size pair ≤ k) × AreKnown plan.now k (known_to nodes.now) }
+    requires one_each { length (N.seen nodes.now) ≡ length plan.now.contexts }
+    requires known { (k : ℕ) × (size pair ≤ k) × AreKnown plan.now k (known_to (N.seen nodes.now)) }
     requires allowed { Within pair (allowed_marks plan.now) }
     ensures { IfOk result (λ states. AreStates plan.now pair states.items) }
 {
-    let own = changed_tables(alloc, plan, nodes, pair)?;
+    let own = nodes.changed_tables(alloc, plan, pair)?;
     let states = states_in(alloc, plan, own, pair)?;
     Ok(states)
 }
 
 /// The first of these equilibria; `None` exactly where there is none.
-pub(crate) fn changed_first<O: Oracle>(
+pub(crate) fn changed_first<N: NodeList>(
     alloc: Global,
     plan: &Plan,
-    nodes: &[Node<O>],
+    nodes: &N,
     pair: Pair,
 ) -> Result<Option<Vars>, Memory>
-    requires one_each { length nodes.now ≡ length plan.now.contexts }
-    requires known { (k : ℕ) × (size pair ≤ k) × AreKnown plan.now k (known_to nodes.now) }
+    requires one_each { length (N.seen nodes.now) ≡ length plan.now.contexts }
+    requires known { (k : ℕ) × (size pair ≤ k) × AreKnown plan.now k (known_to (N.seen nodes.now)) }
     requires allowed { Within pair (allowed_marks plan.now) }
     ensures { IfOk result (TellsFirst (IsStateOf plan.now pair)) }
 {
-    let own = changed_tables(alloc, plan, nodes, pair)?;
+    let own = nodes.changed_tables(alloc, plan, pair)?;
     let first = first_state_in(alloc, plan, own, pair)?;
     Ok(first)
 }

@@ -3,37 +3,39 @@
 ghost use Rattle.std.specs.Prelude.{◌≡◌, ◌<◌, ℕ, false, Some, None, IfOk, IfErr, OnOk, map, length};
 ghost use Rattle.mcs_states.specs.Evaluators.{KeepsRest, HasDone, HasHalted};
 ghost use Rattle.std.specs.Arc.{arc_value};
-ghost use Rattle.mcs_mesh.specs.Rounds.{evaluator_state_of, AreFresh};
+ghost use Rattle.mcs_mesh.specs.Players.{oracles_of};
+ghost use Rattle.mcs_mesh.specs.Rounds.{evaluator_state_of, AreFresh, AreNew, HasShown};
 
 use crate::answering::{changed_first, changed_states};
 use crate::found::{Found, is_reached};
 use crate::lasting::is_all_done;
-use crate::making::{nodes_of, oracles_in};
+use crate::nodes::NodeList;
 use crate::player::{Played, Player, Round};
 use mcs_base::{Marks, Memory, Pair, Vars};
 use mcs_import::Plan;
-use mcs_node::{Asker, Node};
-use mcs_states::{Evaluator, Halt, Oracle};
+use mcs_states::{Evaluator, Halt};
 use std::alloc::Global;
 use std::marker::Model;
 use std::mem;
 use std::sync::Arc;
 
-/// Evaluates a system: a player plays rounds over the nodes of its contexts, in which an asker asks their oracles the
+/// Evaluates a system: a player plays rounds over the nodes of its contexts, in which their oracles are asked the
 /// questions of a level, and for what is asked of it the evaluation makes rows of each and joins these in one final step.
 ///
-/// It is seen as its evaluator, the level of the last round that was played, if one was, and its nodes.
+/// It is seen as its evaluator, the number of workers, the level of the last round that was played, if one was, and its
+/// nodes.
 #[derive(Drop)]
-pub struct Evaluation<A: Asker + Drop, P: Player + Drop> {
+pub struct Evaluation<P: Player + Drop> {
     plan: Arc<Plan>,
-    pub(crate) asker: A,
-    player: P,
-    pub(crate) nodes: Vec<Node<A::Of>>,
+    pub(crate) player: P,
+    pub(crate) nodes: P::Over,
     budget: u64,
     // The greatest level done. It may be above that of the last round, and has then the same questions and rows.
     done: Option<u32>,
     // The level of the last round that was played, if one was.
     pub(crate) level: Option<u32>,
+    // What the player has shown of that round.
+    pub(crate) trail: Option<P::Trail>,
     // The number of the questions of the greatest level done.
     asked: u64,
     halt: Option<Halt>,
@@ -42,50 +44,56 @@ pub struct Evaluation<A: Asker + Drop, P: Player + Drop> {
     found: Found,
 }
 
-impl<A: Asker + Drop, P: Player + Drop> Model for Evaluation<A, P> {
+impl<P: Player + Drop> Model for Evaluation<P> {
     ghost use Rattle.std.specs.Prelude.{◌≡◌, ℕ, Some};
     ghost use Rattle.std.specs.Arc.{arc_value};
-    ghost use Rattle.mcs_mesh.specs.Rounds.{EvaluationData, IsEvaluation, coded_evaluation, evaluation_of};
+    ghost use Rattle.mcs_mesh.specs.Rounds.{EvaluationData, IsEvaluation, HasShown, coded_evaluation, evaluation_of};
     ghost use Rattle.mcs_mesh.specs.Found.{AreRepairsFound};
 
     ghost Value = { EvaluationData };
 
     ghost coded = { coded_evaluation };
 
-    ghost view = { λ l. evaluation_of (arc_value l.plan) l.budget l.done l.halt l.replayed l.level l.nodes.items };
+    ghost view = { λ l. evaluation_of (P.workers l.player) (arc_value l.plan) l.budget l.done l.halt l.replayed l.level (P.Over.seen l.nodes) };
 
-    ghost invariant = { λ l. IsEvaluation (evaluation_of (arc_value l.plan) l.budget l.done l.halt l.replayed l.level l.nodes.items) l.asked
+    ghost invariant = { λ l. IsEvaluation (evaluation_of (P.workers l.player) (arc_value l.plan) l.budget l.done l.halt l.replayed l.level (P.Over.seen l.nodes)) l.asked
         × AreRepairsFound (arc_value l.plan) l.found.level l.found.pairs.items
         × P.can_play l.player
-        × ((level : ℕ) → l.level ≡ Some level → P.leaves l.player (arc_value l.plan) level l.budget l.nodes.items) };
+        × ((level : ℕ) → l.level ≡ Some level → HasShown (P.leaves (P.workers l.player) (arc_value l.plan) level l.budget (P.Over.seen l.nodes)) l.halt l.trail) };
 }
 
-impl<A: Asker + Drop, P: Player + Drop> Evaluation<A, P> {
-    /// An evaluator of the plan's system within a budget of questions, with one oracle for each context, in order, of
-    /// which none was asked. The player plays its rounds, and the asker asks the questions.
+/// What an evaluation leaves: its nodes, and what its player has shown of its last round.
+#[derive(Drop)]
+pub struct Parts<N, T> {
+    pub nodes: N,
+    pub trail: Option<T>,
+}
+
+impl<P: Player + Drop> Evaluation<P> {
+    /// An evaluator of the plan's system within a budget of questions, over new nodes, one for each context, in order,
+    /// of which none was asked. The player plays its rounds.
     pub fn played_by(
         alloc: Global,
         plan: Arc<Plan>,
-        oracles: Vec<A::Of>,
+        nodes: P::Over,
         budget: u64,
-        asker: A,
         player: P,
-    ) -> Result<Evaluation<A, P>, Memory>
-        requires one_each { length oracles.items ≡ length (arc_value plan).contexts }
-        requires own { AreFresh (arc_value plan) (map A.Of.stands oracles.items) }
+    ) -> Evaluation<P>
+        requires new { AreNew (arc_value plan) budget (oracles_of (P.Over.seen nodes)) (P.Over.seen nodes) }
+        requires own { AreFresh (arc_value plan) (oracles_of (P.Over.seen nodes)) }
         requires can { P.can_play player }
-        ensures state { IfOk result (λ evaluation. evaluation.state ≡ evaluator_state_of (arc_value plan) budget None None (map A.Of.stands oracles.items)) }
-        ensures none { IfOk result (λ evaluation. evaluation.last ≡ None) }
+        ensures state { result.state ≡ evaluator_state_of (arc_value plan) budget None None (oracles_of (P.Over.seen nodes)) }
+        ensures none { result.last ≡ None }
+        ensures workers { result.workers ≡ P.workers player }
     {
-        let nodes = nodes_of(alloc, &plan, budget, oracles)?;
-        Ok(Evaluation {
+        Evaluation {
             plan,
-            asker,
             player,
             nodes,
             budget,
             done: None,
             level: None,
+            trail: None,
             asked: 0,
             halt: None,
             replayed: false,
@@ -93,7 +101,7 @@ impl<A: Asker + Drop, P: Player + Drop> Evaluation<A, P> {
                 level: None,
                 pairs: Vec::new(alloc),
             },
-        })
+        }
     }
 
     /// Does the round of the level, unless it, or that of a greater one, was done, or it has no other questions and
@@ -130,10 +138,15 @@ impl<A: Asker + Drop, P: Player + Drop> Evaluation<A, P> {
             level,
             budget: self.budget,
             asked: self.asked,
-            nodes: mem::replace(&mut self.nodes, Vec::new(alloc)),
+            nodes: mem::replace(&mut self.nodes, P::Over::none(alloc)),
         };
-        let Played { nodes, total } = self.player.play(alloc, round, &self.asker);
+        let Played {
+            nodes,
+            total,
+            trail,
+        } = self.player.play(alloc, round);
         self.nodes = nodes;
+        self.trail = Some(trail);
         self.level = Some(level);
         match total {
             Ok(total) => {
@@ -145,17 +158,25 @@ impl<A: Asker + Drop, P: Player + Drop> Evaluation<A, P> {
         }
     }
 
+    /// The nodes, back, and what the player has shown of the last round, if one was played.
+    pub fn into_parts(self) -> Parts<P::Over, P::Trail>
+        ensures nodes { P.Over.seen result.nodes ≡ self.nodes }
+        ensures shown { (level : ℕ) → self.last ≡ Some level → HasShown (P.leaves self.workers self.state.system level self.state.budget self.nodes) self.state.halt result.trail }
+    {
+        let Evaluation { nodes, trail, .. } = self;
+        Parts { nodes, trail }
+    }
+
     /// The oracles, back, one for each context, in order.
-    pub fn into_oracles(self) -> Result<Vec<A::Of>, Memory>
-        ensures { IfOk result (λ oracles. map A.Of.stands oracles.items ≡ self.state.oracles) }
+    pub fn into_oracles(self) -> Result<Vec<<P::Over as NodeList>::Of>, Memory>
+        ensures { IfOk result (λ oracles. map P.Over.Of.stands oracles.items ≡ self.state.oracles) }
     {
         let Evaluation { nodes, .. } = self;
-        let alloc = *nodes.allocator();
-        oracles_in(alloc, nodes)
+        nodes.into_oracles()
     }
 }
 
-impl<A: Asker + Drop, P: Player + Drop> Evaluator for Evaluation<A, P> {
+impl<P: Player + Drop> Evaluator for Evaluation<P> {
     ghost stands = { λ e. e.state };
 
     fn repairs(&mut self, alloc: Global, level: u32) -> Result<Vec<Marks>, Halt> {

@@ -10,12 +10,10 @@ ghost use Rattle.mcs_mesh.specs.Players.{known_to};
 ghost use Rattle.mcs_mesh.specs.Rounds.{AreKnown};
 
 use crate::lasting::level_ahead;
-use crate::tables::minimal_tables;
+use crate::nodes::NodeList;
 use mcs_base::{Marks, Memory};
 use mcs_import::Plan;
 use mcs_joint::repairs_in;
-use mcs_node::Node;
-use mcs_states::Oracle;
 use std::alloc::Global;
 
 /// So many of the minimal diagnoses that are known are looked for at most in the marks of each row.
@@ -42,17 +40,17 @@ pub(crate) fn is_reached(done: Option<u32>, level: u32) -> bool
 impl Found {
     /// The minimal diagnoses with at most so many marks, in the order of pairs: those that were found before, where
     /// these are all. All questions of the level `done`, which is no less, were asked.
-    pub(crate) fn repairs<O: Oracle>(
+    pub(crate) fn repairs<N: NodeList>(
         &mut self,
         alloc: Global,
         plan: &Plan,
-        nodes: &[Node<O>],
+        nodes: &N,
         done: u32,
         level: u32,
     ) -> Result<Vec<Marks>, Memory>
         requires before { AreRepairsFound plan.now self.old.level self.old.pairs.items }
-        requires one_each { length nodes.now ≡ length plan.now.contexts }
-        requires known { AreKnown plan.now done (known_to nodes.now) }
+        requires one_each { length (N.seen nodes.now) ≡ length plan.now.contexts }
+        requires known { AreKnown plan.now done (known_to (N.seen nodes.now)) }
         requires within { level ≤ done }
         ensures listing { IfOk result (λ pairs. AreRepairs plan.now level pairs.items) }
         ensures kept { AreRepairsFound plan.now self.new.level self.new.pairs.items }
@@ -66,17 +64,17 @@ impl Found {
 
     /// Finds the minimal diagnoses with at most so many marks, or more of them at once. Those that were found
     /// before have no more, and are not found anew.
-    fn find<O: Oracle>(
+    fn find<N: NodeList>(
         &mut self,
         alloc: Global,
         plan: &Plan,
-        nodes: &[Node<O>],
+        nodes: &N,
         done: u32,
         level: u32,
     ) -> Result<(), Memory>
         requires before { AreRepairsFound plan.now self.old.level self.old.pairs.items }
-        requires one_each { length nodes.now ≡ length plan.now.contexts }
-        requires known { AreKnown plan.now done (known_to nodes.now) }
+        requires one_each { length (N.seen nodes.now) ≡ length plan.now.contexts }
+        requires known { AreKnown plan.now done (known_to (N.seen nodes.now)) }
         requires within { level ≤ done }
         requires lower { (d : ℕ) → self.old.level ≡ Some d → d ≤ level }
         ensures found { OnOk result ((d : ℕ) × (self.new.level ≡ Some d) × (level ≤ d)) }
@@ -84,7 +82,7 @@ impl Found {
     {
         let ahead = level_ahead(plan.system(), level);
         let looked_for = &self.pairs[..self.pairs.len().min(MOST_LOOKED_FOR)];
-        let tables = minimal_tables(alloc, plan, done, nodes, looked_for)?;
+        let tables = nodes.minimal_tables(alloc, plan, done, looked_for)?;
         let pairs = repairs_in(alloc, plan, &tables, ahead, looked_for)?;
         self.pairs = pairs;
         self.level = Some(ahead);

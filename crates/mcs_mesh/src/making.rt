@@ -14,7 +14,7 @@ use std::sync::Arc;
 
 /// A node for each context of the plan's system, within a budget of questions, with these oracles, in order, of which
 /// none was asked.
-pub(crate) fn nodes_of<O: Oracle>(
+pub fn nodes_of<O: Oracle>(
     alloc: Global,
     plan: &Arc<Plan>,
     budget: u64,

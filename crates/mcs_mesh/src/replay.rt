@@ -309,7 +309,9 @@ impl<'a, O: Oracle, G: Gate> Mesh<'a, O, G> {
         ensures rest { KeepsRest self.old.state self.new.state }
     {
         self.replayed = true;
-        let told = replay_events(alloc, level, &mut self.nodes, &self.asker, events)?;
+        let nodes = &mut self.nodes.list;
+        let told = replay_events(alloc, level, nodes, &self.player.asker, events)?;
+        self.trail = Some(());
         self.level = Some(level);
         Ok(told)
     }

@@ -8,30 +8,50 @@ ghost use Rattle.mcs_mesh.specs.Players.{CanBegin, FinishesOn, HasGrantCause, Ha
 ghost use Rattle.mcs_mesh.specs.Rounds.{IsSoundRound};
 
 use crate::letters::deliver_all;
+use crate::nodes::Nodes;
 use crate::player::{Played, Player, Round};
 use mcs_base::Memory;
 use mcs_import::Plan;
-use mcs_node::{Asker, Node};
+use mcs_node::{Asker, InTurn, Node};
+use mcs_ports::Gate;
 use mcs_states::{Halt, Oracle};
 use std::alloc::Global;
 
 /// Plays rounds on one thread: all nodes begin, then each is granted its total in the import order, and the letters that
-/// it puts out are delivered at once, so that a node has every supply when it is granted. It waits for nobody.
+/// it puts out are delivered at once, so that a node has every supply when it is granted. The gate is called before each
+/// question. It waits for nobody.
 ///
 /// Whatever stops a round, the nodes that it leaves make a sound configuration of it.
 #[derive(Drop)]
-pub struct TurnPlayer;
+pub struct TurnPlayer<'a, O, G> {
+    pub(crate) asker: InTurn<'a, O, G>,
+}
 
-impl Player for TurnPlayer {
+impl<'a, O, G> TurnPlayer<'a, O, G> {
+    /// Plays in turn, through the gate.
+    pub fn new(gate: &'a G) -> TurnPlayer<'a, O, G> {
+        TurnPlayer {
+            asker: InTurn::new(gate),
+        }
+    }
+}
+
+impl<'a, O: Oracle, G: Gate> Player for TurnPlayer<'a, O, G> {
+    type Over = Nodes<O>;
+
+    type Trail = ();
+
+    ghost workers = { λ _. 1 };
+
     ghost can_play = { λ _. Unit {0} };
 
-    ghost leaves = { λ _ m level budget nodes. IsSoundRound m level budget nodes };
+    ghost leaves = { λ _ m level budget nodes _ _. IsSoundRound m level budget nodes };
 
-    fn play<A: Asker>(&self, alloc: Global, round: Round<A::Of>, asker: &A) -> Played<A::Of>
+    fn play(&self, alloc: Global, round: Round<Nodes<O>>) -> Played<Nodes<O>, ()>
         requires can { Unit {0} }
-        requires ready { IsReadyRound (arc_value round.plan) round.level round.budget round.asked round.nodes.items }
-        ensures played { IsPlayed (arc_value round.plan) round.level round.budget round.nodes.items result.nodes.items result.total }
-        ensures left { IsSoundRound (arc_value round.plan) round.level round.budget result.nodes.items }
+        requires ready { IsReadyRound (arc_value round.plan) round.level round.budget round.asked round.nodes.list.items }
+        ensures played { IsPlayed (arc_value round.plan) round.level round.budget round.nodes.list.items result.nodes.list.items result.total }
+        ensures left { IsSoundRound (arc_value round.plan) round.level round.budget result.nodes.list.items }
     {
         let Round {
             plan,
@@ -40,9 +60,13 @@ impl Player for TurnPlayer {
             nodes,
             ..
         } = round;
-        let mut nodes = nodes;
-        let total = play_in_turn(alloc, &plan, level, asked, &mut nodes, asker);
-        Played { nodes, total }
+        let Nodes { mut list } = nodes;
+        let total = play_in_turn(alloc, &plan, level, asked, &mut list, &self.asker);
+        Played {
+            nodes: Nodes { list },
+            total,
+            trail: (),
+        }
     }
 }
 
@@ -70,7 +94,7 @@ fn play_in_turn<A: Asker>(
 }
 
 /// Begins the round of the level at each node; want of memory leaves the rest of them as they are.
-fn begin_all<O: Oracle>(alloc: Global, level: u32, nodes: &mut [Node<O>]) -> Result<(), Memory>
+pub fn begin_all<O: Oracle>(alloc: Global, level: u32, nodes: &mut [Node<O>]) -> Result<(), Memory>
     requires { AllByRecursion (CanBegin level) nodes.old }
     ensures begun { OnOk result (nodes.new ≡ map (begun_at level) nodes.old) }
     ensures some { OnErr result (HaveBegunSome level nodes.old nodes.new) }

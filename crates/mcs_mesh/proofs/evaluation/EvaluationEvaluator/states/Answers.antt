@@ -9,10 +9,10 @@ use Rattle.mcs_mesh.proofs.evaluation.EvaluationEvaluator.states.Goals as goal
 
 pub changed_states-requires-clause-known : goal.changed_states-requires-clause-known
 changed_states-requires-clause-known g c =
-    let (k, done, less, each, all) = known_at (arc_value c.self.inside.plan) c.self.inside.budget c.self.inside.done c.self.inside.halt c.self.inside.replayed c.self.inside.level c.self.inside.nodes.items c.self.inside.asked c.self.invariant.0 c.reach.new.self c.self.view_is
+    let (k, done, less, each, all) = known_at (g.P.Player.workers c.self.inside.player) (arc_value c.self.inside.plan) c.self.inside.budget c.self.inside.done c.self.inside.halt c.self.inside.replayed c.self.inside.level (g.P.Over.NodeList.seen c.self.inside.nodes) c.self.inside.asked c.self.invariant.0 c.reach.new.self c.self.view_is
     c.args.self.now.state c.count.result c.in_ok-reach.ensures.done in
     let number : c.count.result ≡ size c.args.pair = c.count.ensures.number ∙ ap size c.marks.ensures in
-    (k, subst (λ (n : ℕ). n ≤ k) number less, rw (c.deref.ensures, c.deref-2.ensures.value) all)
+    (k, subst (λ (n : ℕ). n ≤ k) number less, rw c.deref.ensures all)
 
 pub returns-in-Ok-clause-listing : goal.returns-in-Ok-clause-listing
 returns-in-Ok-clause-listing g c = subst (λ (m : System). AreStates m c.args.pair c.in-Ok.states.items) (c.deref.ensures ∙ ap (λ (e : EvaluationData). e.state.system) c.self.view_is ∙ c.reach.ensures.rest.system) c.in-Ok.ensures
