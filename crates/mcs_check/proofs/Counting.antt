@@ -1,7 +1,7 @@
 -- No level of a system has so many questions.
-use Rattle.std.proofs.Common.{◌≡◌, ℕ, ◌+◌, ◌*◌, ◌^◌, ◌≤◌, arith}
+use Rattle.std.proofs.Common.{ℕ, ◌+◌, arith}
 use Rattle.mcs_system.specs.Faults.{IsValid}
-use Rattle.mcs_system.specs.Levels.{HasQuestions, rule_set_count}
+use Rattle.mcs_system.specs.Levels.{HasQuestions}
 use Rattle.mcs_system.specs.Plain.{System}
 use Rattle.mcs_import.proofs.CountLemmas.{questions_bounded}
 use Rattle.mcs_import.proofs.RuleCounts.{few_sets}

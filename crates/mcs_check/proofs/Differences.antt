@@ -1,62 +1,183 @@
--- The first difference of two lists of lines.
-use Rattle.std.proofs.Common.{◌≡◌, ℕ, ◌+◌, ◌≤◌, true, false, List, [], ◌∷◌, ◌++◌, length, take, slice_get, Some, None, refl, sym, ap, ◌∙◌, arith, append_assoc, true≢false}
-use Rattle.std.proofs.lemmas.List.{length-take-le, take_at}
-use Rattle.std.proofs.lemmas.Slice.Eq.{bytes_eq-Decides}
-use Rattle.std.specs.Option.{option_map_or}
-use Rattle.std.specs.Str.{bytes_eq}
-use Rattle.mcs_base.proofs.Lists.{slice_get-append_right}
-use Rattle.mcs_proof_lines.specs.Walks.{At, head_line, is_next, advanced, advanced_by}
+-- The first difference of two texts is in the first line that differs.
+use Rattle.std.proofs.Common.{◌≡◌, ℕ, ◌+◌, ◌≤◌, zero, suc, Bool, true, false, cond, nat_eq, List, [], ◌∷◌, ◌++◌, length, take, drop, slice_get, Some, None, refl, sym, ap, ◌∙◌, subst, arith, append_assoc, length-drop, ◌<◌}
+use Rattle.std.proofs.Math.Seq.{take-add}
+use Rattle.std.proofs.lemmas.Bool.Decides.{nat_tests}
+use Rattle.std.proofs.lemmas.List.{append-nil, take-append-drop, drop-drop, take_all}
+use Rattle.mcs_base.proofs.Sums.{count_by-cons}
+use Rattle.mcs_spelling.specs.Lines.{is_empty, line_onto, complete_lines, incomplete}
 use Rattle.mcs_check.specs.Validity.{DifferFirst}
+use Rattle.mcs_check.specs.Collected.{PartFrom, feeds, common, met}
 
-first_of : (rest : List (List ℕ)) → slice_get rest 0 ≡ head_line rest
-first_of [] = refl
-first_of (line ∷ rest) = refl
+-- the first k lines are the same, and the next ones differ
+abbrev Differ : ℕ → List (List ℕ) → List (List ℕ) → Type 0
+Differ k ls ms = (take k ls ≡ take k ms) × ¬ (slice_get ls k ≡ slice_get ms k)
 
--- the next of the other lines is not that of these
-pub differ_at : (lines due rest : List (List ℕ)) (k : ℕ) → k ≤ length lines → due ≡ take k lines ++ rest → ¬ (slice_get lines k ≡ head_line rest) → DifferFirst lines due (k + 1)
-differ_at lines due rest k within is differ = record {
-  index = k;
-  line_is = refl;
-  same = sym (ap (take k) is ∙ take_at (take k lines) rest k long);
-  differ = λ same. differ (same ∙ there);
-}
+-- ---- the first line of whole lines
+abbrev begun : Bool → ℕ → List ℕ → List ℕ
+begun true b line = []
+begun false b line = b ∷ line
+
+pub record HasFirst (v : Bool) (b : ℕ) (lines : List (List ℕ)) : Type 0 where
+  pub line : List ℕ
+  pub later : List (List ℕ)
+  pub is : lines ≡ begun v b line ∷ later
+
+first_of : (b : ℕ) (bytes : List ℕ) → incomplete (b ∷ bytes) ≡ [] → HasFirst (nat_eq b 10) b (complete_lines (b ∷ bytes))
+first_of b bytes none = by (nat_eq b 10) (complete_lines bytes) none
   where
-    long : length (take k lines) ≡ k
-    long = length-take-le k lines within
+    by : (v : Bool) (ls : List (List ℕ)) → cond v (incomplete bytes) (cond (is_empty ls) (b ∷ bytes) (incomplete bytes)) ≡ [] → HasFirst v b (cond v ([] ∷ ls) (line_onto b ls))
+    by true ls none = record { line = []; later = ls; is = refl }
+    by false [] none = absurd (cc)
+    by false (l ∷ ls) none = record { line = l; later = ls; is = refl }
 
-    there : slice_get due k ≡ head_line rest
-    there =
-        let e : k ≡ length (take k lines) + 0 = omega (arith, long) in
-        ap (λ (ls : List (List ℕ)). slice_get ls k) is ∙ ap (slice_get (take k lines ++ rest)) e ∙ slice_get-append_right (take k lines) rest 0 ∙ first_of rest
+first_get : (v : Bool) (b : ℕ) (lines : List (List ℕ)) (h : HasFirst v b lines) → slice_get lines 0 ≡ Some (begun v b h.line)
+first_get v b lines h = ap (λ (ls : List (List ℕ)). slice_get ls 0) h.is
 
--- ---- the line that is next
-module _ (line : List ℕ) where
-  next_other : (rest : List (List ℕ)) → option_map_or (λ next. bytes_eq next line) (head_line rest) false ≡ false → ¬ (Some line ≡ head_line rest)
-  next_other [] e same = cc
-  next_other (next ∷ rest) e same = let here : line ≡ next = cc in true≢false (sym ((bytes_eq-Decides next line).1 (sym here)) ∙ e)
+-- lines that begin alike have the same first byte
+same_begun : (x y : ℕ) (l m : List ℕ) (u v : Bool) → nat_eq x 10 ≡ u → nat_eq y 10 ≡ v → begun u x l ≡ begun v y m → x ≡ y
+same_begun x y l m true true e e' same = grind (arith, nat_tests)
+same_begun x y l m true false e e' same = absurd (cc)
+same_begun x y l m false true e e' same = absurd (cc)
+same_begun x y l m false false e e' same = cc
 
-  pub not_next : (at : At) → is_next line at ≡ false → ¬ (Some line ≡ head_line at.rest)
-  not_next at e = next_other at.rest e
+-- the texts part at once
+part_now : (xs ys : List ℕ) → PartFrom xs ys → ¬ ((xs ≡ []) × (ys ≡ [])) → incomplete xs ≡ [] → incomplete ys ≡ [] → ¬ (slice_get (complete_lines xs) 0 ≡ slice_get (complete_lines ys) 0)
+part_now [] [] part some none none' same = some (refl, refl)
+part_now [] (y ∷ ys) part some none none' same = (let h = first_of y ys none' in let wrong : None ≡ Some (begun (nat_eq y 10) y h.line) = same ∙ first_get (nat_eq y 10) y (complete_lines (y ∷ ys)) h in cc)
+part_now (x ∷ xs) [] part some none none' same = (let h = first_of x xs none in let wrong : None ≡ Some (begun (nat_eq x 10) x h.line) = sym same ∙ first_get (nat_eq x 10) x (complete_lines (x ∷ xs)) h in cc)
+part_now (x ∷ xs) (y ∷ ys) part some none none' same =
+    let h = first_of x xs none in
+    let h' = first_of y ys none' in
+    let alike : Some (begun (nat_eq x 10) x h.line) ≡ Some (begun (nat_eq y 10) y h'.line) =
+    sym (first_get (nat_eq x 10) x (complete_lines (x ∷ xs)) h) ∙ same ∙ first_get (nat_eq y 10) y (complete_lines (y ∷ ys)) h' in
+    let lines : begun (nat_eq x 10) x h.line ≡ begun (nat_eq y 10) y h'.line = cc in
+    part (same_begun x y h.line h'.line (nat_eq x 10) (nat_eq y 10) refl refl lines)
 
-  Taken : At → ℕ → List (List ℕ) → List ℕ → Type 0
-  Taken now n rest tail = (later : List (List ℕ)) × (rest ≡ line ∷ later) × (now ≡ record { taken = n + 1; rest = later; tail = tail })
+-- ---- a byte before both
+onto : (b k : ℕ) (l m : List ℕ) (ls ms : List (List ℕ)) → Differ k (l ∷ ls) (m ∷ ms) → Differ k ((b ∷ l) ∷ ls) ((b ∷ m) ∷ ms)
+onto b zero l m ls ms d = (refl, λ same. d.1 (let lines : b ∷ l ≡ b ∷ m = cc in let rest : l ≡ m = cc in ap (λ (line : List ℕ). Some line) rest))
+onto b (suc k) l m ls ms d = (let same : l ∷ take k ls ≡ m ∷ take k ms = d.0 in let first : l ≡ m = cc in let later : take k ls ≡ take k ms = cc in cc, d.1)
 
-  next_taken : (n : ℕ) (rest : List (List ℕ)) (tail : List ℕ) → option_map_or (λ next. bytes_eq next line) (head_line rest) false ≡ true → Taken (advanced_by n rest tail) n rest tail
-  unfolding Taken
-  next_taken n [] tail e = absurd (true≢false (sym e))
-  next_taken n (next ∷ later) tail e = (later, ap (λ (l : List ℕ). l ∷ later) ((bytes_eq-Decides next line).0 e), refl)
+module _ (b : ℕ) (xs ys : List ℕ) (n : ℕ) (again : incomplete xs ≡ [] → incomplete ys ≡ [] → Differ n (complete_lines xs) (complete_lines ys)) where
+  by_byte : (v : Bool) → (ls ms : List (List ℕ)) → complete_lines xs ≡ ls → complete_lines ys ≡ ms
+      → cond v (incomplete xs) (cond (is_empty ls) (b ∷ xs) (incomplete xs)) ≡ [] → cond v (incomplete ys) (cond (is_empty ms) (b ∷ ys) (incomplete ys)) ≡ []
+      → Differ (cond v 1 0 + n) (cond v ([] ∷ ls) (line_onto b ls)) (cond v ([] ∷ ms) (line_onto b ms))
+  by_byte true ls ms is is' none none' =
+      let d : Differ n ls ms = subst (λ (k : List (List ℕ)). Differ n ls k) is' (subst (λ (k : List (List ℕ)). Differ n k (complete_lines ys)) is (again none none')) in
+      let e : 1 + n ≡ suc n = omega arith in
+      subst (λ (k : ℕ). Differ k ([] ∷ ls) ([] ∷ ms)) (sym e) (ap (λ (k : List (List ℕ)). [] ∷ k) d.0, d.1)
+  by_byte false [] ms is is' none none' = absurd (cc)
+  by_byte false (l ∷ ls) [] is is' none none' = absurd (cc)
+  by_byte false (l ∷ ls) (m ∷ ms) is is' none none' =
+      let d : Differ n (l ∷ ls) (m ∷ ms) = subst (λ (k : List (List ℕ)). Differ n (l ∷ ls) k) is' (subst (λ (k : List (List ℕ)). Differ n k (complete_lines ys)) is (again none none')) in
+      let e : 0 + n ≡ n = omega arith in
+      subst (λ (k : ℕ). Differ k ((b ∷ l) ∷ ls) ((b ∷ m) ∷ ms)) (sym e) (onto b n l m ls ms d)
 
-  -- one line more is the same
-  pub same_more : (lines due : List (List ℕ)) (k : ℕ) (at now : At) → take (k + 1) lines ≡ take k lines ++ line ∷ [] → now ≡ advanced at → at.taken ≡ k → due ≡ take k lines ++ at.rest → is_next line at ≡ true
-      → (now.taken ≡ k + 1) × (due ≡ take (k + 1) lines ++ now.rest)
-  unfolding Taken advanced
-  same_more lines due k at now more moved count is e =
-      let (later, first, then) = next_taken at.taken at.rest at.tail e in (
-        ap (λ (a : At). a.taken) (moved ∙ then) ∙ ap (λ (n : ℕ). n + 1) count,
-        is ∙ ap (λ (ls : List (List ℕ)). take k lines ++ ls) first ∙ sym (append_assoc (take k lines) (line ∷ []) later)
-            ∙ ap (λ (ls : List (List ℕ)). ls ++ later) (sym more) ∙ ap (λ (a : At). take (k + 1) lines ++ a.rest) (sym (moved ∙ then)),
-      )
+differ_after : (front xs ys : List ℕ) → PartFrom xs ys → ¬ ((xs ≡ []) × (ys ≡ [])) → incomplete (front ++ xs) ≡ [] → incomplete (front ++ ys) ≡ []
+    → Differ (feeds front) (complete_lines (front ++ xs)) (complete_lines (front ++ ys))
+differ_after [] xs ys part some none none' = (refl, part_now xs ys part some none none')
+differ_after (b ∷ front) xs ys part some none none' =
+    subst (λ (k : ℕ). Differ k (complete_lines (b ∷ (front ++ xs))) (complete_lines (b ∷ (front ++ ys)))) (sym (count_by-cons (λ c. nat_eq c 10) b front))
+    (by_byte b (front ++ xs) (front ++ ys) (feeds front) (λ e e'. differ_after front xs ys part some e e') (nat_eq b 10) (complete_lines (front ++ xs)) (complete_lines (front ++ ys)) refl refl none none')
 
--- ---- at the end of these lines
-pub some_more : (lines rest : List (List ℕ)) (k : ℕ) (line : List ℕ) → slice_get lines k ≡ None → Some line ≡ head_line rest → ¬ (slice_get lines k ≡ head_line rest)
-some_more lines rest k line past e same = (let wrong : None ≡ Some line = sym past ∙ same ∙ sym e in cc)
+-- two texts that go on in different ways after the same bytes
+pub differ_first : (front xs ys told text : List ℕ) → told ≡ front ++ xs → text ≡ front ++ ys → PartFrom xs ys → ¬ ((xs ≡ []) × (ys ≡ [])) → incomplete told ≡ [] → incomplete text ≡ []
+    → DifferFirst (complete_lines told) (complete_lines text) (feeds front + 1)
+differ_first front xs ys told text is is' part some none none' =
+    let d = differ_after front xs ys part some (ap incomplete (sym is) ∙ none) (ap incomplete (sym is') ∙ none') in
+    let k = feeds front in
+    let at_told : complete_lines told ≡ complete_lines (front ++ xs) = ap complete_lines is in
+    let at_text : complete_lines text ≡ complete_lines (front ++ ys) = ap complete_lines is' in
+    record {
+      index = k;
+      line_is = refl;
+      same = ap (take k) at_told ∙ d.0 ∙ sym (ap (take k) at_text);
+      differ = λ same. d.1 (sym (ap (λ (ls : List (List ℕ)). slice_get ls k) at_told) ∙ same ∙ ap (λ (ls : List (List ℕ)). slice_get ls k) at_text);
+    }
+
+-- ---- the bytes that two texts have in common
+common_front : (xs ys : List ℕ) → take (common xs ys) xs ≡ take (common xs ys) ys
+common_front [] [] = refl
+common_front [] (y ∷ ys) = refl
+common_front (x ∷ xs) [] = refl
+common_front (x ∷ xs) (y ∷ ys) = by (nat_eq x y) refl (common_front xs ys)
+  where
+    by : (v : Bool) → nat_eq x y ≡ v → take (common xs ys) xs ≡ take (common xs ys) ys → take (cond v (common xs ys + 1) 0) (x ∷ xs) ≡ take (cond v (common xs ys + 1) 0) (y ∷ ys)
+    by false e again = refl
+    by true e again =
+        let same : x ≡ y = grind (arith, nat_tests) in
+        let n : common xs ys + 1 ≡ suc (common xs ys) = omega arith in
+        subst (λ (k : ℕ). take k (x ∷ xs) ≡ take k (y ∷ ys)) (sym n) (cc)
+
+pub common_none : (xs : List ℕ) → common xs [] ≡ 0
+common_none [] = refl
+common_none (x ∷ xs) = refl
+
+common_part : (xs ys : List ℕ) → PartFrom (drop (common xs ys) xs) (drop (common xs ys) ys)
+common_part [] [] = tt
+common_part [] (y ∷ ys) = tt
+common_part (x ∷ xs) [] = tt
+common_part (x ∷ xs) (y ∷ ys) = by (nat_eq x y) refl (common_part xs ys)
+  where
+    by : (v : Bool) → nat_eq x y ≡ v → PartFrom (drop (common xs ys) xs) (drop (common xs ys) ys) → PartFrom (drop (cond v (common xs ys + 1) 0) (x ∷ xs)) (drop (cond v (common xs ys + 1) 0) (y ∷ ys))
+    by false e again = λ same. (let is : nat_eq x y ≡ true = grind (arith, nat_tests) in let wrong : ◌≡◌ {A = Bool} true false = sym is ∙ e in cc)
+    by true e again =
+        let n : common xs ys + 1 ≡ suc (common xs ys) = omega arith in
+        subst (λ (k : ℕ). PartFrom (drop k (x ∷ xs)) (drop k (y ∷ ys))) (sym n) again
+
+-- ---- what a sink holds after a piece
+pub text_more : (expected : List ℕ) (same : ℕ) (other bytes : List ℕ) → let n = met (drop same expected) other bytes in (take same expected ++ other) ++ bytes ≡ take (same + n) expected ++ (other ++ drop n bytes)
+text_more expected same [] bytes =
+    let n = common (drop same expected) bytes in
+    ap (λ (xs : List ℕ). xs ++ bytes) (append-nil (take same expected))
+    ∙ ap (λ (xs : List ℕ). take same expected ++ xs) (sym (take-append-drop n bytes))
+    ∙ sym (append_assoc (take same expected) (take n bytes) (drop n bytes))
+    ∙ ap (λ (xs : List ℕ). (take same expected ++ xs) ++ drop n bytes) (sym (common_front (drop same expected) bytes))
+    ∙ ap (λ (xs : List ℕ). xs ++ drop n bytes) (sym (take-add same n expected))
+text_more expected same (y ∷ ys) bytes =
+    let e : same + 0 ≡ same = omega arith in
+    append_assoc (take same expected) (y ∷ ys) bytes ∙ ap (λ (k : ℕ). take k expected ++ ((y ∷ ys) ++ bytes)) (sym e)
+
+-- ---- a text, and one in two pieces
+part_more : (xs ys zs : List ℕ) → ¬ (ys ≡ []) → PartFrom xs ys → PartFrom xs (ys ++ zs)
+part_more xs [] zs some part = absurd (some refl)
+part_more [] (y ∷ ys) zs some part = part
+part_more (x ∷ xs) (y ∷ ys) zs some part = part
+
+module _ (text front rest : List ℕ) (none : incomplete text ≡ []) (none' : incomplete (front ++ rest) ≡ []) where
+  -- they part within the first piece
+  pub differ_early : let n = common text front in n < length front → DifferFirst (complete_lines text) (complete_lines (front ++ rest)) (feeds (take n text) + 1)
+  differ_early less =
+      let n = common text front in
+      let some : ¬ (drop n front ≡ []) = λ e. (let short = ap length e in let long = length-drop n front in omega (arith, less, short, long)) in
+      let is : front ++ rest ≡ take n text ++ (drop n front ++ rest) =
+      ap (λ (xs : List ℕ). xs ++ rest) (sym (take-append-drop n front)) ∙ append_assoc (take n front) (drop n front) rest
+      ∙ ap (λ (xs : List ℕ). xs ++ (drop n front ++ rest)) (sym (common_front text front)) in
+      differ_first (take n text) (drop n text) (drop n front ++ rest) text (front ++ rest) (sym (take-append-drop n text)) is
+      (part_more (drop n text) (drop n front) rest some (common_part text front)) (λ both. some (none_left (drop n front) rest both.1)) none none'
+    where
+      none_left : (xs ys : List ℕ) → xs ++ ys ≡ [] → xs ≡ []
+      none_left [] ys e = refl
+      none_left (x ∷ xs) ys e = absurd (cc)
+
+  pub differ_late : let n = common text front in let k = common (drop n text) rest in length front ≤ n → ¬ ((drop k (drop n text) ≡ []) × (drop k rest ≡ []))
+      → DifferFirst (complete_lines text) (complete_lines (front ++ rest)) (feeds (take (n + k) text) + 1)
+  differ_late all some =
+      let n = common text front in
+      let k = common (drop n text) rest in
+      let begins : take n text ≡ front = common_front text front ∙ take_all n front all in
+      let both : take (n + k) text ≡ front ++ take k rest = take-add n k text ∙ ap (λ (xs : List ℕ). xs ++ take k (drop n text)) begins ∙ ap (λ (xs : List ℕ). front ++ xs) (common_front (drop n text) rest) in
+      let is : text ≡ take (n + k) text ++ drop k (drop n text) = sym (take-append-drop (n + k) text) ∙ ap (λ (xs : List ℕ). take (n + k) text ++ xs) (sym (drop-drop k n text)) in
+      let is' : front ++ rest ≡ take (n + k) text ++ drop k rest =
+      ap (λ (xs : List ℕ). front ++ xs) (sym (take-append-drop k rest)) ∙ sym (append_assoc front (take k rest) (drop k rest)) ∙ ap (λ (xs : List ℕ). xs ++ drop k rest) (sym both) in
+      differ_first (take (n + k) text) (drop k (drop n text)) (drop k rest) text (front ++ rest) is is' (common_part (drop n text) rest) some none none'
+
+-- they are the same
+pub same_pieces : (text front rest : List ℕ) → let n = common text front in let k = common (drop n text) rest in length front ≤ n → n + k ≡ length text → k ≡ length rest → text ≡ front ++ rest
+same_pieces text front rest all end end' =
+    let n = common text front in
+    let k = common (drop n text) rest in
+    let begins : take n text ≡ front = common_front text front ∙ take_all n front all in
+    let long = length-drop n text in
+    sym (take-append-drop n text) ∙ ap (λ (xs : List ℕ). xs ++ drop n text) begins
+    ∙ ap (λ (xs : List ℕ). front ++ xs) (sym (take_all k (drop n text) (omega (arith, end, long))) ∙ common_front (drop n text) rest ∙ take_all k rest (omega (arith, end')))

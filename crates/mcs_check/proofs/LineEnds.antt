@@ -43,7 +43,13 @@ end_line_fed equilibria diagnoses explanations need =
     fed_after (codes "end: ") _ (fed_after (decimal equilibria) _ (fed_after (codes " equilibria, ") _ (fed_after (decimal diagnoses) _ (fed_after (codes " diagnoses, ") _
     (fed_after (decimal explanations) _ (fed_after (codes " explanations, need ") _ (fed_after (decimal need) (codes "\n") ([], refl))))))))
 
-pub listing_lines : (m : System) (text : List ℕ) → IsWholeListing m text → text_of_lines (complete_lines text) ≡ text
-listing_lines m text w = fed_lines text (
+listing_fed : (m : System) (text : List ℕ) → IsWholeListing m text → EndsFed text
+listing_fed m text w =
     let (front, e) = fed_after (listing_front m w.states w.diagnoses) _ (fed_after (explanation_lines m 1 (pairs_of w.diagnoses) w.explanations) _ (end_line_fed _ _ _ _)) in
-    (front, w.text_is ∙ e))
+    (front, w.text_is ∙ e)
+
+pub listing_lines : (m : System) (text : List ℕ) → IsWholeListing m text → text_of_lines (complete_lines text) ≡ text
+listing_lines m text w = fed_lines text (listing_fed m text w)
+
+pub listing_whole : (m : System) (text : List ℕ) → IsWholeListing m text → incomplete text ≡ []
+listing_whole m text w = let (front, e) = listing_fed m text w in ap incomplete e ∙ (all_complete front).0

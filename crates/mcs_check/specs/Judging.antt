@@ -3,6 +3,7 @@ use Rattle.std.specs.Prelude.{◌≡◌, ◌↔◌, ℕ, nat_eq, List, [], ◌�
 use Rattle.std.specs.List.{AllByRecursion}
 use Rattle.std.specs.declared.alloc.Global.{Global}
 use Rattle.mcs_base.specs.Listings.{IsAscending}
+use Rattle.mcs_spelling.specs.Lines.{complete_lines}
 use Rattle.mcs_system.specs.Plain.{System}
 use Rattle.mcs_proof_text.specs.Answers.{Answer}
 use Rattle.mcs_proof_text.specs.Proofs.{HasAcceptedCertificate}
@@ -26,7 +27,7 @@ AreJudged m n answers judged = EachIsKept IsAnswerJudged m n answers judged
 
 -- it stands for the report that the bytes spell
 abbrev pub IsJudgedReport : System → List ℕ → reports.KeptReport code.Judged → Type 0
-IsJudgedReport m bytes r = IsKeptReport IsAnswerJudged m bytes (map (λ l. l.items) r.listing.items) r.answers.items r.last_line
+IsJudgedReport m bytes r = IsKeptReport IsAnswerJudged m bytes (complete_lines r.listing.now) r.answers.items r.last_line
 
 -- the first of them that is not right begins at this line
 pub record IsFirstWrong (judged : List code.Judged) (line : ℕ) : Type 0 where

@@ -1,8 +1,9 @@
 //! The check of a report.
 
-ghost use Rattle.std.specs.Prelude.{ℕ, List, map, IfOk};
+ghost use Rattle.std.specs.Prelude.{◌≡◌, ℕ, List, [], IfOk};
 ghost use Rattle.std.specs.Arc.{arc_value};
 ghost use Rattle.mcs_system.specs.Plain as plain;
+ghost use Rattle.mcs_spelling.specs.Lines.{complete_lines, incomplete};
 ghost use Rattle.mcs_report.specs.Solutions.{IsWholeListing};
 ghost use Rattle.mcs_proof_text.specs.Answers.{Answer};
 ghost use Rattle.mcs_proof_text.specs.Reports.{SpellsReport};
@@ -10,9 +11,10 @@ ghost use Rattle.mcs_check.specs.Answers.{AreEnough};
 ghost use Rattle.mcs_check.specs.Findings.{IsReportFinding, RulesOut};
 ghost use Rattle.mcs_check.specs.Judging.{IsJudgedReport};
 
+use crate::collecting::Collecting;
+use crate::difference::first_difference;
 use crate::finding::{Finding, Reason};
 use crate::judging::{Judge, Judged, first_wrong};
-use crate::listing::first_difference;
 use crate::oracles::oracles_of;
 use crate::relisting::listing_by;
 use mcs_base::Memory;
@@ -53,10 +55,11 @@ fn found_in(alloc: Global, system: Arc<System>, bytes: &[u8]) -> Result<Finding,
 fn finding_of(
     alloc: Global,
     system: Arc<System>,
-    report: KeptReport<Judged>,
+    report: KeptReport<'_, Judged>,
 ) -> Result<Finding, Memory>
-    requires { (bytes : List ℕ) × IsJudgedReport (arc_value system) bytes report }
-    ensures { (bytes : List ℕ) → IsJudgedReport (arc_value system) bytes report → IfOk result (IsReportFinding (arc_value system) bytes) }
+    requires judged { (bytes : List ℕ) × IsJudgedReport (arc_value system) bytes report }
+    requires whole { incomplete report.listing.now ≡ [] }
+    ensures { (bytes : List ℕ) → IsJudgedReport (arc_value system) bytes report.entry → IfOk result (IsReportFinding (arc_value system) bytes) }
 {
     if let Some(line) = first_wrong(&report.answers) {
         return Ok(Finding::Fails {
@@ -65,21 +68,24 @@ fn finding_of(
         });
     }
     let oracles = oracles_of(alloc, &system, report.answers)?;
-    let Some(listed) = listing_by(alloc, system, oracles)? else {
+    let Some(listed) = listing_by(alloc, system, oracles, report.listing)? else {
         return Ok(Finding::Fails {
             line: report.last_line,
             reason: Reason::Missing,
         });
     };
-    Ok(compared(&report.listing, listed.bytes()))
+    Ok(compared(report.listing, &listed))
 }
 
-/// The finding on a report with this listing that passes the other tests. `due` is the listing of the system.
-fn compared(listing: &[Vec<u8>], due: &[u8]) -> Finding
-    ensures { (m : plain.System) (bytes : List ℕ) (as' : List Answer) → SpellsReport m bytes (map (λ l. l.items) listing.now) as' → AreEnough m as'
-        → IsWholeListing m due.now → IsReportFinding m bytes result }
+/// The finding on a report with this listing that passes the other tests. `due` has the listing of the system.
+fn compared(listing: &[u8], due: &Collecting<'_>) -> Finding
+    requires listing { incomplete listing.now ≡ [] }
+    requires due { (m : plain.System) × IsWholeListing m due.now.text }
+    ensures { (m : plain.System) (bytes : List ℕ) (as' : List Answer) → SpellsReport m bytes (complete_lines listing.now) as' → AreEnough m as'
+        → IsWholeListing m due.now.text → IsReportFinding m bytes result }
 {
-    match first_difference(listing, due) {
+    let (front, rest) = due.pieces();
+    match first_difference(listing, front, rest) {
         Some(line) => Finding::Fails {
             line,
             reason: Reason::Listing,

@@ -5,10 +5,10 @@
 mod certified;
 mod checking;
 mod collecting;
+mod difference;
 mod finding;
 mod judging;
 mod laws;
-mod listing;
 mod oracles;
 mod relisting;
 

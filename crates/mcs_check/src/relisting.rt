@@ -37,12 +37,13 @@ fn missing(stop: WorkStop) -> Result<(), Memory>
 }
 
 /// The whole listing of the system by the oracles of its contexts, or `None` if one of them lacks an answer that is
-/// needed.
-pub(crate) fn listing_by(
+/// needed. Little memory is needed for it as long as it is as expected.
+pub(crate) fn listing_by<'b>(
     alloc: Global,
     system: Arc<System>,
     oracles: Vec<CertifiedOracle>,
-) -> Result<Option<Collecting>, Memory>
+    expected: &'b [u8],
+) -> Result<Option<Collecting<'b>>, Memory>
     requires valid { IsValid (arc_value system) }
     requires one_each { length oracles.items ≡ length (arc_value system).contexts }
     requires own { AreFresh (arc_value system) oracles.items }
@@ -53,7 +54,7 @@ pub(crate) fn listing_by(
     let plan = Arc::new(alloc, Plan::of(alloc, system.clone()?)?)?;
     let gate = IdleGate;
     let mesh = Mesh::new(alloc, plan, oracles, MOST_QUESTIONS, &gate)?;
-    let mut sink = Collecting::new(alloc);
+    let mut sink = Collecting::new(alloc, expected);
     let (worked, mesh) = work(alloc, mesh, system, Task::Solve, &mut sink);
     drop(mesh);
     match worked {

@@ -18,6 +18,10 @@ const TOLD: &str =
 const TOLD_REPORT: &str =
     "mcs 1: 2 contexts, 1 rules, 1 variables\ninconsistent\ndiagnosis 1: {-r1} state {c1:a} active {}\nexplanation 1: {-r1 by 1}\nend: 0 equilibria, 1 diagnoses, 1 explanations, need 3\nproof\nanswer c1 {}\nstate {c1:a}\nmodel {a}\nstep by 8 6 4 1 5\nnone\nstep by 8 6 4 1 5\ndone\nanswer c2 {}\nstate {}\nmodel {}\nstep by 12 10 9\nnone\nstep by 9 7 6\ndone\nanswer c2 {r1}\nnone\nstep by 10 9 6 4 1 5\ndone\nend of proof\n";
 
+/// Its listing.
+const TOLD_LISTING: &str =
+    "mcs 1: 2 contexts, 1 rules, 1 variables\ninconsistent\ndiagnosis 1: {-r1} state {c1:a} active {}\nexplanation 1: {-r1 by 1}\nend: 0 equilibria, 1 diagnoses, 1 explanations, need 3\n";
+
 /// Whether the answer begins at this line, is to the question of this context and these rules, and puts out the
 /// states of these numbers.
 fn is_answer(
@@ -66,12 +70,12 @@ impl Keep for FirstLines {
     }
 }
 
-/// Whether the lines are kept at which its answers begin.
+/// Whether its listing is kept as bytes, and the lines at which its answers begin.
 fn is_kept(alloc: Global, system: &System) -> bool {
     match read_kept(alloc, system, TOLD_REPORT.as_bytes(), &FirstLines) {
         Ok(report) => {
             let are_lines = report.answers.as_slice() == [7, 14, 21].as_slice();
-            let is_whole = report.listing.len() == 5 && report.last_line == 25;
+            let is_whole = report.listing == TOLD_LISTING.as_bytes() && report.last_line == 25;
             drop(report);
             are_lines && is_whole
         }

@@ -1,12 +1,11 @@
 -- Lines of bytes, split off one by one.
-use Rattle.std.proofs.Common.{◌≡◌, ℕ, ◌+◌, suc, Bool, true, false, cond, nat_eq, List, [], ◌∷◌, length, take, drop, Option, Some, None, refl, sym, ap, ◌∙◌, ◌&&◌, ◌==◌, subst, arith}
-use Rattle.std.specs.Borrow.{Bor}
+use Rattle.std.proofs.Common.{◌≡◌, ℕ, ◌+◌, suc, Bool, true, false, cond, nat_eq, List, [], ◌∷◌, length, take, drop, Some, None, refl, sym, ap, ◌∙◌, ◌&&◌, ◌==◌, subst, arith}
 use Rattle.std.specs.List.{position_from}
 use Rattle.std.proofs.lemmas.Bool.Decides.{nat_tests}
 use Rattle.std.proofs.lemmas.Iterator.Adapters.{position_from-zero}
 use Rattle.std.proofs.lemmas.Option.{same_Some}
 use Rattle.mcs_spelling.specs.Words.{place_of_byte}
-use Rattle.mcs_proof_lines.specs.Walks.{IsLast, remaining_lines}
+use Rattle.mcs_proof_lines.specs.Walks.{At, head_line, advanced_by}
 use Rattle.mcs_spelling.specs.Lines.{line_onto, complete_lines, is_empty, incomplete}
 
 abbrev Found : List ℕ → ℕ → Type 0
@@ -60,24 +59,37 @@ first_line bytes place e =
 pub no_line : (bytes : List ℕ) → place_of_byte 10 bytes ≡ None → (complete_lines bytes ≡ []) × (incomplete bytes ≡ bytes)
 no_line bytes e = none_from 0 bytes (sym (position_from-zero (λ b. nat_eq b 10) bytes) ∙ e)
 
--- where no line is left, what follows is all
-pub all_incomplete : (bytes : List ℕ) → complete_lines bytes ≡ [] → incomplete bytes ≡ bytes
-all_incomplete [] e = refl
-all_incomplete (b ∷ bytes) e = at (nat_eq b 10) refl e
+-- the line that is next
+pub next_is : (bytes : List ℕ) (place : ℕ) → Some place ≡ place_of_byte 10 bytes → head_line (complete_lines bytes) ≡ Some (take place bytes)
+next_is bytes place e = ap head_line (first_line bytes place (sym e)).0
+
+pub none_next : (bytes : List ℕ) → None ≡ place_of_byte 10 bytes → head_line (complete_lines bytes) ≡ None
+none_next bytes e = ap head_line (no_line bytes (sym e)).0
+
+-- one line more is taken
+pub one_taken : (n place : ℕ) (bytes : List ℕ) → Some place ≡ place_of_byte 10 bytes
+    → record { taken = n + 1; rest = complete_lines (drop (place + 1) bytes); tail = incomplete (drop (place + 1) bytes) } ≡ advanced_by n (complete_lines bytes) (incomplete bytes)
+one_taken n place bytes e =
+    let (lines, tail) = first_line bytes place (sym e) in
+    let with_tail : List ℕ → At = λ t. record { taken = n + 1; rest = complete_lines (drop (place + 1) bytes); tail = t } in
+    ap with_tail (sym tail) ∙ ap (λ (ls : List (List ℕ)). advanced_by n ls (incomplete bytes)) (sym lines)
+
+pub none_taken : (n : ℕ) (bytes : List ℕ) → None ≡ place_of_byte 10 bytes
+    → record { taken = n; rest = complete_lines bytes; tail = incomplete bytes } ≡ advanced_by n (complete_lines bytes) (incomplete bytes)
+none_taken n bytes e =
+    let none : complete_lines bytes ≡ [] = (no_line bytes (sym e)).0 in
+    let with_rest : List (List ℕ) → At = λ ls. record { taken = n; rest = ls; tail = incomplete bytes } in
+    ap with_rest none ∙ ap (λ (ls : List (List ℕ)). advanced_by n ls (incomplete bytes)) (sym none)
+
+-- nothing is left where there is no line and nothing follows
+pub at_end : (bytes : List ℕ) → (length bytes == 0) ≡ (is_empty (complete_lines bytes) && is_empty (incomplete bytes))
+at_end [] = refl
+at_end (b ∷ bytes) = some_long ∙ by (nat_eq b 10) (complete_lines bytes)
   where
-    none_onto : (lines : List (List ℕ)) → line_onto b lines ≡ [] → lines ≡ []
-    none_onto [] e = refl
-    none_onto (line ∷ lines) e = absurd (cc)
+    some_long : (length (b ∷ bytes) == 0) ≡ false
+    some_long = grind (arith, nat_tests)
 
-    at : (v : Bool) → nat_eq b 10 ≡ v → cond v ([] ∷ complete_lines bytes) (line_onto b (complete_lines bytes)) ≡ [] → cond v (incomplete bytes) (cond (is_empty (complete_lines bytes)) (b ∷ bytes) (incomplete bytes)) ≡ b ∷ bytes
-    at true v e = absurd (cc)
-    at false v e = ap (λ ls. cond (is_empty ls) (b ∷ bytes) (incomplete bytes)) (none_onto (complete_lines bytes) e)
-
-none_long : (bytes : List ℕ) → (length bytes == 0) ≡ is_empty bytes
-none_long [] = refl
-none_long (b ∷ bytes) = grind (arith, nat_tests)
-
--- nothing is left where no line is next and nothing follows
-pub at_end : (current : Option (Bor (List ℕ))) (later : List ℕ) → current ≡ None → IsLast current later → (length later == 0) ≡ (is_empty (remaining_lines current later) && is_empty (incomplete later))
-at_end None later e last = none_long later ∙ ap is_empty (sym (all_incomplete later last))
-at_end (Some line) later e last = absurd (cc)
+    by : (v : Bool) (ls : List (List ℕ)) → false ≡ (is_empty (cond v ([] ∷ ls) (line_onto b ls)) && is_empty (cond v (incomplete bytes) (cond (is_empty ls) (b ∷ bytes) (incomplete bytes))))
+    by true ls = refl
+    by false [] = refl
+    by false (l ∷ ls) = refl

@@ -2,12 +2,11 @@
 use Rattle.std.specs.Prelude.{◌≡◌, ℕ, zero, suc, ◌+◌, ◌-◌, ◌^◌, nat_eq, nat_lt, nat_le, Bool, true, false, ◌&&◌, cond, List, [], ◌∷◌, ◌++◌, length, take, drop, codes, Option, Some, None, Result, Ok, Err, slice_get}
 use Rattle.std.specs.Option.{option_and_then, option_map_or}
 use Rattle.std.specs.Str.{bytes_eq}
-use Rattle.std.specs.Borrow.{Bor}
 use Rattle.mcs_trace.specs.Traces.{Inference}
 use Rattle.mcs_cnf.specs.Entailments.{Entailment, Yes, No}
 use Rattle.mcs_evidence.specs.Defaults.{Absence, Unsupported, Blocked}
 use Rattle.mcs_spelling.specs.Words.{after_prefix, place_of_byte, number_of_bytes, set_of, step_of, guarded}
-use Rattle.mcs_spelling.specs.Lines.{is_empty, complete_lines}
+use Rattle.mcs_spelling.specs.Lines.{is_empty}
 use Rattle.mcs_proof_lines.specs.declared.fault.ReportFault.{ReportFault}
 use Rattle.mcs_proof_lines.specs.declared.fault.ReportFault.TheVariants as faults
 
@@ -16,20 +15,6 @@ pub record At : Type 0 where
   pub taken : ℕ
   pub rest : List (List ℕ)
   pub tail : List ℕ
-
--- the lines from the one that is next on
-abbrev pub remaining_lines : Option (Bor (List ℕ)) → List ℕ → List (List ℕ)
-remaining_lines None later = []
-remaining_lines (Some line) later = line.now ∷ complete_lines later
-
-abbrev pub line_count : Option (Bor (List ℕ)) → ℕ
-line_count None = 0
-line_count (Some line) = 1
-
--- where no line is next, none is left
-abbrev pub IsLast : Option (Bor (List ℕ)) → List ℕ → Type 0
-IsLast None later = complete_lines later ≡ []
-IsLast (Some line) later = Unit {0}
 
 abbrev pub head_line : List (List ℕ) → Option (List ℕ)
 head_line [] = None

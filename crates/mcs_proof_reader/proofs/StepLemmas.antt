@@ -55,24 +55,35 @@ line_of : (at : At) (line : List ℕ) → next_line at ≡ Some line → listing
 unfolding listing_at advanced
 line_of at line e = line_from at.taken at.rest at.tail line e
 
-module _ {X : Type 0} (f : X → List ℕ) (old new : List X) (y : X) (line : List ℕ) (at now : At) (goal : Reading (List (List ℕ)))
-    (items : new ≡ old ++ y ∷ []) (it : f y ≡ line) (moved : now ≡ advanced at) (next : next_line at ≡ Some line) (known : after_front (map f old) (listing_at at) ≡ goal) where
-  pushed : map f new ≡ map f old ++ line ∷ []
-  pushed = ap (map f) items ∙ (map-append f old (y ∷ []) ∙ ap (λ (l : List ℕ). map f old ++ l ∷ []) it)
-
+module _ (front : List (List ℕ)) (line : List ℕ) (at now : At) (goal : Reading (List (List ℕ))) (moved : now ≡ advanced at) (next : next_line at ≡ Some line) (known : after_front front (listing_at at) ≡ goal) where
   abbrev by : Bool → Reading (List (List ℕ))
-  by b = after_front (map f old) (cond b (Ok (line ∷ [], advanced at)) (listing_at (advanced at) >>= λ others. Ok (line ∷ others.0, others.1)))
+  by b = after_front front (cond b (Ok (line ∷ [], advanced at)) (listing_at (advanced at) >>= λ others. Ok (line ∷ others.0, others.1)))
 
   told : (b : Bool) → ends_listing line ≡ b → goal ≡ by b
-  told b e = sym known ∙ (ap (after_front (map f old)) (line_of at line next) ∙ ap by e)
+  told b e = sym known ∙ (ap (after_front front) (line_of at line next) ∙ ap by e)
 
-  pub listing_pushed : ends_listing line ≡ false → after_front (map f new) (listing_at now) ≡ goal
+  pub listing_pushed : ends_listing line ≡ false → after_front (front ++ line ∷ []) (listing_at now) ≡ goal
   listing_pushed e =
-      ap (λ (xs : List (List ℕ)). after_front xs (listing_at now)) pushed ∙ (ap (λ (a : At). after_front (map f old ++ line ∷ []) (listing_at a)) moved
-      ∙ (pushed_front (map f old) line (listing_at (advanced at)) ∙ sym (told false e)))
+      ap (λ (a : At). after_front (front ++ line ∷ []) (listing_at a)) moved ∙ (pushed_front front line (listing_at (advanced at)) ∙ sym (told false e))
 
-  pub listing_ended : ends_listing line ≡ true → goal ≡ Ok (map f new, now)
-  listing_ended e = told true e ∙ (ap (λ (xs : List (List ℕ)). Ok (xs, advanced at)) (sym pushed) ∙ ap (λ (a : At). (let r : Reading (List (List ℕ)) = Ok (map f new, a) in r)) (sym moved))
+  pub listing_ended : ends_listing line ≡ true → goal ≡ Ok (front ++ line ∷ [], now)
+  listing_ended e = told true e ∙ ap (λ (a : At). (let r : Reading (List (List ℕ)) = Ok (front ++ line ∷ [], a) in r)) (sym moved)
+
+-- ---- lines that are copied
+taken_from : (n : ℕ) (rest : List (List ℕ)) (tail line : List ℕ) → head_line rest ≡ Some line → rest ≡ line ∷ (advanced_by n rest tail).rest
+taken_from n [] tail line e = absurd (cc)
+taken_from n (first ∷ rest) tail line e = ap (λ (l : List ℕ). l ∷ rest) (same_Some first line e)
+
+line_taken : (at : At) (line : List ℕ) → next_line at ≡ Some line → at.rest ≡ line ∷ (advanced at).rest
+unfolding advanced
+line_taken at line e = taken_from at.taken at.rest at.tail line e
+
+pub line_copied : {X : Type 0} (f : X → List ℕ) (old new : List X) (y : X) (line : List ℕ) (at now : At) (goal : List (List ℕ)) → new ≡ old ++ y ∷ [] → f y ≡ line → now ≡ advanced at → next_line at ≡ Some line
+    → map f old ++ at.rest ≡ goal → map f new ++ now.rest ≡ goal
+line_copied f old new y line at now goal items it moved next known =
+    ap (λ ys. map f ys ++ now.rest) items ∙ ap (λ (ls : List (List ℕ)). ls ++ now.rest) (map-append f old (y ∷ []))
+    ∙ append_assoc (map f old) (f y ∷ []) now.rest ∙ ap (λ (l : List ℕ). map f old ++ (l ∷ now.rest)) it ∙ ap (λ (a : At). map f old ++ (line ∷ a.rest)) moved
+    ∙ ap (λ (ls : List (List ℕ)). map f old ++ ls) (sym (line_taken at line next)) ∙ known
 
 no_line_from : (n : ℕ) (rest : List (List ℕ)) (tail : List ℕ) → head_line rest ≡ None → listing_from n rest tail ≡ Err (n + 1)
 no_line_from n [] tail e = refl

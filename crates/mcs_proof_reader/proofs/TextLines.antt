@@ -1,11 +1,15 @@
 -- Bytes as lines, and lines as bytes.
-use Rattle.std.proofs.Common.{◌≡◌, ℕ, Bool, true, false, cond, nat_eq, List, [], ◌∷◌, ◌++◌, refl, sym, ap, ◌∙◌, arith}
+use Rattle.std.proofs.Common.{◌≡◌, ℕ, ◌+◌, ◌-◌, ◌≤◌, Bool, true, false, cond, nat_eq, List, [], ◌∷◌, ◌++◌, length, take, refl, sym, ap, ◌∙◌, subst, arith, append_assoc, length-append}
 use Rattle.std.proofs.lemmas.Bool.{false_from_ne_true}
 use Rattle.std.proofs.lemmas.Bool.Decides.{nat_tests}
+use Rattle.std.proofs.lemmas.List.{take_at}
+use Rattle.std.proofs.lemmas.List.Concat.{flat_map-append}
 use Rattle.std.specs.List.{AllByRecursion}
+use Rattle.mcs_base.proofs.Each.{all_left}
 use Rattle.mcs_spelling.specs.Lines.{is_empty, line_onto, complete_lines, incomplete}
 use Rattle.mcs_proof_text.specs.Lines.{with_feed, text_of_lines}
 use Rattle.mcs_proof_text.specs.Reports.{IsLineFeedFree}
+use Rattle.mcs_proof_reader.specs.Listings.{IsFrontOf}
 
 -- the bytes are those of their lines, and what follows the last line feed
 pub lines_text : (bytes : List ℕ) → bytes ≡ text_of_lines (complete_lines bytes) ++ incomplete bytes
@@ -49,3 +53,34 @@ free_lines (b ∷ bytes) = by (nat_eq b 10) refl (complete_lines bytes) (free_li
     by true e ls free = (tt, free)
     by false e [] free = tt
     by false e (l ∷ ls) free = (((λ feed. (let is : nat_eq b 10 ≡ true = grind (arith, nat_tests) in (let wrong : ◌≡◌ {A = Bool} true false = sym is ∙ e in cc))), free.0), free.1)
+
+-- ---- what precedes the rest of the bytes
+module _ (front : List (List ℕ)) (bytes rest : List ℕ) (h : IsFrontOf front bytes rest) where
+  front_text : bytes ≡ text_of_lines front ++ rest
+  front_text =
+      lines_text bytes ∙ ap (λ (t : List ℕ). text_of_lines (complete_lines bytes) ++ t) h.tail ∙ ap (λ (ls : List (List ℕ)). text_of_lines ls ++ incomplete rest) h.lines
+      ∙ ap (λ (t : List ℕ). t ++ incomplete rest) (flat_map-append with_feed front (complete_lines rest))
+      ∙ append_assoc (text_of_lines front) (text_of_lines (complete_lines rest)) (incomplete rest)
+      ∙ ap (λ (t : List ℕ). text_of_lines front ++ t) (sym (lines_text rest))
+
+  front_long : length bytes ≡ length (text_of_lines front) + length rest
+  front_long = ap length front_text ∙ length-append (text_of_lines front) rest
+
+  pub rest_short : length rest ≤ length bytes
+  rest_short = let long = front_long in omega arith
+
+  front_taken : take (length bytes - length rest) bytes ≡ text_of_lines front
+  front_taken =
+      let long = front_long in
+      let n : length bytes - length rest ≡ length (text_of_lines front) = omega arith in
+      ap (λ (t : List ℕ). take (length bytes - length rest) t) front_text ∙ take_at (text_of_lines front) rest (length bytes - length rest) (sym n)
+
+  front_free : AllByRecursion IsLineFeedFree front
+  front_free = all_left IsLineFeedFree front (complete_lines rest) (subst (AllByRecursion IsLineFeedFree) h.lines (free_lines bytes))
+
+  -- it is these lines, and ends with the last of them
+  pub front_lines : complete_lines (take (length bytes - length rest) bytes) ≡ front
+  front_lines = ap complete_lines front_taken ∙ (text_lines front front_free).0
+
+  pub front_whole : incomplete (take (length bytes - length rest) bytes) ≡ []
+  front_whole = ap incomplete front_taken ∙ (text_lines front front_free).1

@@ -1,5 +1,6 @@
 -- How the listing part of a report is read, and a report as a whole.
-use Rattle.std.specs.Prelude.{ℕ, ◌+◌, Bool, is_some, cond, List, [], ◌∷◌, codes, Ok, Err}
+use Rattle.std.specs.Prelude.{◌≡◌, ℕ, ◌+◌, Bool, is_some, cond, List, [], ◌∷◌, ◌++◌, codes, Ok, Err}
+use Rattle.mcs_spelling.specs.Lines.{complete_lines, incomplete}
 use Rattle.mcs_spelling.specs.Words.{after_prefix}
 use Rattle.mcs_proof_lines.specs.Walks.{At, Reading, ◌>>=◌}
 
@@ -14,3 +15,8 @@ listing_from n (line ∷ rest) tail =
 
 unfoldable pub listing_at : At → Reading (List (List ℕ))
 listing_at at = listing_from at.taken at.rest at.tail
+
+-- the lines of the bytes are these and then those of the rest, after which the same follows
+pub record IsFrontOf (front : List (List ℕ)) (bytes rest : List ℕ) : Type 0 where
+  pub lines : complete_lines bytes ≡ front ++ complete_lines rest
+  pub tail : incomplete bytes ≡ incomplete rest

@@ -1,6 +1,7 @@
 //! A whole report.
 
-ghost use Rattle.std.specs.Prelude.{◌≤◌, ℕ, None, length, map, MatchResult};
+ghost use Rattle.std.specs.Prelude.{◌≡◌, ◌≤◌, ℕ, [], None, length, IfOk, MatchResult};
+ghost use Rattle.mcs_spelling.specs.Lines.{complete_lines, incomplete};
 ghost use Rattle.mcs_proof_lines.specs.Walks.{ReturnsReading, Passes};
 ghost use Rattle.mcs_proof_reader.specs.Answers.{answers_at};
 ghost use Rattle.mcs_proof_reader.specs.Keeping.{AreReadAndKept, IsKeptReport, IsReportFault};
@@ -9,7 +10,7 @@ ghost use Rattle.mcs_proof_reader.specs.Whole.{IsReportRead, end_at};
 
 use crate::answer::{ReportAnswer, take_answer};
 use crate::keep::{Keep, Whole};
-use crate::listing::take_listing;
+use crate::listing::{copies_of, take_listing};
 use crate::texts::Texts;
 use mcs_proof_lines::{Lines, ReportFault, expect, is_next, out_of_place};
 use mcs_system::System;
@@ -23,11 +24,11 @@ pub struct Report {
     pub last_line: u64,
 }
 
-/// What is kept of a report: the lines of the listing, what was kept of each answer, in their order, and the number of
-/// the line `end of proof` (counted from 1).
+/// What is kept of a report: the lines of the listing as bytes, what was kept of each answer, in their order, and the
+/// number of the line `end of proof` (counted from 1).
 #[derive(Drop)]
-pub struct KeptReport<T> {
-    pub listing: Vec<Vec<u8>>,
+pub struct KeptReport<'b, T> {
+    pub listing: &'b [u8],
     pub answers: Vec<T>,
     pub last_line: u64,
 }
@@ -62,19 +63,20 @@ fn keep_answers<K: Keep>(
 /// What is kept of the report on the system that the bytes spell, by the grammar of `read_report`. Each answer is
 /// passed to `keep` as soon as it was read. Before the next one is read, all but what `keep` returns is dropped.
 /// `Grammar` is returned in the same cases as by `read_report`, even if answers before that line were passed to `keep`.
-pub fn read_kept<K: Keep>(
+pub fn read_kept<'b, K: Keep>(
     alloc: Global,
     system: &System,
-    bytes: &[u8],
+    bytes: &'b [u8],
     keep: &K,
-) -> Result<KeptReport<K::Kept>, ReportFault>
-    ensures { MatchResult result
-        (λ r. IsKeptReport K.Keeps system.now bytes.now (map (λ l. l.items) r.listing.items) r.answers.items r.last_line)
+) -> Result<KeptReport<'b, K::Kept>, ReportFault>
+    ensures read { MatchResult result
+        (λ r. IsKeptReport K.Keeps system.now bytes.now (complete_lines r.listing.now) r.answers.items r.last_line)
         (IsReportFault system.now bytes.now) }
+    ensures whole { IfOk result (λ r. incomplete r.listing.now ≡ []) }
 {
     let texts = Texts::of(alloc, system)?;
     let mut lines = Lines::new(bytes);
-    let listing = take_listing(alloc, &mut lines)?;
+    let listing = take_listing(&mut lines)?;
     expect(&mut lines, b"proof")?;
     let answers = keep_answers(alloc, system, &texts, keep, &mut lines)?;
     let last_line = lines.number();
@@ -85,7 +87,7 @@ pub fn read_kept<K: Keep>(
             last_line,
         }),
         Err(fault) => {
-            drop((listing, answers));
+            drop(answers);
             Err(fault)
         }
     }
@@ -104,13 +106,20 @@ pub fn read_kept<K: Keep>(
 pub fn read_report(alloc: Global, system: &System, bytes: &[u8]) -> Result<Report, ReportFault>
     ensures { IsReportRead system.now bytes.now result }
 {
-    match read_kept(alloc, system, bytes, &Whole) {
-        Ok(report) => Ok(Report {
-            listing: report.listing,
-            answers: report.answers,
-            last_line: report.last_line,
+    let kept = match read_kept(alloc, system, bytes, &Whole) {
+        Ok(kept) => kept,
+        Err(fault) => return Err(fault),
+    };
+    match copies_of(alloc, kept.listing) {
+        Ok(listing) => Ok(Report {
+            listing,
+            answers: kept.answers,
+            last_line: kept.last_line,
         }),
-        Err(fault) => Err(fault),
+        Err(want) => {
+            drop(kept);
+            Err(ReportFault::from(want))
+        }
     }
 }
 

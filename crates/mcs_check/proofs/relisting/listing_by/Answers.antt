@@ -44,8 +44,8 @@ returns-in-Ok c =
     (subst (λ (before : Option (List ℕ)). IsDone Solve [] (start_of m os) c.work-worked.result.1.state before (Some c.work-worked.new.sink.text)) empty
     (subst (λ (e : EvaluatorState). IsDone Solve [] e c.work-worked.result.1.state (Some c.new-sink.result.text) (Some c.work-worked.new.sink.text)) begun (rw c.in-Ok.is at c.work-worked.ensures.done)))
 
-pub returns-in_ok-missing-in-Err : goal.returns-in_ok-missing-in-Err
-returns-in_ok-missing-in-Err c =
+pub returns : goal.returns
+returns c =
     let m : System = arc_value c.args.system in
     let os : List OracleState = c.args.oracles.items in
     let begun = made m (arc_value c.in_ok-plan.plan) os c.in_ok-mesh.mesh.state c.in_ok-mesh.ensures.state (c.in_ok-plan.ensures.ok ∙ (c.in_ok-of.ensures ∙ c.in_ok-clone.ensures.cases)) in

@@ -1,19 +1,25 @@
-use Rattle.std.proofs.Common.{◌≡◌, ◌<◌, ℕ, List, length, Some, sym, ap, subst}
-use Rattle.std.specs.Option.{option_and_then}
-use Rattle.mcs_proof_lines.specs.Walks.{At, line_at}
-use Rattle.mcs_proof_lines.proofs.WalkLemmas.{fewer_lines}
-use Rattle.mcs_proof_reader.proofs.StepLemmas.{listing_pushed, listing_ended}
+use Rattle.std.proofs.Common.{◌≡◌, ℕ, List, ◌++◌, Ok, sym, ap, ◌∙◌}
+use Rattle.mcs_spelling.specs.Lines.{complete_lines, incomplete}
+use Rattle.mcs_proof_lines.specs.Walks.{At, Reading}
+use Rattle.mcs_proof_reader.specs.Listings.{listing_at, IsFrontOf}
+use Rattle.mcs_proof_reader.proofs.ReportReadings.{reads_listing}
 use Rattle.mcs_proof_reader.proofs.listing.take_listing.Goals as goal
 
-pub loop-line-smaller : goal.loop-line-smaller
-loop-line-smaller c =
-    let e : line_at (λ (l : List ℕ). Some l) c.loop-line.lines ≡ Some c.in-Some.line.now = ap (option_and_then (λ (l : List ℕ). Some l)) (sym c.in-Some.ensures) in
-    subst (λ (at : At). length at.rest < length c.loop-line.lines.rest) (sym c.advance.ensures) (fewer_lines (λ (l : List ℕ). Some l) c.loop-line.lines c.in-Some.line.now e)
+-- the lines that were passed precede those that are left
+passed : (old new : At) (listing : List (List ℕ)) (bytes rest : List ℕ) → listing_at old ≡ Ok (listing, new) → complete_lines bytes ≡ old.rest → incomplete bytes ≡ old.tail
+    → complete_lines rest ≡ new.rest → incomplete rest ≡ new.tail → IsFrontOf listing bytes rest
+passed old new listing bytes rest e lines tail lines' tail' =
+    let read = reads_listing.sound old new listing e in
+    record { lines = lines ∙ read.rest ∙ ap (λ (ls : List (List ℕ)). listing ++ ls) (sym lines'); tail = tail ∙ sym read.tail ∙ sym tail' }
 
-pub loop-line-preserved : goal.loop-line-preserved
-loop-line-preserved c =
-    listing_pushed (λ l. l.items) c.loop-line.listing.items c.push.new.self.items c.in_ok-copy_of.field-0 c.in-Some.line.now c.loop-line.lines c.advance.new.self _ c.in_ok-push.ensures.items c.in_ok-copy_of.ensures c.advance.ensures (sym c.in-Some.ensures) c.loop-line.invariant (sym c.if-ends_listing.ensures)
+pub front_of-requires : goal.front_of-requires
+front_of-requires c =
+    let (listing, e) = c.in_ok-pass_listing.ensures in
+    (listing, passed c.args.lines.now c.pass_listing.new.lines listing c.left-bytes.result.now c.left.result.now e c.left-bytes.ensures.lines c.left-bytes.ensures.tail c.left.ensures.lines c.left.ensures.tail)
 
-pub returns-then-ends_listing : goal.returns-then-ends_listing
-returns-then-ends_listing c =
-    listing_ended (λ l. l.items) c.loop-line.listing.items c.push.new.self.items c.in_ok-copy_of.field-0 c.in-Some.line.now c.loop-line.lines c.advance.new.self _ c.in_ok-push.ensures.items c.in_ok-copy_of.ensures c.advance.ensures (sym c.in-Some.ensures) c.loop-line.invariant (sym c.if-ends_listing.ensures)
+pub returns-clause-read : goal.returns-clause-read
+returns-clause-read c =
+    let (listing, e) = c.in_ok-pass_listing.ensures in
+    let same : complete_lines c.front_of.result.now ≡ listing =
+    c.front_of.ensures.lines listing (passed c.args.lines.now c.pass_listing.new.lines listing c.left-bytes.result.now c.left.result.now e c.left-bytes.ensures.lines c.left-bytes.ensures.tail c.left.ensures.lines c.left.ensures.tail) in
+    e ∙ ap (λ (ls : List (List ℕ)). (let r : Reading (List (List ℕ)) = Ok (ls, c.pass_listing.new.lines) in r)) (sym same)
