@@ -44,7 +44,7 @@ fn supplier(plan: &Plan) -> Option<u32>
 
 /// A letter to the second context, in the round of the level, that says that memory ran out; `None` if no context
 /// supplies it.
-pub(crate) fn stop(plan: &Arc<Plan>, level: u32) -> Result<Option<Letter>, Memory>
+fn stop(plan: &Arc<Plan>, level: u32) -> Result<Option<Letter>, Memory>
     ensures { IfOk result (λ stop. IfSome stop (λ letter. letter.plan ≡ arc_value plan.now)) }
 {
     let Some(from) = supplier(plan) else {

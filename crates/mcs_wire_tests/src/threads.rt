@@ -1,7 +1,8 @@
 //! Wires whose ends are in several threads.
 
-ghost use Rattle.std.specs.Prelude.{◌≡◌, [], IfOk};
+ghost use Rattle.std.specs.Prelude.{◌≡◌, ◌+◌, ◌<◌, ◌≤◌, [], IfOk};
 ghost use Rattle.std.specs.Arc.{arc_value};
+ghost use Rattle.mcs_wire.specs.Wires.{AllName};
 ghost use Rattle.mcs_wire_tests.specs.Loads.{IsReady, AreReady};
 
 use crate::letters::{plan_of_two, stops};
@@ -32,30 +33,21 @@ struct Pair {
     two: Load,
 }
 
-/// Two addresses, each with letters of `each` levels. The second one's levels come after those of the first one.
-fn loads(
-    alloc: Global,
-    plan: &Arc<Plan>,
-    each: u32,
-    one: Address,
-    two: Address,
-) -> Result<Pair, Memory>
-    requires plan { one.wire.plan ≡ arc_value plan.now }
-    requires wire { two.wire ≡ one.wire }
-    ensures wire { IfOk result (λ pair. pair.one.address.wire ≡ one.wire) }
-    ensures ready { IfOk result (λ pair. AreReady pair.one.address pair.one.letters.items pair.two.address pair.two.letters.items) }
+/// The letters of two loads: of `each` levels, and of as many levels after these.
+#[derive(Drop)]
+struct Letters {
+    low: Vec<Letter>,
+    high: Vec<Letter>,
+}
+
+/// Such letters.
+fn letters_of(alloc: Global, plan: &Arc<Plan>, each: u32) -> Result<Letters, Memory>
+    ensures low { IfOk result (λ letters. AllName (arc_value plan.now) letters.low.items) }
+    ensures high { IfOk result (λ letters. AllName (arc_value plan.now) letters.high.items) }
 {
     let low = stops(alloc, plan, 0, each)?;
     let high = stops(alloc, plan, each, each)?;
-    let one = Load {
-        address: one,
-        letters: low,
-    };
-    let two = Load {
-        address: two,
-        letters: high,
-    };
-    Ok(Pair { one, two })
+    Ok(Letters { low, high })
 }
 
 /// Sends the letters, the last one first.
@@ -128,35 +120,139 @@ fn join_few(address: &mut Address, other: Address)
     }
 }
 
-/// Splits an address of four parts into four. It splits off two of them, which are joined. Each of the two addresses of
-/// two parts then splits off another one.
-fn split_in_four(address: Address) -> Result<Four, Memory>
-    requires parts { address.parts ≡ 4 }
-    requires none { address.sent ≡ [] }
-    ensures low { IfOk result (λ four. (four.first.wire ≡ address.wire) × (four.second.wire ≡ address.wire)) }
-    ensures high { IfOk result (λ four. (four.third.wire ≡ address.wire) × (four.fourth.wire ≡ address.wire)) }
+/// Splits off two parts, which are joined.
+fn split_two(address: &mut Address) -> Result<Address, Memory>
+    requires parts { 2 < address.old.parts }
+    requires none { address.old.sent ≡ [] }
+    ensures wire { (address.new.wire ≡ address.old.wire) × IfOk result (λ two. two.wire ≡ address.old.wire) }
+    ensures parts { IfOk result (λ two. (two.parts ≡ 2) × (address.new.parts + 2 ≡ address.old.parts)) }
+    ensures none { IfOk result (λ two. (two.sent ≡ []) × (address.new.sent ≡ [])) }
 {
-    let mut first = address;
-    let mut second = first.split()?;
-    let joined = first.split()?;
-    second.join(joined);
-    let third = second.split()?;
-    let fourth = first.split()?;
-    Ok(Four {
-        first,
-        second,
-        third,
-        fourth,
-    })
+    let mut two = address.split()?;
+    match address.split() {
+        Ok(other) => {
+            two.join(other);
+            Ok(two)
+        }
+        Err(want) => {
+            drop(two);
+            Err(want)
+        }
+    }
+}
+
+/// Two addresses of one wire.
+#[derive(Drop)]
+struct Both {
+    one: Address,
+    two: Address,
+}
+
+/// The address and another one, which is split off.
+fn split_one(address: Address) -> Result<Both, Memory>
+    requires parts { 2 ≤ address.parts }
+    ensures wire { IfOk result (λ both. (both.one.wire ≡ address.wire) × (both.two.wire ≡ address.wire)) }
+{
+    let mut address = address;
+    match address.split() {
+        Ok(two) => Ok(Both { one: address, two }),
+        Err(want) => {
+            drop(address);
+            Err(want)
+        }
+    }
 }
 
 /// Four addresses of one wire.
 #[derive(Drop)]
 struct Four {
-    first: Address,
-    second: Address,
-    third: Address,
-    fourth: Address,
+    low: Both,
+    high: Both,
+}
+
+/// Each of two addresses and another one, which is split off.
+fn split_each(one: Address, two: Address) -> Result<Four, Memory>
+    requires parts { (one.parts ≡ 2) × (two.parts ≡ 2) }
+    ensures low { IfOk result (λ four. (four.low.one.wire ≡ one.wire) × (four.low.two.wire ≡ one.wire)) }
+    ensures high { IfOk result (λ four. (four.high.one.wire ≡ two.wire) × (four.high.two.wire ≡ two.wire)) }
+{
+    let low = match split_one(one) {
+        Ok(low) => low,
+        Err(want) => {
+            drop(two);
+            return Err(want);
+        }
+    };
+    match split_one(two) {
+        Ok(high) => Ok(Four { low, high }),
+        Err(want) => {
+            drop(low);
+            Err(want)
+        }
+    }
+}
+
+/// Splits an address of four parts into four. It splits off two of them, which are joined. Each of the two addresses of
+/// two parts then splits off another one.
+fn split_in_four(address: Address) -> Result<Four, Memory>
+    requires parts { address.parts ≡ 4 }
+    requires none { address.sent ≡ [] }
+    ensures low { IfOk result (λ four. (four.low.one.wire ≡ address.wire) × (four.low.two.wire ≡ address.wire)) }
+    ensures high { IfOk result (λ four. (four.high.one.wire ≡ address.wire) × (four.high.two.wire ≡ address.wire)) }
+{
+    let mut address = address;
+    match split_two(&mut address) {
+        Ok(two) => split_each(address, two),
+        Err(want) => {
+            drop(address);
+            Err(want)
+        }
+    }
+}
+
+/// Four addresses of a wire, and its inbox.
+#[derive(Drop)]
+struct FourEnds {
+    four: Four,
+    inbox: Inbox,
+}
+
+/// Those of a new wire.
+fn four_ends(alloc: Global, plan: &Arc<Plan>) -> Result<FourEnds, Memory>
+    ensures plan { IfOk result (λ ends. (ends.inbox.wire.plan ≡ arc_value plan.now) × (ends.inbox.wire.addresses ≡ 4)) }
+    ensures low { IfOk result (λ ends. (ends.four.low.one.wire ≡ ends.inbox.wire) × (ends.four.low.two.wire ≡ ends.inbox.wire)) }
+    ensures high { IfOk result (λ ends. (ends.four.high.one.wire ≡ ends.inbox.wire) × (ends.four.high.two.wire ≡ ends.inbox.wire)) }
+{
+    let Ends { address, inbox } = wire(alloc, Arc::try_clone(plan)?, 4096, 4)?;
+    match split_in_four(address) {
+        Ok(four) => Ok(FourEnds { four, inbox }),
+        Err(want) => {
+            drop(inbox);
+            Err(want)
+        }
+    }
+}
+
+/// Two addresses of one wire, each with its letters.
+fn loaded(both: Both, letters: Letters) -> Pair
+    requires low { AllName both.one.wire.plan letters.low.items }
+    requires high { AllName both.one.wire.plan letters.high.items }
+    requires wire { both.two.wire ≡ both.one.wire }
+    ensures wire { result.one.address.wire ≡ both.one.wire }
+    ensures ready { AreReady result.one.address result.one.letters.items result.two.address result.two.letters.items }
+{
+    let Both { one, two } = both;
+    let Letters { low, high } = letters;
+    Pair {
+        one: Load {
+            address: one,
+            letters: low,
+        },
+        two: Load {
+            address: two,
+            letters: high,
+        },
+    }
 }
 
 /// An inbox, and how many letters of each level were taken from it.
@@ -208,6 +304,7 @@ fn settle_all<R: Wait>(
 {
     let Taken { inbox, mut counts } = taken;
     if address.parts() != parts {
+        drop((address, inbox, counts));
         return Ok(None);
     }
     let settled = settle(rt, alloc, address, inbox)?;
@@ -226,15 +323,11 @@ fn four_send<R: Threads + Wait + Sync>(
     count: u32,
 ) -> Result<Option<Counted>, Memory> {
     let counts = vec![in alloc; 0; 2 * each as usize]?;
-    let Ends { address, inbox } = wire(alloc, Arc::try_clone(plan)?, 4096, 4)?;
-    let Four {
-        first,
-        second,
-        third,
-        fourth,
-    } = split_in_four(address)?;
-    let low = loads(alloc, plan, each, first, second)?;
-    let high = loads(alloc, plan, each, third, fourth)?;
+    let letters = letters_of(alloc, plan, each)?;
+    let others = letters_of(alloc, plan, each)?;
+    let FourEnds { four, inbox } = four_ends(alloc, plan)?;
+    let low = loaded(four.low, letters);
+    let high = loaded(four.high, others);
     let taken = Taken { inbox, counts };
     let (address, taken) = thread::join(
         rt,
@@ -261,20 +354,27 @@ fn are_all(counts: &[u32], times: u32) -> bool {
     true
 }
 
+/// Whether so many letters were sent and so many taken, and each of so many levels was counted so often.
+fn is_counted(counted: &Counted, sent: u64, got: u64, levels: usize, times: u32) -> bool {
+    let Counted { settled, counts } = counted;
+    settled.sent() == sent
+        && settled.got() == got
+        && settled.left().len() as u64 == sent.saturating_sub(got)
+        && counts.len() == levels
+        && are_all(counts, times)
+}
+
 #[test]
 fn four_threads_send_and_one_takes(rt: HostRuntime) -> Result<(), Fail> {
     let plan = plan_of_two(rt.alloc())?;
-    let counted = four_send(&rt, rt.alloc(), &plan, 1000, 2500)?;
+    let counted = four_send(&rt, rt.alloc(), &plan, 1000, 2500);
+    drop(plan);
+    let counted = counted?;
     let is_right = match &counted {
-        Some(Counted { settled, counts }) => {
-            settled.sent() == 4000
-                && settled.got() == 2500
-                && settled.left().len() == 1500
-                && counts.len() == 2000
-                && are_all(counts, 2)
-        }
+        Some(counted) => is_counted(counted, 4000, 2500, 2000, 2),
         None => false,
     };
+    drop(counted);
     assert!(rt; is_right);
     Ok(())
 }
@@ -309,17 +409,14 @@ fn two_exchange<R: Threads + Wait + Sync>(
 #[test]
 fn two_threads_exchange_through_one_place(rt: HostRuntime) -> Result<(), Fail> {
     let plan = plan_of_two(rt.alloc())?;
-    let counted = two_exchange(&rt, rt.alloc(), &plan, 500)?;
+    let counted = two_exchange(&rt, rt.alloc(), &plan, 500);
+    drop(plan);
+    let counted = counted?;
     let is_right = match &counted {
-        Some(Counted { settled, counts }) => {
-            settled.sent() == 500
-                && settled.got() == 500
-                && settled.left().is_empty()
-                && counts.len() == 500
-                && are_all(counts, 1)
-        }
+        Some(counted) => is_counted(counted, 500, 500, 500, 1),
         None => false,
     };
+    drop(counted);
     assert!(rt; is_right);
     Ok(())
 }
