@@ -1,11 +1,12 @@
-"""bench/: the texts and families can be read, are the same each time, and mean to clingo what the examples print."""
+"""bench/: the texts and families can be read, are the same each time, and mean to clingo what the examples print; and
+what hostile inputs take."""
 import glob
 import os
 import re
 import shutil
 import sys
 
-from ground import EXAMPLES, TOP, Ground, needs
+from ground import EXAMPLES, PROGRAM, TOP, Ground, needs, needs_program
 
 sys.path.insert(0, os.path.join(TOP, "bench", "clingo"))
 
@@ -50,6 +51,25 @@ printf '%s\\n' 'mcs 1: 1 contexts, 1 rules, 1 variables' 'equilibrium 1: {c:a} a
             self.assertEqual(noted, "run: a text: mcs has 0 diagnoses, clingo 1, and 0 are the same\n")
         else:
             self.assertEqual((status, noted), (0, ""))
+
+
+class Hostile(Ground):
+    def test_words(self):
+        self.assertEqual(self.ran("bench/hostile", "--help")[0], 0)
+        for words in (["--fast"], ["--program", "nothing"]):
+            status, table, noted = self.ran("bench/hostile", *words)
+            self.assertEqual((status, table), (2, ""), words)
+
+    def test_a_run_that_ends_otherwise_is_told(self):
+        program = self.script("mcs", "#!/bin/sh\nkill -SEGV $$\n")
+        status, table, noted = self.ran("bench/hostile", "--once", "--program", program, "text one word")
+        self.assertEqual((status, noted), (1, ""))
+        self.assertRegex(table, r"(?m)^! text +one word +1,048,576 .* signal 11  not as it has to end$")
+
+    @needs_program
+    def test_the_program_takes_long_words(self):
+        status, table, noted = self.ran("bench/hostile", "--once", "--program", PROGRAM, "words")
+        self.assertEqual((status, noted), (0, ""), table)
 
 
 @needs("clingo")

@@ -1,7 +1,7 @@
-//! Systems and files at the bounds of what is evaluated.
+//! Systems at the bounds of what is evaluated.
 
 use crate::made::{Rows, text_of};
-use crate::runs::{End, JOB, SOUND, ends, made_ends, sink_of, status_of};
+use crate::runs::{JOB, made_ends, sink_of, status_of};
 use mcs_base::Memory;
 use std::alloc::Global;
 
@@ -101,30 +101,6 @@ fn pigeons_need_holes(rt: HostRuntime) {
     assert!(rt; is_listed(rt.alloc(), &FIVE_IN_FIVE, none) == Ok(true));
 }
 
-/// Whether a context without formulas, in 24 bytes with the line feed, and spaces and line feeds behind it, in all a
-/// file of this length, ends so.
-fn ends_at(alloc: Global, back: &'static str, length: usize, end: End<'_>) -> Result<bool, Memory> {
-    let text = text_of(
-        alloc,
-        &[
-            ("context c classical { }\n", 0, 1),
-            (" \n", 0, 524_276),
-            (back, 0, 1),
-        ],
-    )?;
-    let is_long = text.bytes().len() == length;
-    Ok(is_long & ends(alloc, JOB, &[("f", text.bytes())], SOUND, end)?)
-}
-
-#[test]
-fn files_are_taken_up_to_a_length(rt: HostRuntime) {
-    let listing =
-        b"mcs 1: 1 contexts, 0 rules, 0 variables\nequilibrium 1: {} applicable {}\nconsistent\nend: 1 equilibria, need 1\n";
-    assert!(rt; ends_at(rt.alloc(), "", 1_048_576, (0, listing, "")) == Ok(true));
-    let noted = "mcs: refused: file longer than 1048576\n";
-    assert!(rt; ends_at(rt.alloc(), "\n", 1_048_577, (3, b"", noted)) == Ok(true));
-}
-
 /// Each of the eight variables supports itself and nothing else, so every set of them is an equilibrium.
 const EIGHT_FREE: &str = "context c classical {}
 bridge r1: c:a1 if c:a1. bridge r2: c:a2 if c:a2. bridge r3: c:a3 if c:a3. bridge r4: c:a4 if c:a4.
@@ -160,8 +136,8 @@ fn are_all_sets(written: &[u8]) -> bool {
 }
 
 fn are_all_sets_listed(alloc: Global) -> Result<bool, Memory> {
-    let mut sink = sink_of(alloc, SOUND)?;
-    let status = status_of(alloc, JOB, &[("f", EIGHT_FREE.as_bytes())], 0, &mut sink)?;
+    let mut sink = sink_of(alloc)?;
+    let status = status_of(alloc, JOB, &[("f", EIGHT_FREE.as_bytes())], &mut sink)?;
     let (is_noted, are_written) = (!sink.noted().is_empty(), are_all_sets(sink.written()));
     Ok((status == 0) & !is_noted & are_written)
 }

@@ -1,11 +1,14 @@
 //! Runs within a budget of questions.
 
-use crate::reports::TOLD;
 use crate::runs::{Run, SELF_ATTACK, SELF_DENIAL};
 
 /// Two contexts of which each is asked twice.
 const CHOICE: &str =
     "context c1 program {} context c2 program {} bridge r1: c1:a if not c2:b. bridge r2: c2:b if not c1:a.";
+
+/// A context that may not believe what a rule tells it.
+const TOLD: &str =
+    "context c1 program { a. }\ncontext c2 program { :- p. }\nbridge r1: c2:p if c1:a.\n";
 
 /// A budget below the need leaves what is listed before its level.
 const RUNS: [Run; 8] = [

@@ -1,6 +1,6 @@
 //! What a gate is told of the questions of a run.
 
-use crate::runs::{SOUND, sink_of, status_with};
+use crate::runs::{sink_of, status_with};
 use mcs_base::Memory;
 use mcs_ports::Gate;
 use std::alloc::Global;
@@ -56,10 +56,10 @@ fn is_called(
     status: u8,
     counted: (u64, u64, u64),
 ) -> Result<bool, Memory> {
-    let mut sink = sink_of(alloc, SOUND)?;
+    let mut sink = sink_of(alloc)?;
     let gate = Counts::new();
     let files: [(&str, &[u8]); 1] = [("f", FORBIDDEN.as_bytes())];
-    let ended = status_with(alloc, words, &files, 0, &mut sink, &gate)?;
+    let ended = status_with(alloc, words, &files, &mut sink, &gate)?;
     Ok(ended == status && gate.counted() == counted)
 }
 

@@ -7,8 +7,6 @@ mod bounds;
 #[cfg(test)]
 mod budgets;
 #[cfg(test)]
-mod devices;
-#[cfg(test)]
 mod equilibria;
 #[cfg(test)]
 mod gates;
@@ -22,8 +20,6 @@ mod makes;
 mod programs;
 #[cfg(test)]
 mod refusals;
-#[cfg(test)]
-mod reports;
 #[cfg(test)]
 mod runs;
 #[cfg(test)]

@@ -1,6 +1,6 @@
 //! Runs of the whole program, from the words that a system gives.
 
-use crate::runs::{End, SELF_SUPPORT, SELF_SUPPORT_LISTING, SOUND, shelf_of, sink_of, words_of};
+use crate::runs::{End, SELF_SUPPORT, SELF_SUPPORT_LISTING, shelf_of, sink_of, words_of};
 use mcs_base::Memory;
 use mcs_ports::IdleGate;
 use mcs_top::run_program;
@@ -13,8 +13,8 @@ fn is_run(
     words: io::Result<env::Args>,
     (number, written, noted): End<'_>,
 ) -> Result<bool, Memory> {
-    let mut shelf = shelf_of(alloc, &[("f", SELF_SUPPORT.as_bytes())], 0)?;
-    let mut sink = sink_of(alloc, SOUND)?;
+    let mut shelf = shelf_of(alloc, &[("f", SELF_SUPPORT.as_bytes())])?;
+    let mut sink = sink_of(alloc)?;
     let ended = run_program(alloc, words, &mut shelf, &mut sink, &IdleGate);
     let (is_written, is_noted) = (sink.written() == written, sink.noted() == noted.as_bytes());
     Ok((ended == number) & is_written & is_noted)
@@ -37,9 +37,15 @@ fn the_name_of_the_program_is_left_out(rt: HostRuntime) {
     }
 }
 
+/// Whether it ends so where the words do not come.
+fn is_unheard(alloc: Global, kind: io::ErrorKind, end: End<'_>) -> Result<bool, Memory> {
+    is_run(alloc, Err(io::Error::from(kind)), end)
+}
+
 #[test]
 fn words_that_do_not_come_are_no_job(rt: HostRuntime) {
-    for kind in [io::ErrorKind::InvalidData, io::ErrorKind::OutOfMemory] {
-        assert!(rt; is_run(rt.alloc(), Err(io::Error::from(kind)), (2, b"", USAGE)) == Ok(true));
-    }
+    let unheard = (2, b"".as_slice(), USAGE);
+    assert!(rt; is_unheard(rt.alloc(), io::ErrorKind::InvalidData, unheard) == Ok(true));
+    let wanting = (7, b"".as_slice(), "mcs: out of memory\n");
+    assert!(rt; is_unheard(rt.alloc(), io::ErrorKind::OutOfMemory, wanting) == Ok(true));
 }

@@ -18,21 +18,6 @@ pub const SELF_SUPPORT_LISTING: &str =
 /// A system that has none.
 pub const SELF_ATTACK: &str = "context c1 classical {} bridge r1: c1:a if not c1:a.";
 
-/// Which call of the shelf and which write of the sink fail, counted from 1, and how many bytes a write takes.
-#[derive(Clone, Copy)]
-pub struct Devices {
-    pub failing_call: u64,
-    pub failing_write: u64,
-    pub most: usize,
-}
-
-/// Devices that fail nowhere.
-pub const SOUND: Devices = Devices {
-    failing_call: 0,
-    failing_write: 0,
-    most: 4096,
-};
-
 /// A rule against its own context.
 pub const SELF_DENIAL: &str = "context c1 program {}\nbridge r1: c1:a if not c1:a.\n";
 
@@ -57,23 +42,18 @@ fn file_of(alloc: Global, name: &str, bytes: &[u8]) -> Result<(String, Vec<u8>),
     Ok((String::from_str(alloc, name)?, bytes))
 }
 
-/// A shelf with these files, on which one call fails.
-pub fn shelf_of(
-    alloc: Global,
-    files: &[(&str, &[u8])],
-    failing: u64,
-) -> Result<MemoryShelf, Memory> {
+/// A shelf with these files.
+pub fn shelf_of(alloc: Global, files: &[(&str, &[u8])]) -> Result<MemoryShelf, Memory> {
     let mut kept = Vec::new(alloc);
     for (name, bytes) in files {
         kept.push(file_of(alloc, name, bytes)?)?;
     }
-    Ok(MemoryShelf::new(kept, [failing].to_vec(alloc)?))
+    Ok(MemoryShelf::new(kept, Vec::new(alloc)))
 }
 
-/// The sink of these devices.
-pub fn sink_of(alloc: Global, devices: Devices) -> Result<MemorySink, Memory> {
-    let fails = [devices.failing_write].to_vec(alloc)?;
-    MemorySink::new(alloc, fails, devices.most.max(1), ROOM)
+/// A sink with room for each listing.
+pub fn sink_of(alloc: Global) -> Result<MemorySink, Memory> {
+    MemorySink::new(alloc, Vec::new(alloc), ROOM, ROOM)
 }
 
 /// What the words give over these files, with a gate before each question: the status by its number.
@@ -81,11 +61,10 @@ pub fn status_with<G: Gate>(
     alloc: Global,
     words: &str,
     files: &[(&str, &[u8])],
-    failing_call: u64,
     sink: &mut MemorySink,
     gate: &G,
 ) -> Result<u8, Memory> {
-    let mut shelf = shelf_of(alloc, files, failing_call)?;
+    let mut shelf = shelf_of(alloc, files)?;
     let words = words_of(alloc, words)?;
     Ok(run(alloc, &words, &mut shelf, sink, gate).number())
 }
@@ -95,10 +74,9 @@ pub fn status_of(
     alloc: Global,
     words: &str,
     files: &[(&str, &[u8])],
-    failing_call: u64,
     sink: &mut MemorySink,
 ) -> Result<u8, Memory> {
-    status_with(alloc, words, files, failing_call, sink, &IdleGate)
+    status_with(alloc, words, files, sink, &IdleGate)
 }
 
 /// How a run ends: the status, what is written, and what is noted.
@@ -109,11 +87,10 @@ pub fn ends(
     alloc: Global,
     words: &str,
     files: &[(&str, &[u8])],
-    devices: Devices,
     (status, written, noted): End<'_>,
 ) -> Result<bool, Memory> {
-    let mut sink = sink_of(alloc, devices)?;
-    let ended = status_of(alloc, words, files, devices.failing_call, &mut sink)?;
+    let mut sink = sink_of(alloc)?;
+    let ended = status_of(alloc, words, files, &mut sink)?;
     let (is_written, is_noted) = (sink.written() == written, sink.noted() == noted.as_bytes());
     Ok((ended == status) & is_written & is_noted)
 }
@@ -121,10 +98,10 @@ pub fn ends(
 /// Whether the equilibria of a file of these rows end so.
 pub fn made_ends(alloc: Global, rows: &[Rows], end: End<'_>) -> Result<bool, Memory> {
     let text = text_of(alloc, rows)?;
-    ends(alloc, JOB, &[("f", text.bytes())], SOUND, end)
+    ends(alloc, JOB, &[("f", text.bytes())], end)
 }
 
-/// Words over a file `f` of this text, and how the run over devices that fail nowhere ends.
+/// Words over a file `f` of this text, and how the run ends.
 pub struct Run {
     pub words: &'static str,
     pub text: &'static str,
@@ -137,13 +114,7 @@ impl Run {
     /// Whether the run ends so.
     pub fn ends_so(&self, alloc: Global) -> Result<bool, Memory> {
         let end = (self.status, self.written.as_bytes(), self.noted);
-        ends(
-            alloc,
-            self.words,
-            &[("f", self.text.as_bytes())],
-            SOUND,
-            end,
-        )
+        ends(alloc, self.words, &[("f", self.text.as_bytes())], end)
     }
 }
 
@@ -157,6 +128,6 @@ impl Listed {
     /// Whether the words give this listing, and nothing is noted.
     pub fn is_given(&self, alloc: Global, words: &str) -> Result<bool, Memory> {
         let end = (0, self.listing.as_bytes(), "");
-        ends(alloc, words, &[("f", self.text.as_bytes())], SOUND, end)
+        ends(alloc, words, &[("f", self.text.as_bytes())], end)
     }
 }

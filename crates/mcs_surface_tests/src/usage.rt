@@ -1,13 +1,13 @@
 //! Words of the command line, and the runs that they start.
 
-use crate::runs::{End, SELF_SUPPORT, SELF_SUPPORT_LISTING, SOUND, ends};
+use crate::runs::{End, SELF_SUPPORT, SELF_SUPPORT_LISTING, ends};
 use mcs_base::Memory;
 use std::alloc::Global;
 
 /// Whether the words of each line end so over a file `f`.
 fn all_end(alloc: Global, lines: &str, end: End<'_>) -> Result<bool, Memory> {
     for words in lines.split('\n') {
-        if !ends(alloc, words, &[("f", SELF_SUPPORT.as_bytes())], SOUND, end)? {
+        if !ends(alloc, words, &[("f", SELF_SUPPORT.as_bytes())], end)? {
             return Ok(false);
         }
     }
@@ -16,11 +16,11 @@ fn all_end(alloc: Global, lines: &str, end: End<'_>) -> Result<bool, Memory> {
 
 /// Words that ask for no job, at first none at all. Where a line ends or begins with a space, an empty word stands.
 const NO_JOBS: &str =
-    "\nequilibria\nequilibria \nequilibria -\nsolve f --proof --proof\ncheck f\nequilibria f --workers 0\nequilibria f --budget 5 --budget 5\nequilibria f f\nsolution f\nEquilibria f\nf equilibria\n f";
+    "\nequilibria\nequilibria \nequilibria -\nsolve\nsolve f --proof --proof\ncheck f\nsolve f --workers 0\nsolve f --budget 5 --budget 5\nequilibria f f\nsolution f\nEquilibria f\nf equilibria\n f";
 
 /// Words with options, and after two dashes.
 const JOBS: &str =
-    "equilibria f --budget 5 --workers=64\n--workers 007 equilibria f\n-- equilibria f";
+    "equilibria f --budget 5 --workers=64\n--workers 007 equilibria f\n-- equilibria f\n--proof -- equilibria f";
 
 #[test]
 fn words_start_runs_or_are_told_to_be_no_job(rt: HostRuntime) {

@@ -1,8 +1,9 @@
 //! The whole program, except for its devices.
 
-ghost use Rattle.std.specs.Prelude.{◌≡◌, drop, IfOk};
+ghost use Rattle.std.specs.Prelude.{◌≡◌, drop, IfOk, IsErr};
 ghost use Rattle.mcs_listing.specs.Endings.{status_number};
-ghost use Rattle.mcs_top.specs.Programs.{all_given, words_given};
+ghost use Rattle.mcs_listing.specs.declared.status.Status.TheVariants as statuses;
+ghost use Rattle.mcs_top.specs.Programs.{all_given, words_given, LackedMemory};
 ghost use Rattle.mcs_top.specs.Promise.{KeepsPromise, NamesNoFile};
 
 use crate::command::run;
@@ -13,7 +14,8 @@ use std::{env, io};
 
 /// Runs the program. `words` are the words that the operating system gives; the first, the program's name, is dropped,
 /// and the others are passed to `run`. Returns the number of the status, with which the program ends. If the operating
-/// system fails to give the words, there are none, and so they ask for no job.
+/// system fails to give the words, there are none, and so they ask for no job; but if it fails for want of memory, the
+/// run ends for want of memory.
 pub fn run_program<H: Shelf, K: Sink, G: Gate>(
     alloc: Global,
     words: io::Result<env::Args>,
@@ -25,6 +27,7 @@ pub fn run_program<H: Shelf, K: Sink, G: Gate>(
         × KeepsPromise (words_given words) (H.held shelf.old) (H.faults shelf.old) (H.faults shelf.new)
         (H.failures shelf.old) (H.failures shelf.new) (K.device sink.old) (K.device sink.new) status }
     ensures unread { NamesNoFile (words_given words) → shelf.new ≡ shelf.old }
+    ensures unheard { LackedMemory words → result ≡ 7 }
 {
     done_so(alloc, words, shelf, sink, gate).number()
 }
@@ -40,6 +43,7 @@ fn done_so<H: Shelf, K: Sink, G: Gate>(
     ensures kept { KeepsPromise (words_given words) (H.held shelf.old) (H.faults shelf.old) (H.faults shelf.new)
         (H.failures shelf.old) (H.failures shelf.new) (K.device sink.old) (K.device sink.new) result }
     ensures unread { NamesNoFile (words_given words) → shelf.new ≡ shelf.old }
+    ensures unheard { LackedMemory words → result ≡ statuses.OutOfMemory }
 {
     match kept_words(alloc, words) {
         Ok(words) => run(alloc, after_name(&words), shelf, sink, gate),
@@ -47,12 +51,15 @@ fn done_so<H: Shelf, K: Sink, G: Gate>(
     }
 }
 
-/// The given words, the program's name among them; none if the operating system fails to give them.
+/// The given words, the program's name among them; none if the operating system fails to give them, unless it fails for
+/// want of memory.
 fn kept_words(alloc: Global, words: io::Result<env::Args>) -> Result<Vec<String>, AllocError>
-    ensures { IfOk result (λ kept. kept.items ≡ all_given words) }
+    ensures kept { IfOk result (λ kept. kept.items ≡ all_given words) }
+    ensures unheard { LackedMemory words → IsErr result }
 {
     match words {
         Ok(words) => words.collect(alloc),
+        Err(error) if error.kind() == io::ErrorKind::OutOfMemory => Err(AllocError),
         Err(_) => Ok(Vec::new(alloc)),
     }
 }

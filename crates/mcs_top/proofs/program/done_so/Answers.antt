@@ -4,10 +4,10 @@ use Rattle.mcs_top.proofs.PromiseLemmas.{memory_kept}
 use Rattle.mcs_top.proofs.program.done_so.Goals as goal
 
 pub returns-in-Ok-clause-kept : goal.returns-in-Ok-clause-kept
-returns-in-Ok-clause-kept g c = rw (c.after_name.ensures, c.deref.ensures.value, c.in-Ok.ensures) at c.run.ensures.kept
+returns-in-Ok-clause-kept g c = rw (c.after_name.ensures, c.deref.ensures.value, c.in-Ok.ensures.kept) at c.run.ensures.kept
 
 pub returns-in-Ok-clause-unread : goal.returns-in-Ok-clause-unread
-returns-in-Ok-clause-unread g c none = c.run.ensures.unread (rw (c.after_name.ensures, c.deref.ensures.value, c.in-Ok.ensures) none)
+returns-in-Ok-clause-unread g c none = c.run.ensures.unread (rw (c.after_name.ensures, c.deref.ensures.value, c.in-Ok.ensures.kept) none)
 
 pub returns-in-Err-clause-kept : goal.returns-in-Err-clause-kept
 returns-in-Err-clause-kept g c =

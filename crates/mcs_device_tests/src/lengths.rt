@@ -1,0 +1,26 @@
+//! Files at the greatest length.
+
+use crate::devices::EMPTY_LISTING;
+use crate::runs::{End, SOUND, ends};
+use mcs_base::Memory;
+use std::alloc::Global;
+
+/// Whether a file of as many spaces ends so.
+fn spaces_end(alloc: Global, count: usize, end: End<'_>) -> Result<bool, Memory> {
+    let spaces = vec![in alloc; b' '; count]?;
+    ends(alloc, "solve f", &[("f", &spaces)], SOUND, end)
+}
+
+/// How many spaces there are, and how the run ends.
+const SPACES: [(usize, u8, &str, &str); 2] = [
+    (1_048_576, 0, EMPTY_LISTING, ""),
+    (1_048_577, 3, "", "mcs: refused: file longer than 1048576\n"),
+];
+
+#[test]
+fn files_are_taken_up_to_a_length(rt: HostRuntime) {
+    for (count, status, written, noted) in &SPACES {
+        let end = (*status, written.as_bytes(), *noted);
+        assert!(rt; spaces_end(rt.alloc(), *count, end) == Ok(true));
+    }
+}

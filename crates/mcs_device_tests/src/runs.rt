@@ -1,0 +1,100 @@
+//! Runs over devices in memory.
+
+use mcs_base::Memory;
+use mcs_ports::{IdleGate, MemoryShelf, MemorySink};
+use mcs_top::run;
+use std::alloc::Global;
+
+/// Which call of the shelf and which write of the sink fail, counted from 1, and how many bytes a write takes.
+#[derive(Clone, Copy)]
+pub struct Devices {
+    pub failing_call: u64,
+    pub failing_write: u64,
+    pub most: usize,
+}
+
+/// Devices that fail nowhere.
+pub const SOUND: Devices = Devices {
+    failing_call: 0,
+    failing_write: 0,
+    most: 4096,
+};
+
+/// The most bytes that are written.
+const ROOM: usize = 32_768;
+
+/// Files by their names.
+pub type Files<'a> = &'a [(&'a str, &'a [u8])];
+
+/// The first lines of the text.
+pub fn lines(text: &str, count: usize) -> &[u8] {
+    let mut left = count;
+    for (place, byte) in text.as_bytes().iter().enumerate() {
+        if left == 0 {
+            return text.as_bytes().get(..place).unwrap_or(b"");
+        }
+        if *byte == b'\n' {
+            left = left.saturating_sub(1);
+        }
+    }
+    text.as_bytes()
+}
+
+/// The words of the line, between two of which stands one space.
+fn words_of(alloc: Global, line: &str) -> Result<Vec<String>, Memory> {
+    let mut words = Vec::new(alloc);
+    for word in line.split(' ') {
+        words.push(String::from_str(alloc, word)?)?;
+    }
+    Ok(words)
+}
+
+/// A file of this name.
+fn file_of(alloc: Global, name: &str, bytes: &[u8]) -> Result<(String, Vec<u8>), Memory> {
+    let bytes = Vec::from_slice(alloc, bytes)?;
+    Ok((String::from_str(alloc, name)?, bytes))
+}
+
+/// A shelf with these files, on which one call fails.
+fn shelf_of(alloc: Global, files: Files<'_>, failing: u64) -> Result<MemoryShelf, Memory> {
+    let mut kept = Vec::new(alloc);
+    for (name, bytes) in files {
+        kept.push(file_of(alloc, name, bytes)?)?;
+    }
+    Ok(MemoryShelf::new(kept, [failing].to_vec(alloc)?))
+}
+
+/// The sink of these devices.
+pub fn sink_of(alloc: Global, devices: Devices) -> Result<MemorySink, Memory> {
+    let fails = [devices.failing_write].to_vec(alloc)?;
+    MemorySink::new(alloc, fails, devices.most.max(1), ROOM)
+}
+
+/// What the words give over these files, on which one call fails: the status by its number.
+pub fn status_of(
+    alloc: Global,
+    words: &str,
+    files: Files<'_>,
+    failing_call: u64,
+    sink: &mut MemorySink,
+) -> Result<u8, Memory> {
+    let mut shelf = shelf_of(alloc, files, failing_call)?;
+    let words = words_of(alloc, words)?;
+    Ok(run(alloc, &words, &mut shelf, sink, &IdleGate).number())
+}
+
+/// How a run ends: the status, what is written, and what is noted.
+pub type End<'a> = (u8, &'a [u8], &'a str);
+
+/// Whether the words end so over these files.
+pub fn ends(
+    alloc: Global,
+    words: &str,
+    files: Files<'_>,
+    devices: Devices,
+    (status, written, noted): End<'_>,
+) -> Result<bool, Memory> {
+    let mut sink = sink_of(alloc, devices)?;
+    let ended = status_of(alloc, words, files, devices.failing_call, &mut sink);
+    Ok(ended == Ok(status) && sink.written() == written && sink.noted() == noted.as_bytes())
+}
