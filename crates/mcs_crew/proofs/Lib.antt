@@ -1,0 +1,9 @@
+pub mod NodeSteps
+pub mod SendSteps
+pub mod TeamSteps
+pub mod LoadSteps
+pub mod Counting
+pub mod Threads
+pub mod HubLemmas
+pub mod RoundLemmas
+pub mod PlayLemmas

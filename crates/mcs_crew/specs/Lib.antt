@@ -1,0 +1,10 @@
+pub mod Weights
+pub mod Teams
+pub mod Loads
+pub mod Calls
+pub mod Hubs
+pub mod Children
+pub mod Trails
+pub mod Rounds
+pub mod Laws
+pub mod Crews

@@ -1,0 +1,23 @@
+//! Rounds of questions that threads play: letters go through inboxes, and totals are drawn from the budget word.
+#![tactic(auto)]
+
+mod child;
+mod crew;
+mod dealing;
+mod ending;
+mod equipment;
+mod laws;
+mod load;
+mod player;
+mod playing;
+mod returning;
+mod sending;
+mod serving;
+mod taking;
+mod trail;
+mod wires;
+
+pub use laws::none_is_ignored;
+pub use player::{Crew, CrewPlayer};
+pub use playing::play_in_threads;
+pub use trail::Trail;

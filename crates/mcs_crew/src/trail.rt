@@ -1,0 +1,27 @@
+//! What a round that threads played leaves.
+
+ghost use Rattle.mcs_crew.specs.Trails.{IsNoTrail, trail_of};
+
+use mcs_draw::Closed;
+use mcs_wire::Settled;
+use std::alloc::Global;
+
+/// What is to be seen of a round: its wires, one for each group, in order, and the word that totals were drawn from.
+/// There is nothing to be seen if fewer than two workers were used, or after want of memory.
+#[derive(Drop)]
+pub struct Trail {
+    pub wires: Vec<Settled>,
+    pub word: Option<Closed>,
+}
+
+impl Trail {
+    /// Nothing is to be seen.
+    pub(crate) fn nothing(alloc: Global) -> Trail
+        ensures { IsNoTrail (trail_of result) }
+    {
+        Trail {
+            wires: Vec::new(alloc),
+            word: None,
+        }
+    }
+}
