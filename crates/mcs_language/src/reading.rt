@@ -1,12 +1,13 @@
 //! Reading: from the bytes of a text to its system.
 
-ghost use Rattle.std.specs.Prelude.{◌≡◌, ℕ, List, Some, length, slice_get, All, IfOk, IfErr};
+ghost use Rattle.std.specs.Prelude.{◌≡◌, ◌≤◌, ℕ, List, Some, length, slice_get, OnOk, IfOk, IfErr};
 ghost use Rattle.mcs_system.specs.Faults.{IsValid};
 ghost use Rattle.mcs_system.specs.Seen.{system_of};
-ghost use Rattle.mcs_tokens.specs.Tokens.{AreTokens, IsSpanOf};
+ghost use Rattle.mcs_tokens.specs.Tokens.{AreTokens};
+ghost use Rattle.mcs_tokens.specs.declared.scan.Span as declared;
 ghost use Rattle.mcs_grammar.specs.Entries.{Token};
 ghost use Rattle.mcs_language.specs.Progress.{IsNextRead, AreTokensRead, IsToldOf, AreReadUpTo};
-ghost use Rattle.mcs_grammar.specs.Texts.{Spells, token_texts};
+ghost use Rattle.mcs_grammar.specs.Texts.{Spells};
 ghost use Rattle.mcs_faults.specs.declared.fault.TextFault.TheVariants as texts;
 
 use crate::numbers::numbered;
@@ -14,7 +15,7 @@ use mcs_base::Memory;
 use mcs_faults::{Fault, TextFault, Watch};
 use mcs_reader::{Parts, Reader};
 use mcs_system::{Bridge, BuildFault, Context, System};
-use mcs_tokens::{Span, token_list};
+use mcs_tokens::{Span, next_token};
 use std::alloc::Global;
 
 /// The state of reading a text: the parser and the symbol table.
@@ -22,6 +23,21 @@ use std::alloc::Global;
 pub(crate) struct Reading {
     pub(crate) reader: Reader,
     pub(crate) watch: Watch,
+}
+
+/// Goes through the tokens of the text from `start` on, so that those after a fault are known to be tokens too.
+fn pass_tokens(bytes: &[u8], start: usize)
+    requires { start ≤ length bytes.now }
+    ensures { (spans : List declared.Span) × AreTokens bytes.now start spans }
+{
+    let mut at = start;
+    loop {
+        let (from, to) = next_token(bytes, at);
+        if from == bytes.len() {
+            return;
+        }
+        at = to;
+    }
 }
 
 impl Reading {
@@ -47,19 +63,25 @@ impl Reading {
             .note(alloc, subject, uses, token, self.reader.last_read())
     }
 
-    /// Takes all tokens of the text, up to the first one that has a fault.
-    fn read(&mut self, alloc: Global, bytes: &[u8], spans: &[Span]) -> Result<(), TextFault>
-        requires inside { All (IsSpanOf bytes.now) spans.now }
-        requires begun { AreReadUpTo self.now (token_texts bytes.now spans.now) 0 }
-        ensures all { IfOk result (λ _. AreReadUpTo self.new (token_texts bytes.now spans.now) (length spans.now)) }
-        ensures fault { AreTokens bytes.now 0 spans.now → IfErr result (IsToldOf bytes.now) }
+    /// Takes all tokens of the text, one after the other, up to the first one that has a fault.
+    fn read(&mut self, alloc: Global, bytes: &[u8]) -> Result<(), TextFault>
+        requires begun { (ts : List Token) → AreReadUpTo self.old ts 0 }
+        ensures all { OnOk result (AreTokensRead bytes.now self.new) }
+        ensures fault { IfErr result (IsToldOf bytes.now) }
     {
-        for span in spans {
-            if let Some(fault) = self.take(alloc, span.text(bytes))? {
-                return Err(fault.at(span.from));
+        let mut at = 0;
+        loop {
+            let (from, to) = next_token(bytes, at);
+            if from == bytes.len() {
+                return Ok(());
             }
+            let span = Span { from, to };
+            if let Some(fault) = self.take(alloc, span.text(bytes))? {
+                pass_tokens(bytes, to);
+                return Err(fault.at(from));
+            }
+            at = to;
         }
-        Ok(())
     }
 
     /// The system of the text, whose tokens were all taken, or the fault that the text may not end here.
@@ -98,9 +120,8 @@ pub fn read_system(alloc: Global, bytes: &[u8]) -> Result<System, TextFault>
     ensures system { IfOk result (Spells bytes.now) }
     ensures fault { IfErr result (IsToldOf bytes.now) }
 {
-    let spans = token_list(alloc, bytes)?;
     let mut reading = Reading::new(alloc);
-    match reading.read(alloc, bytes, &spans) {
+    match reading.read(alloc, bytes) {
         Ok(()) => reading.system(alloc, bytes),
         Err(fault) => {
             drop(reading);

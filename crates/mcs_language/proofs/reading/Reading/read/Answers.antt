@@ -1,27 +1,43 @@
-use Rattle.std.proofs.Common.{◌≡◌, length, Option, subst, arith}
+use Rattle.std.proofs.Common.{◌≡◌, Option, Some, ℕ, List, slice_get, subst, arith}
 use Rattle.mcs_faults.specs.declared.fault.Fault as code_fault
+use Rattle.mcs_grammar.specs.Entries.{Token}
 use Rattle.mcs_language.specs.Progress.{IsNextRead, AreReadUpTo}
-use Rattle.mcs_grammar.specs.Texts.{token_texts}
-use Rattle.mcs_language.proofs.ToldLemmas.{token-at, told-at}
+use Rattle.mcs_language.proofs.SpanLemmas.{inside, none_before, all_read, one_more, told_there}
 use Rattle.mcs_language.proofs.reading.Reading.read.Goals as goal
 
-pub loop-span-init : goal.loop-span-init
-loop-span-init c = c.requires.begun
+pub loop-alloc-init : goal.loop-alloc-init
+loop-alloc-init c = record { inside = omega arith; before = none_before c.args.bytes.now c.args.self.now c.requires.begun }
+
+pub returns-then-from-bytes-clause-all : goal.returns-then-from-bytes-clause-all
+returns-then-from-bytes-clause-all c =
+    all_read c.args.bytes.now c.loop-alloc.self c.loop-alloc.at c.next_token-from.result.0 c.next_token-from.result.1 c.loop-alloc.invariant.before c.next_token-from.ensures c.if-from-bytes.true
+
+pub text-requires : goal.text-requires
+text-requires c =
+    let there = inside c.args.bytes.now c.loop-alloc.at c.next_token-from.result.0 c.next_token-from.result.1 c.next_token-from.ensures c.if-from-bytes.false in
+    (there.1, there.2)
+
+pub pass_tokens-requires : goal.pass_tokens-requires
+pass_tokens-requires c = (inside c.args.bytes.now c.loop-alloc.at c.next_token-from.result.0 c.next_token-from.result.1 c.next_token-from.ensures c.if-from-bytes.false).2
 
 pub returns-in-Some-clause-fault : goal.returns-in-Some-clause-fault
-returns-in-Some-clause-fault c tokens =
-    let token = token-at c.args.bytes.now c.args.spans.now c.loop-span.span-index _ c.text.result.now c.loop-span-test.true c.text.ensures in
-    let next = c.in_ok-fault.ensures (token_texts c.args.bytes.now c.args.spans.now) c.loop-span.span-index c.loop-span.invariant token in
-    let first = subst (λ (f : Option code_fault.Fault). IsNextRead f c.take.new.self (token_texts c.args.bytes.now c.args.spans.now) c.loop-span.span-index) c.in-Some.is next in
-    told-at c.args.bytes.now c.args.spans.now c.loop-span.span-index _ c.in-Some.fault c.at.result tokens c.loop-span-test.true first c.at.ensures
+returns-in-Some-clause-fault c =
+    let there = inside c.args.bytes.now c.loop-alloc.at c.next_token-from.result.0 c.next_token-from.result.1 c.next_token-from.ensures c.if-from-bytes.false in
+    told_there c.args.bytes.now c.loop-alloc.self c.take.new.self c.loop-alloc.at c.next_token-from.result.0 c.next_token-from.result.1 c.text.result.now c.loop-alloc.invariant.before c.next_token-from.ensures there.0 c.text.ensures
+    c.in-Some.fault c.at.result
+    (λ ts k are is. subst (λ (f : Option code_fault.Fault). IsNextRead f c.take.new.self ts k) c.in-Some.is (c.in_ok-fault.ensures ts k are is))
+    c.pass_tokens.ensures.0 c.pass_tokens.ensures.1 c.at.ensures
 
-pub loop-span-preserved : goal.loop-span-preserved
-loop-span-preserved c =
-    let token = token-at c.args.bytes.now c.args.spans.now c.loop-span.span-index _ c.text.result.now c.loop-span-test.true c.text.ensures in
-    let next = c.in_ok-fault.ensures (token_texts c.args.bytes.now c.args.spans.now) c.loop-span.span-index c.loop-span.invariant token in
-    subst (λ (f : Option code_fault.Fault). IsNextRead f c.take.new.self (token_texts c.args.bytes.now c.args.spans.now) c.loop-span.span-index) c.in_default.is next
+pub loop-alloc-preserved : goal.loop-alloc-preserved
+loop-alloc-preserved c =
+    let there = inside c.args.bytes.now c.loop-alloc.at c.next_token-from.result.0 c.next_token-from.result.1 c.next_token-from.ensures c.if-from-bytes.false in
+    record {
+      inside = there.2;
+      before = one_more c.args.bytes.now c.loop-alloc.self c.take.new.self c.loop-alloc.at c.next_token-from.result.0 c.next_token-from.result.1 c.text.result.now c.loop-alloc.invariant.before c.next_token-from.ensures there.0 c.text.ensures
+          (λ ts k are is. subst (λ (f : Option code_fault.Fault). IsNextRead f c.take.new.self ts k) c.in_default.is (c.in_ok-fault.ensures ts k are is));
+    }
 
-pub returns-clause-all : goal.returns-clause-all
-returns-clause-all c =
-    let end : c.loop-span.span-index ≡ length c.args.spans.now = omega arith in
-    subst (AreReadUpTo c.loop-span.self (token_texts c.args.bytes.now c.args.spans.now)) end c.loop-span.invariant
+pub loop-alloc-smaller : goal.loop-alloc-smaller
+loop-alloc-smaller c =
+    let there = inside c.args.bytes.now c.loop-alloc.at c.next_token-from.result.0 c.next_token-from.result.1 c.next_token-from.ensures c.if-from-bytes.false in
+    omega (arith, there, c.next_token-from.ensures.after)

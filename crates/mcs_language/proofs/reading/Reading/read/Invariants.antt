@@ -1,6 +1,12 @@
-use Rattle.mcs_language.specs.Progress.{AreReadUpTo}
-use Rattle.mcs_grammar.specs.Texts.{token_texts}
+use Rattle.std.proofs.Common.{◌≤◌, ◌-◌, length}
+use Rattle.mcs_language.proofs.SpanLemmas.{AreReadBefore}
 use Rattle.mcs_language.proofs.reading.Reading.read.Given as goal
 
-abbrev pub invariant-loop-span : goal.invariant-loop-span
-invariant-loop-span l = AreReadUpTo l.self (token_texts l.bytes l.spans) l.span-index
+abbrev pub invariant-loop-alloc : goal.invariant-loop-alloc
+invariant-loop-alloc l = record {
+  inside : l.at ≤ length l.bytes;
+  before : AreReadBefore l.bytes l.self l.at;
+}
+
+abbrev pub decreases-loop-alloc : goal.decreases-loop-alloc
+decreases-loop-alloc l = length l.bytes - l.at
