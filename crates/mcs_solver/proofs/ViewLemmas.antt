@@ -1,13 +1,20 @@
 -- Clauses and names of formulas that are lent, and clauses that are taken off again.
-use Rattle.std.proofs.Common.{◌≡◌, ℕ, ◌+◌, ◌<◌, map, length, get_or, take, List, [], ◌∷◌, ◌++◌, Some, IsTrue, sym, ap, ◌∙◌, subst}
+use Rattle.std.proofs.Common.{◌≡◌, ℕ, ◌+◌, ◌<◌, map, length, get_or, take, List, [], ◌∷◌, ◌++◌, Some, IsTrue, sym, ap, ◌∙◌, subst, refl, true, true≢false, arith}
 use Rattle.std.proofs.lemmas.List.{map_more}
+use Rattle.std.proofs.lemmas.Option.{slice_get_within}
 use Rattle.std.specs.List.{AllByRecursion}
+use Rattle.mcs_sets.specs.Orders.{StateBefore}
+use Rattle.mcs_sets.proofs.SetLemmas.{has-empty}
+use Rattle.mcs_base.specs.Listings.{IsListing}
 use Rattle.mcs_base.proofs.Each.{all_get, all_append}
 use Rattle.mcs_base.proofs.Lists.{slice_get-map_at}
-use Rattle.mcs_system.specs.Plain.{Name, Formula, Atom}
+use Rattle.mcs_system.specs.Plain.{Name, Formula, Atom, Classical}
 use Rattle.mcs_system.specs.Logic.{is_in}
+use Rattle.mcs_system.specs.Views.{IsAcceptedView}
 use Rattle.mcs_trace.specs.Clauses.{ClauseList}
+use Rattle.mcs_cnf.specs.Classical.{IsAcceptedClassical}
 use Rattle.mcs_cnf.specs.ClauseLists.{clause_list, with_formulas, IsOver, AreOver}
+use Rattle.mcs_cnf.proofs.EntailmentLemmas.{one_view}
 use Rattle.mcs_cnf.proofs.ListLemmas.{with_append}
 use Rattle.mcs_cnf.proofs.GrowingLemmas.{none-with, grown_clauses}
 
@@ -31,6 +38,28 @@ told_clauses names known new fs heads is told = grown_clauses names known new (h
 
 pub told_over : (names : List Name) (fs heads : List Formula) → AreOver names fs → AreOver names heads → AreOver names (fs ++ heads)
 told_over names fs heads over over' = all_append (IsOver names) fs heads over over'
+
+-- ---- where no belief is asked for
+pub no_beliefs : {A : Type 0} (seen : A → Formula) (xs : List A) → length xs ≡ 0 → map seen xs ≡ []
+no_beliefs seen [] none = refl
+no_beliefs seen (x ∷ xs) none = absurd (omega (arith, none))
+
+-- the one view of a classical context has none
+pub view_of_none : (fs : List Formula) (views : List ℕ) → views ≡ 0 ∷ [] → IsListing (IsAcceptedView (Classical fs) []) StateBefore views
+view_of_none fs views is =
+    subst (IsListing (IsAcceptedView (Classical fs) []) StateBefore) (sym is) (one_view fs [] 0
+    (λ k. (λ h. absurd (true≢false (sym h ∙ has-empty k)), λ (p, at, believed). absurd (omega (arith, slice_get_within [] k p at)))))
+
+-- which no entailment has to show
+pub none_shown : (names : List Name) (fs : List Formula) (views : List ℕ) → views ≡ 0 ∷ [] → IsAcceptedClassical names fs [] views []
+none_shown names fs views is = record {
+  view = 0;
+  only = is;
+  shown = record {
+    entailments = tt;
+    exactly = λ k. (λ h. absurd (true≢false (sym h ∙ has-empty k)), λ h. absurd (omega (arith, slice_get_within [] k true h)));
+  };
+}
 
 -- ---- atoms by their names
 pub names_over : (names ns : List Name) (fs : List Formula) → map Atom ns ≡ fs → AreOver names fs → AllByRecursion (λ n. IsTrue (is_in n names)) ns

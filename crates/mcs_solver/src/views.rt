@@ -170,8 +170,28 @@ fn followed_view(
     }
 }
 
+/// The one view of no beliefs that a classical context accepts, whatever its formulas are, with a certificate if
+/// `certify` holds.
+fn view_of_nothing(alloc: Global, certify: bool) -> Result<(Vec<Vars>, Option<AnswerCert>), Memory>
+    ensures exact { IfOk result (λ r. (fs : List plain.Formula)
+        → IsListing (IsAcceptedView (Classical fs) []) StateBefore r.0.items) }
+    ensures certified { IfOk result (λ r. (names : List plain.Name) (fs : List plain.Formula)
+        → IsCertified certify (IsAcceptedFor names (Classical fs) [] r.0.items) r.1) }
+{
+    let mut views = Vec::new(alloc);
+    views.push(Vars::empty())?;
+    if !certify {
+        return Ok((views, None));
+    }
+    let cert = ClassicalCert {
+        entails: Vec::new(alloc),
+    };
+    Ok((views, Some(AnswerCert::Classical(cert))))
+}
+
 /// The views that a classical context accepts with the heads of the rules, with a certificate if `certify` holds. The
-/// clauses of its formulas are kept once they are made, with what was found to follow.
+/// clauses of its formulas are kept once they are made, with what was found to follow. Where no belief is asked for,
+/// none are made.
 fn classical_views(
     alloc: Global,
     certify: bool,
@@ -198,6 +218,9 @@ fn classical_views(
         (IsAcceptedFor atoms.now (with_heads (Classical (map formula_of formulas.now)) (assumed rules assumptions.now)) (map (λ f. formula_of f.now) beliefs.now) r.0.items)
         r.1) }
 {
+    if beliefs.is_empty() {
+        return view_of_nothing(alloc, certify);
+    }
     let (mut clauses, mut found) = kept_formulas(alloc, known, formulas, beliefs, atoms)?;
     let shown = followed_view(
         alloc,

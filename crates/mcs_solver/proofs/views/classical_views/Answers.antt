@@ -1,4 +1,7 @@
-use Rattle.std.proofs.Common.{◌∙◌, ◌++◌, ℕ, List, [], ◌∷◌, refl, map, sym, ap, subst}
+use Rattle.std.proofs.Common.{◌≡◌, ◌∙◌, ◌++◌, ℕ, List, [], ◌∷◌, length, refl, map, sym, ap, subst, arith}
+use Rattle.std.proofs.lemmas.Bool.Decides.{nat_tests}
+use Rattle.std.proofs.lemmas.Grind.{common_steps}
+use Rattle.std.proofs.lemmas.Result.{IfOk-weaker}
 use Rattle.mcs_sets.specs.Orders.{StateBefore}
 use Rattle.mcs_base.specs.Listings.{IsListing}
 use Rattle.mcs_system.specs.Plain.{Classical}
@@ -9,6 +12,7 @@ use Rattle.mcs_classical.specs.Assumptions.{assumed}
 use Rattle.mcs_asking.specs.Certificates.{IsAcceptedFor}
 use Rattle.mcs_solver.specs.Certified.{IsCertified}
 use Rattle.mcs_solver.proofs.KindLemmas.{still_made}
+use Rattle.mcs_solver.proofs.ViewLemmas.{no_beliefs}
 use Rattle.mcs_solver.proofs.views.classical_views.Goals as goal
 
 pub followed_view-shown-requires-clause-room : goal.followed_view-shown-requires-clause-room
@@ -49,3 +53,15 @@ returns-in-Ok-clause-certified c =
     let pushed = c.in-Ok.ensures.items ∙ ap (λ (xs : List ℕ). xs ++ c.in_ok-view.view ∷ []) c.new-views.ensures.items in
     subst (λ (xs : List ℕ). IsCertified c.args.certify (IsAcceptedFor c.args.atoms.now (Classical (fs ++ assumed c.args.rules c.args.assumptions.now)) (map (λ f. formula_of f.now) c.args.beliefs.now) xs) c.in_ok-view.cert) (sym pushed)
     (c.in_ok-view.ensures.certified fs made.0 c.requires.formulas)
+
+pub returns-then-is_empty-clause-exact : goal.returns-then-is_empty-clause-exact
+returns-then-is_empty-clause-exact c =
+    let empty : length c.args.beliefs.now ≡ 0 = grind (arith, nat_tests, common_steps, c.is_empty.ensures, c.if-is_empty.true) in
+    let none : map (λ f. formula_of f.now) c.args.beliefs.now ≡ [] = no_beliefs (λ f. formula_of f.now) c.args.beliefs.now empty in
+    rw none (IfOk-weaker c.view_of_nothing.result _ _ (λ r all. all (map formula_of c.args.formulas.now ++ assumed c.args.rules c.args.assumptions.now)) c.view_of_nothing.ensures.exact)
+
+pub returns-then-is_empty-clause-certified : goal.returns-then-is_empty-clause-certified
+returns-then-is_empty-clause-certified c =
+    let empty : length c.args.beliefs.now ≡ 0 = grind (arith, nat_tests, common_steps, c.is_empty.ensures, c.if-is_empty.true) in
+    let none : map (λ f. formula_of f.now) c.args.beliefs.now ≡ [] = no_beliefs (λ f. formula_of f.now) c.args.beliefs.now empty in
+    rw none (IfOk-weaker c.view_of_nothing.result _ _ (λ r all. all c.args.atoms.now (map formula_of c.args.formulas.now ++ assumed c.args.rules c.args.assumptions.now)) c.view_of_nothing.ensures.certified)
