@@ -59,13 +59,19 @@ class Build(Ground):
     def inside(self, *names):
         return os.path.join(self.top, *names)
 
+    def made(self, *names):
+        """The path of a file there, whose folder is made."""
+        path = self.inside(*names)
+        os.makedirs(os.path.dirname(path), exist_ok=True)
+        return path
+
     def read(self, *names):
         with open(self.inside(*names)) as file:
             return file.read()
 
     def around(self, kit):
         """The variables of a run of `build` with this text of an `rt`."""
-        self.script(os.path.join("bin", "rt"), '#!/bin/sh\n[ "$*" = ci ] || exit 9\nroom="$OUTSIDE"\n' + kit)
+        self.script(os.path.join("bin", "rt"), '#!/bin/sh\n[ "$1" = ci ] || exit 9\nroom="$OUTSIDE"\necho "$*" >> "$room/calls"\n' + kit)
         return {"PATH": os.path.join(self.room, "bin") + os.pathsep + os.environ["PATH"], "OUTSIDE": self.room,
                 "TMPDIR": os.path.join(self.room, "temporary files")}
 
@@ -89,6 +95,18 @@ class Build(Ground):
             self.assertIn(path, files)
         for path in ("./crates/tests", "./crates/beside", "./crates/low/out", "./crates/low/must-fail"):
             self.assertNotIn(path, files)
+
+    def test_large_crates_come_first(self):
+        for name in ("mcs_system", "mcs_sat"):
+            self.file(self.made("crates", name, "src", "lib.rt"), "\n")
+        self.file(self.inside("crates.txt"), "mcs_system:\nmcs_sat: mcs_system\nmcs: mcs_sat\n")
+        kit = 'for name in ${2:-mcs_system mcs_sat mcs}; do echo "== $name"; echo "rt: $name proved"; done\n'
+        status, _, noted = self.built(kit + MAKES)
+        self.assertEqual(status, 0, noted)
+        with open(os.path.join(self.room, "calls")) as file:
+            self.assertEqual(file.read(), "ci mcs_system\nci mcs_sat\nci\n")
+        told = re.findall(r"build: (\d) of 3 crates, .*: (\w+) is proved", noted)
+        self.assertEqual(told, [("1", "mcs_system"), ("2", "mcs_sat"), ("3", "mcs")])
 
     def test_a_line_tells_of_each_crate(self):
         status, _, noted = self.built(SAYS + MAKES)
