@@ -10,5 +10,12 @@ use std::process::ExitCode;
 fn main(rt: HostRuntime) -> ExitCode {
     let mut shelf = FileShelf::new(&rt);
     let mut sink = StdSink::new(rt.stdout(), rt.stderr());
-    ExitCode::from(run_program(rt.alloc(), env::args(&rt), &mut shelf, &mut sink, &IdleGate))
+    ExitCode::from(run_program(
+        &rt,
+        rt.alloc(),
+        env::args(&rt),
+        &mut shelf,
+        &mut sink,
+        &IdleGate,
+    ))
 }

@@ -48,7 +48,7 @@ needed_of m level i x less taken question = elim (decided_always m) [
 
 -- ---- what the work tells of the oracles
 abbrev pub start_of : System → List OracleState → EvaluatorState
-start_of m os = evaluator_state_of m 4294967295 None None os
+start_of m os = evaluator_state_of 1 m 4294967295 None None os
 
 module _ (m : System) (os : List OracleState) (each : length os ≡ length m.contexts) (e : EvaluatorState) where
   pub told_listing : (text : List ℕ) → IsDone Solve [] (start_of m os) e (Some []) (Some text) → IsWholeListing m text × HoldAll m os

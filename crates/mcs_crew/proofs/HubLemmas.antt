@@ -21,7 +21,7 @@ use Rattle.mcs_import.proofs.OrderLemmas.{import_order_exists, supplied_in_range
 use Rattle.mcs_node.proofs.HandlingLemmas.{supplied_apart}
 use Rattle.mcs_node.specs.Letters.{LetterData}
 use Rattle.mcs_wire.specs.Ends.{AddressData, InboxData, SettledData, less_one, one_part, with_joined}
-use Rattle.mcs_crew.specs.Hubs.{AreEnds, AreJoinable, AreNewLoads, AreSettled, AreSplitOff, AreWires, Brings, CanComeBack, CanEnd, HaveComeBack, HaveEnded, IsCrew, IsNewLoad, WasSentBy, awaited_by, joined_each, with_parts}
+use Rattle.mcs_crew.specs.Hubs.{AreEnds, AreJoinable, AreNewLoads, AreSettled, AreSplitOff, AreWires, Brings, CanComeBack, CanEnd, HaveComeBack, HaveEnded, IsEquipment, IsNewLoad, WasSentBy, awaited_by, joined_each, with_parts}
 use Rattle.mcs_crew.specs.Loads.{LoadData}
 use Rattle.mcs_crew.specs.Teams.{seat_room, unsent}
 use Rattle.mcs_base.proofs.Placed.{eq_differs, eq_same, same_at}
@@ -193,7 +193,7 @@ module _ (m : System) (groups : ℕ) (ps : List AddressData) (is : List InboxDat
 pub loads_none : (m : System) (groups top : ℕ) (word : TableId) (ps : List AddressData) (is : List InboxData) → AreNewLoads m groups 0 top word ps is []
 loads_none m groups top word ps is = record { one_each = refl; each = λ g i l at at'. absurd (none-some l at') }
 
-pub loads_more : (m : System) (groups many top : ℕ) (word : TableId) (ps : List AddressData) (is : List InboxData) (ls : List LoadData) (l : LoadData) (i : InboxData)
+loads_more : (m : System) (groups many top : ℕ) (word : TableId) (ps : List AddressData) (is : List InboxData) (ls : List LoadData) (l : LoadData) (i : InboxData)
     → AreNewLoads m groups many top word ps is ls → slice_get is many ≡ Some i → IsNewLoad m groups many top word ps i l → AreNewLoads m groups (many + 1) top word ps is (ls ++ l ∷ [])
 loads_more m groups many top word ps is ls l i new at one = record {
   one_each = (let long = new.one_each in let more = length-append ls (l ∷ []) in omega (arith, long, more));
@@ -207,12 +207,18 @@ loads_more m groups many top word ps is ls l i new at one = record {
 }
 
 -- a load whose addresses were split off lessened ones is as new
-pub new_load_over : (m : System) (groups g top : ℕ) (word : TableId) (ps bs : List AddressData) (i : InboxData) (l : LoadData) → map (with_parts 1) bs ≡ map (with_parts 1) ps → IsNewLoad m groups g top word bs i l → IsNewLoad m groups g top word ps i l
+new_load_over : (m : System) (groups g top : ℕ) (word : TableId) (ps bs : List AddressData) (i : InboxData) (l : LoadData) → map (with_parts 1) bs ≡ map (with_parts 1) ps → IsNewLoad m groups g top word bs i l → IsNewLoad m groups g top word ps i l
 new_load_over m groups g top word ps bs i l same new = record { nodes = new.nodes; addresses_are = new.addresses_are ∙ same; word_is = new.word_is; account = new.account; inbox_is = new.inbox_is; left = new.left }
 
-pub new_load_first : (m : System) (groups g many : ℕ) (word : TableId) (ps bs : List AddressData) (s0 s : SeatData) (i : InboxData) (l : LoadData) → AreSplitOff many ps s0 bs s → IsNewLoad m groups g s.account.top word bs i l → IsNewLoad m groups g s0.account.top word ps i l
+new_load_first : (m : System) (groups g many : ℕ) (word : TableId) (ps bs : List AddressData) (s0 s : SeatData) (i : InboxData) (l : LoadData) → AreSplitOff many ps s0 bs s → IsNewLoad m groups g s.account.top word bs i l → IsNewLoad m groups g s0.account.top word ps i l
 new_load_first m groups g many word ps bs s0 s i l off new =
     subst (λ (top : ℕ). IsNewLoad m groups g top word ps i l) off.top (new_load_over m groups g s.account.top word ps bs i l off.same new)
+
+-- the load of the next group is new
+pub loads_next : (m : System) (groups many place : ℕ) (word : TableId) (ps bs : List AddressData) (is : List InboxData) (s0 s : SeatData) (ls : List LoadData) (l : LoadData) (i : InboxData)
+    → AreNewLoads m groups many s0.account.top word ps is ls → AreSplitOff many ps s0 bs s → slice_get is many ≡ Some i → place ≡ many → IsNewLoad m groups place s.account.top word bs i l → AreNewLoads m groups (many + 1) s0.account.top word ps is (ls ++ l ∷ [])
+loads_next m groups many place word ps bs is s0 s ls l i loads off next at new =
+    loads_more m groups many s0.account.top word ps is ls l i loads next (new_load_first m groups many many word ps bs s0 s i l off (subst (λ (n : ℕ). IsNewLoad m groups n s.account.top word bs i l) at new))
 
 -- the first load of those with these parts
 pub is_new_load : (m : System) (groups g : ℕ) (word : TableId) (ps new : List AddressData) (s : SeatData) (i : InboxData) (l : LoadData) → l.team.nodes ≡ [] → l.team.addresses ≡ new → new ≡ map one_part ps → l.team.seat.word ≡ word → l.team.seat.account ≡ split_off seat_room s.account
@@ -282,7 +288,21 @@ come_back_none asked word ps s all can = record {
   top = λ bound low all. (let top = ap (λ (a : Account). a.top) can.account in omega (arith, top, low));
 }
 
-module _ (asked : ℕ) (word : TableId) (wires ps : List AddressData) (s : SeatData) (ls : List LoadData) (l : LoadData) (back : HaveComeBack asked wires ls ps s) (few : length ls < 64) (brings : Brings word wires l) where
+-- where an item stands next among all, its image does among all images
+pub next_image : {A B : Type 0} (f : A → B) (all before : List A) (x : A) → slice_get all (length before) ≡ Some x → slice_get (map f all) (length (map f before)) ≡ Some (f x)
+next_image f all before x at = ap (λ (k : ℕ). slice_get (map f all) k) (length-map before f) ∙ slice_get-map_some f all (length before) x at
+
+-- the next of all loads comes back
+module _ (asked : ℕ) (word : TableId) (wires ps : List AddressData) (first s : SeatData) (all ls : List LoadData) (l : LoadData) (can : CanComeBack asked word wires first all) (next : slice_get all (length ls) ≡ Some l) (back : HaveComeBack asked wires ls ps s) where
+  brings : Brings word wires l
+  brings = can.each (length ls) l next
+
+  few : length ls < 64
+  few = let within = slice_get_within all (length ls) l next in let most = can.few in omega (arith, within, most)
+
+  pub next_word : l.team.seat.word ≡ word
+  next_word = brings.word_is
+
   -- the wires that both are of
   wire_at : (g : ℕ) (a b : AddressData) → slice_get ps g ≡ Some a → slice_get l.team.addresses g ≡ Some b → (b.wire ≡ a.wire) × (b.parts ≡ 1)
   wire_at g a b at at' =
@@ -301,7 +321,7 @@ module _ (asked : ℕ) (word : TableId) (wires ps : List AddressData) (s : SeatD
   joinable = record {
     many = long;
     wires = λ g a b at at'. (wire_at g a b at at').0;
-    fits = λ g a b at at'. (let less = back.few g a at in let short = brings.short g b at' in omega (arith, less, short, few));
+    fits = λ g a b at at'. (let less = back.few g a at in let short = brings.short g b at' in let most = few in omega (arith, less, short, most));
   }
 
   joined_wires : (xs ys : List AddressData) → length ys ≡ length xs → map (with_parts 1) (joined_each xs ys) ≡ map (with_parts 1) xs
@@ -425,7 +445,7 @@ settled_more ps is ws a i w settled at plan sent got = record {
   ];
 }
 
--- ---- a crew
+-- ---- the equipment of a round
 module _ (m : System) (groups asked : ℕ) (draw : DrawData) (ps bs : List AddressData) (is : List InboxData) (s t : SeatData) (ls : List LoadData)
     (wires : AreWires m groups groups ps is) (off : AreSplitOff groups ps s bs t) (loads : AreNewLoads m groups groups asked draw.word ps is ls) where
   many_kept : length bs ≡ groups
@@ -437,8 +457,8 @@ module _ (m : System) (groups asked : ℕ) (draw : DrawData) (ps bs : List Addre
       let (i, inbox) = slice_get_below is g (let within = slice_get_within ps g a there in let long = wires.addresses_are in let long' = wires.inboxes_are in omega (arith, within, long, long')) in
       (a, i, there, inbox, ap (λ (z : AddressData). z.wire) same)
 
-  pub crew_is : draw.base ≡ asked → draw.room ≡ 1 + seat_room * groups → t.word ≡ draw.word → s.account ≡ record { left = 1 + seat_room * groups; drawn = 0; top = asked } → IsCrew m groups asked draw bs t ls
-  crew_is base room word account = record {
+  pub equipment_is : draw.base ≡ asked → draw.room ≡ 1 + seat_room * groups → t.word ≡ draw.word → s.account ≡ record { left = 1 + seat_room * groups; drawn = 0; top = asked } → IsEquipment m groups asked draw bs t ls
+  equipment_is base room word account = record {
     base = base;
     room = room;
     word = word;

@@ -1,6 +1,7 @@
--- A round by groups, from its crew to what is told of it.
+-- A round by groups, from its equipment to what is told of it.
 use Rattle.std.proofs.Common.{◌≡◌, ℕ, zero, suc, Result, ◌+◌, ◌*◌, ◌%◌, ◌<◌, ◌≤◌, List, [], ◌∷◌, ◌++◌, map, take, drop, length, length-append, replicate, Some, slice_get, slice_set, refl, sym, ap, ◌∙◌, subst, arith}
 use Rattle.std.proofs.lemmas.List.{append_assoc, length-map}
+use Rattle.std.proofs.lemmas.Simd.{map-map}
 use Rattle.std.proofs.lemmas.Option.{slice_get_within}
 use Rattle.std.specs.List.{AllByRecursion, AllZip}
 use Rattle.mcs_base.proofs.Lists.{length_same_images, length_zip, map_slice_get, slice_get-map_some, slice_get_below}
@@ -18,7 +19,7 @@ use Rattle.mcs_crew.specs.declared.load.Load.{Load}
 use Rattle.mcs_crew.specs.Calls.{load_of, nodes_in, without_nodes}
 use Rattle.mcs_crew.specs.Children.{HasWorked, IsGiven}
 use Rattle.mcs_base.specs.Groups.{AreShapedAs, grouped}
-use Rattle.mcs_crew.specs.Hubs.{Brings, CanEnd, HaveEnded, IsCrew, IsNewLoad, with_parts}
+use Rattle.mcs_crew.specs.Hubs.{Brings, CanEnd, HaveEnded, IsEquipment, IsNewLoad, with_parts}
 use Rattle.mcs_crew.specs.Loads.{IsAtWork, LoadData, Worked, emptied}
 use Rattle.mcs_mesh.specs.Rounds.{round_of}
 use Rattle.mcs_crew.specs.Rounds.{HaveBeenPlayed, IsTold}
@@ -26,7 +27,7 @@ use Rattle.mcs_crew.specs.Teams.{seat_room, unsent}
 use Rattle.mcs_crew.specs.Trails.{IsShown, IsTrail, TrailData, group_count, shared}
 use Rattle.mcs_base.proofs.GroupLemmas.{IsCollecting, collecting_begun, collecting_ends, collecting_more, collecting_some, dealt_more, grouped_short}
 use Rattle.mcs_base.proofs.Placed.{same_at, zip_back}
-use Rattle.mcs_crew.proofs.RoundLemmas.{have_been_played, map_twice, same_back, work_begun}
+use Rattle.mcs_crew.proofs.RoundLemmas.{have_been_played, same_back, work_begun}
 use Rattle.mcs_crew.proofs.TeamSteps.{few_each}
 
 -- ---- loads without nodes
@@ -34,11 +35,11 @@ pub made_empty : {O : Type 0} (loads : List (Load O)) → ((k : ℕ) (l : Load O
 made_empty [] none = refl
 made_empty (l ∷ loads) none = ap (λ (ns : List NodeData). ns ∷ nodes_in loads) (none 0 l refl) ∙ ap (λ (nss : List (List NodeData)). [] ∷ nss) (made_empty loads (λ k x at. none (suc k) x at))
 
--- those of a crew are
-pub crew_empty : {O : Type 0} (m : System) (w asked : ℕ) (draw : DrawData) (hub : List AddressData) (seat : SeatData) (made : List (Load O)) → IsCrew m w asked draw hub seat (map load_of made) → nodes_in made ≡ replicate (length made) []
-crew_empty m w asked draw hub seat made crew = made_empty made (λ k l at. (
-    let (i, inbox) = slice_get_below crew.inboxes k (let within = slice_get_within made k l at in let many = length-map made load_of in let each = crew.new.one_each in let long = crew.long in omega (arith, within, many, each, long)) in
-    (crew.new.each k i (load_of l) inbox (slice_get-map_some load_of made k l at)).nodes))
+-- those of new equipment are
+pub equipment_empty : {O : Type 0} (m : System) (w asked : ℕ) (draw : DrawData) (hub : List AddressData) (seat : SeatData) (made : List (Load O)) → IsEquipment m w asked draw hub seat (map load_of made) → nodes_in made ≡ replicate (length made) []
+equipment_empty m w asked draw hub seat made equipment = made_empty made (λ k l at. (
+    let (i, inbox) = slice_get_below equipment.inboxes k (let within = slice_get_within made k l at in let many = length-map made load_of in let each = equipment.new.one_each in let long = equipment.long in omega (arith, within, many, each, long)) in
+    (equipment.new.each k i (load_of l) inbox (slice_get-map_some load_of made k l at)).nodes))
 
 -- what holds of all holds after a change at one place
 pub all_set : {A : Type 0} (P : A → Type 0) (xs : List A) (i : ℕ) (y : A) → AllByRecursion P xs → P y → AllByRecursion P (slice_set xs i y)
@@ -128,9 +129,9 @@ worked_shape (x ∷ xs) (y ∷ ys) all =
     ∙ ap (λ (ns : List ℕ). length y.team.nodes.items ∷ ns) (worked_shape xs ys all.1)
 
 -- ---- a round that goes out and comes back
--- the loads of a crew went out, with the nodes that have begun the round
+-- the loads of the equipment went out, with the nodes that have begun the round
 pub record HasGoneOut {O : Type 0} (m : System) (level asked w : ℕ) (first : List NodeData) (draw : DrawData) (hub : List AddressData) (seat : SeatData) (made dealt : List (Load O)) : Type 0 where
-  pub crew : IsCrew m w asked draw hub seat (map load_of made)
+  pub equipment : IsEquipment m w asked draw hub seat (map load_of made)
   pub nodes : nodes_in dealt ≡ grouped w 0 (map (begun_at level) first)
   pub rest : map without_nodes dealt ≡ map without_nodes made
 
@@ -145,19 +146,19 @@ loads_back made seen now n same rest all = written_back made now n (length_same_
 
 -- by what the calls say that make it go out
 pub gone_out : {O : Type 0} (m : System) (level asked w : ℕ) (first seen begun : List NodeData) (n : ℕ) (draw : DrawData) (hub : List AddressData) (seat : SeatData) (made shown dealt : List (Load O)) → seen ≡ first → begun ≡ map (begun_at level) seen → n ≡ length first
-    → IsCrew m w asked draw hub seat (map load_of made) → shown ≡ made → nodes_in dealt ≡ grouped (length shown) 0 (take n (begun ++ drop (length begun) first)) → map without_nodes dealt ≡ map without_nodes shown → HasGoneOut m level asked w first draw hub seat made dealt
-gone_out m level asked w first seen begun n draw hub seat made shown dealt same is all crew same_loads groups rest = record {
-  crew = crew;
+    → IsEquipment m w asked draw hub seat (map load_of made) → shown ≡ made → nodes_in dealt ≡ grouped (length shown) 0 (take n (begun ++ drop (length begun) first)) → map without_nodes dealt ≡ map without_nodes shown → HasGoneOut m level asked w first draw hub seat made dealt
+gone_out m level asked w first seen begun n draw hub seat made shown dealt same is all equipment same_loads groups rest = record {
+  equipment = equipment;
   nodes = groups
       ∙ ap (λ (ns : List NodeData). grouped (length shown) 0 ns) (begun_back level first seen begun n same is all)
-      ∙ ap (λ (k : ℕ). grouped k 0 (map (begun_at level) first)) (ap (λ (ls : List (Load _)). length ls) same_loads ∙ sym (length-map made load_of) ∙ crew.new.one_each);
+      ∙ ap (λ (k : ℕ). grouped k 0 (map (begun_at level) first)) (ap (λ (ls : List (Load _)). length ls) same_loads ∙ sym (length-map made load_of) ∙ equipment.new.one_each);
   rest = rest ∙ ap (map without_nodes) same_loads;
 }
 
 module _ {O : Type 0} (m : System) (level budget asked w : ℕ) (first : List NodeData) (ready : IsReadyRound m level budget asked first) (valid : IsValid m) (some : 0 < w) (few : w ≤ 64)
     (draw : DrawData) (hub : List AddressData) (seat : SeatData) (made dealt : List (Load O)) (out : HasGoneOut m level asked w first draw hub seat made dealt) where
   many_made : length made ≡ w
-  many_made = sym (length-map made load_of) ∙ out.crew.new.one_each
+  many_made = sym (length-map made load_of) ∙ out.equipment.new.one_each
 
   many_dealt : length dealt ≡ w
   many_dealt = length_same_images without_nodes without_nodes dealt made out.rest ∙ many_made
@@ -167,9 +168,9 @@ module _ {O : Type 0} (m : System) (level budget asked w : ℕ) (first : List No
   new_at g l at =
       let (n, there, same) = same_at without_nodes dealt made out.rest g l at in
       let within = slice_get_within dealt g l at in
-      let (i, inbox) = slice_get_below out.crew.inboxes g (let long = out.crew.long in let many = many_dealt in omega (arith, within, long, many)) in
-      let (a, address) = slice_get_below hub g (let long = out.crew.one_each in let many = many_dealt in omega (arith, within, long, many)) in
-      (n, i, out.crew.new.each g i (load_of n) inbox (slice_get-map_some load_of made g n there), same, (out.crew.inboxes_are g a i address inbox).1, λ b at'. (out.crew.inboxes_are g b i at' inbox).0)
+      let (i, inbox) = slice_get_below out.equipment.inboxes g (let long = out.equipment.long in let many = many_dealt in omega (arith, within, long, many)) in
+      let (a, address) = slice_get_below hub g (let long = out.equipment.one_each in let many = many_dealt in omega (arith, within, long, many)) in
+      (n, i, out.equipment.new.each g i (load_of n) inbox (slice_get-map_some load_of made g n there), same, (out.equipment.inboxes_are g a i address inbox).1, λ b at'. (out.equipment.inboxes_are g b i at' inbox).0)
 
   -- the loads go out as they should
   pub given_at : (g : ℕ) (l : Load O) → slice_get dealt g ≡ Some l → IsAtWork (round_of m level budget ready.before) asked (load_of l) × (l.team.seat.word ≡ draw.word)
@@ -178,8 +179,8 @@ module _ {O : Type 0} (m : System) (level budget asked w : ℕ) (first : List No
       let there : slice_get (grouped w 0 (map (begun_at level) first)) g ≡ Some l.team.nodes.items = subst (λ (groups : List (List NodeData)). slice_get groups g ≡ Some l.team.nodes.items) out.nodes (slice_get-map_some (λ (x : Load O). x.team.nodes.items) dealt g l at) in (
         work_begun m level budget asked w first ready valid some g l.team.nodes.items there (load_of l) hub refl
             (sym (ap (λ (x : LoadData). x.team.addresses) same) ∙ new.addresses_are)
-            (λ h a at'. (out.crew.kept h a at').0)
-            out.crew.one_each
+            (λ h a at'. (out.equipment.kept h a at').0)
+            out.equipment.one_each
             (sym (ap (λ (x : LoadData). x.team.seat.account) same) ∙ new.account)
             (sym (ap (λ (x : LoadData). x.inbox.taken) same) ∙ ap (λ (x : InboxData). x.taken) new.inbox_is ∙ taken)
             (λ order ordered. sym (ap (λ (x : LoadData). x.left) same) ∙ new.left order ordered),
@@ -227,16 +228,16 @@ module _ {O : Type 0} (m : System) (level budget asked w : ℕ) (first : List No
         let long = length-map back without_nodes in
         let many = many_back in record {
           back = record {
-            kept = λ g a at. (let k = out.crew.kept g a at in (k.2, k.3));
-            word_is = out.crew.word;
-            account = out.crew.account;
+            kept = λ g a at. (let k = out.equipment.kept g a at in (k.2, k.3));
+            word_is = out.equipment.word;
+            account = out.equipment.account;
             few = omega (arith, long, many, few);
             each = λ k l at. (let (b, there, is) = map_slice_get without_nodes back k l at in subst (λ (x : LoadData). Brings draw.word hub x) is (brings_at k b there));
           };
-          base = out.crew.base;
-          room = out.crew.room ∙ ap (λ (n : ℕ). 1 + seat_room * n) (sym (long ∙ many));
-          many = out.crew.one_each ∙ sym (long ∙ many);
-          parts = λ g a at. (let k = out.crew.kept g a at in k.1 ∙ ap (λ (n : ℕ). n + 1) (sym (long ∙ many)));
+          base = out.equipment.base;
+          room = out.equipment.room ∙ ap (λ (n : ℕ). 1 + seat_room * n) (sym (long ∙ many));
+          many = out.equipment.one_each ∙ sym (long ∙ many);
+          parts = λ g a at. (let k = out.equipment.kept g a at in k.1 ∙ ap (λ (n : ℕ). n + 1) (sym (long ∙ many)));
           inboxes = λ g a l at at'. (let (b, there, is) = map_slice_get without_nodes back g l at' in subst (λ (x : LoadData). x.inbox.wire ≡ a.wire) is (wire_at g b there a at));
         }
 
@@ -252,10 +253,10 @@ module _ {O : Type 0} (m : System) (level budget asked w : ℕ) (first : List No
     -- ---- and their nodes are collected
     module _ (after : List NodeData) (collected : nodes_in back ≡ grouped w 0 after) (all : length after ≡ length first) where
       dealt_image : map (λ (l : LoadData). l.team.nodes) (map load_of dealt) ≡ grouped w 0 (map (begun_at level) first)
-      dealt_image = map_twice (λ (l : LoadData). l.team.nodes) load_of dealt ∙ out.nodes
+      dealt_image = map-map (λ (l : LoadData). l.team.nodes) load_of dealt ∙ out.nodes
 
       back_image : map (λ (l : LoadData). l.team.nodes) (map load_of back) ≡ grouped w 0 after
-      back_image = map_twice (λ (l : LoadData). l.team.nodes) load_of back ∙ collected
+      back_image = map-map (λ (l : LoadData). l.team.nodes) load_of back ∙ collected
 
       pub played_same : map as_new after ≡ map as_new first
       played_same = same_back level w some first after (map load_of dealt) (map load_of back) dealt_image images_worked back_image all
@@ -265,7 +266,61 @@ module _ {O : Type 0} (m : System) (level budget asked w : ℕ) (first : List No
 
       pub played_all : (wires : List SettledData) (word : ClosedData) → HaveEnded asked hub (map without_nodes back) wires word → HaveBeenPlayed m level budget asked ready.before w after wires word
       played_all wires word ended = have_been_played m level budget asked w first ready some (map load_of dealt) (map load_of back) after hub wires word given_image dealt_image images_worked back_image all
-          (λ g a at. (out.crew.kept g a at).0) out.crew.one_each (subst (λ (ls : List LoadData). HaveEnded asked hub ls wires word) (sym (map_twice emptied load_of back)) ended)
+          (λ g a at. (out.equipment.kept g a at).0) out.equipment.one_each (subst (λ (ls : List LoadData). HaveEnded asked hub ls wires word) (sym (map-map emptied load_of back)) ended)
+
+-- ---- by what its calls say, one after the other
+module _ {O : Type 0} (m : System) (level budget asked w : ℕ) (first seen begun : List NodeData) (n : ℕ) (draw : DrawData) (hub : List AddressData) (seat : SeatData) (made shown dealt : List (Load O)) (k : ℕ)
+    (ready : IsReadyRound m level budget asked first) (valid : IsValid m) (groups : (2 ≤ w) × (w ≤ 64))
+    (sees : seen ≡ first) (begins : begun ≡ map (begun_at level) seen) (all : n ≡ length first)
+    (equipment : IsEquipment m w asked draw hub seat (map load_of made)) (shows : shown ≡ made) (deals : nodes_in dealt ≡ grouped (length shown) 0 (take n (begun ++ drop (length begun) first))) (rest : map without_nodes dealt ≡ map without_nodes shown) (full : k ≡ length made) where
+  out : HasGoneOut m level asked w first draw hub seat made dealt
+  out = gone_out m level asked w first seen begun n draw hub seat made shown dealt sees begins all equipment shows deals rest
+
+  some : 0 < w
+  some = let two = groups.0 in omega (arith, two)
+
+  sent : take k (dealt ++ drop (length dealt) made) ≡ dealt
+  sent = loads_back made shown dealt k shows rest full
+
+  pub round_given : AllByRecursion (IsGiven draw.word) (take k (dealt ++ drop (length dealt) made))
+  round_given = subst (λ (ls : List (Load O)). AllByRecursion (IsGiven draw.word) ls) (sym sent) (given_all m level budget asked w first ready valid some groups.1 draw hub seat made dealt out)
+
+  module _ (back third : List (Load O)) (works : AllZip HasWorked (take k (dealt ++ drop (length dealt) made)) back) (thirds : third ≡ back) where
+    worked : AllZip HasWorked dealt back
+    worked = subst (λ (ls : List (Load O)). AllZip HasWorked ls back) sent works
+
+    pub round_some : 0 < length third
+    round_some = let many = many_back m level budget asked w first ready valid some groups.1 draw hub seat made dealt out back worked in let same = ap (λ (ls : List (Load O)). length ls) thirds in let more = some in omega (arith, many, same, more)
+
+    pub round_shape : (contexts : ℕ) → contexts ≡ n → (was : List NodeData) × (length was ≡ contexts) × AreShapedAs (grouped (length third) 0 was) (nodes_in third)
+    round_shape contexts count = (
+      map (begun_at level) first,
+      length-map first (begun_at level) ∙ sym (count ∙ all),
+      subst (λ (ls : List (Load O)). AreShapedAs (grouped (length ls) 0 (map (begun_at level) first)) (nodes_in ls)) (sym thirds) (shape_back m level budget asked w first ready valid some groups.1 draw hub seat made dealt out back worked),
+    )
+
+    module _ (last : List (Load O)) (kept : map without_nodes last ≡ map without_nodes third) (j : ℕ) (every : j ≡ length back) where
+      ends : map without_nodes (take j (last ++ drop (length last) back)) ≡ map without_nodes back
+      ends = ap (map without_nodes) (loads_back back third last j thirds kept every) ∙ kept ∙ ap (map without_nodes) thirds
+
+      pub round_can_end : CanEnd asked draw hub seat (map without_nodes (take j (last ++ drop (length last) back)))
+      round_can_end = subst (λ (ls : List LoadData). CanEnd asked draw hub seat ls) (sym ends) (can_end m level budget asked w first ready valid some groups.1 draw hub seat made dealt out back worked)
+
+      module _ (after : List NodeData) (collects : nodes_in third ≡ grouped (length third) 0 after) (contexts : ℕ) (count : contexts ≡ n) (whole : length after ≡ contexts) where
+        collected : nodes_in back ≡ grouped w 0 after
+        collected =
+            ap nodes_in (sym thirds)
+            ∙ collects
+            ∙ ap (λ (i : ℕ). grouped i 0 after) (ap (λ (ls : List (Load O)). length ls) thirds ∙ many_back m level budget asked w first ready valid some groups.1 draw hub seat made dealt out back worked)
+
+        pub round_same : map as_new after ≡ map as_new first
+        round_same = played_same m level budget asked w first ready valid some groups.1 draw hub seat made dealt out back worked after collected (whole ∙ count ∙ all)
+
+        pub round_played : (wires : List SettledData) (word : ClosedData) → ((asked : ℕ) → CanEnd asked draw hub seat (map without_nodes (take j (last ++ drop (length last) back))) → HaveEnded asked hub (map without_nodes (take j (last ++ drop (length last) back))) wires word)
+            → HaveBeenPlayed m level budget asked ready.before w after wires word
+        round_played wires word end =
+            played_all m level budget asked w first ready valid some groups.1 draw hub seat made dealt out back worked after collected (whole ∙ count ∙ all) wires word
+            (subst (λ (ls : List LoadData). HaveEnded asked hub ls wires word) ends (end asked round_can_end))
 
 -- ---- what is told in the end
 -- where there are so many groups

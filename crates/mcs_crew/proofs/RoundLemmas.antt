@@ -4,6 +4,7 @@ use Rattle.std.proofs.lemmas.Bool.{and_parts}
 use Rattle.std.proofs.lemmas.List.{length-map}
 use Rattle.std.proofs.lemmas.List.FromFn.{length-range_with_len}
 use Rattle.std.proofs.lemmas.List.Sums.{sum_by-cons}
+use Rattle.std.proofs.lemmas.Simd.{map-map}
 use Rattle.std.proofs.lemmas.Option.{none-some, same_Some, slice_get_within}
 use Rattle.std.specs.List.{AllByRecursion, AllZip, range_with_len, sum_by}
 use Rattle.mcs_base.specs.Listings.{IsAmong, IsListing}
@@ -226,28 +227,34 @@ same_stamp_is s t e =
     let stop = same_bool_is s.stop t.stop c.1 in
     λ i. record { level = level i; from = from i; to = to i; stop = stop i }
 
--- each letter that the team has sent was put out by one of its nodes
-pub sent_put_out : (r : Round) (asked : ℕ) (t : TeamData) → IsTeam r asked t → (g : ℕ) (a : AddressData) (l : LetterData) → slice_get t.addresses g ≡ Some a → IsAmong l a.sent → WasPutOut t.nodes l
-sent_put_out r asked t team g a l at among =
-    let one : Stamp → ℕ = λ s. cond (same_stamp (stamp_of l) s) 1 0 in
-    let here : one (stamp_of l) ≡ 1 = ap (λ (b : Bool). cond b 1 0) (same_stamp_same (stamp_of l)) in
-    let by_address = sum_among (by_stamp one) a.sent l among in
-    let by_all = sum_among (λ (b : AddressData). sum_by (by_stamp one) b.sent) t.addresses a (among_get a t.addresses g at) in
-    let same = team.sent one in
-    let (d, among_d, more) = sum_some (λ (x : NodeData). sum_by one x.state.put_out) t.nodes (omega (arith, here, by_address, by_all, same)) in
-    let (x, among_x, is_one) = sum_some one d.state.put_out more in
-    let (p, there) = get_among d t.nodes among_d in
-    (p, d, there, subst (λ (y : Stamp). IsAmong y d.state.put_out) (sym (same_stamp_is (stamp_of l) x (shown (same_stamp (stamp_of l) x) is_one))) among_x)
+-- 1 for this stamp, and 0 for the others
+abbrev one_for : Stamp → Stamp → ℕ
+one_for s = λ t. cond (same_stamp s t) 1 0
+
+found_stamp : (s x : Stamp) (xs : List Stamp) → 1 ≤ one_for s x → IsAmong x xs → IsAmong s xs
+found_stamp s x xs some among = subst (λ (y : Stamp). IsAmong y xs) (sym (same_stamp_is s x (shown (same_stamp s x) some))) among
   where
     shown : (b : Bool) → 1 ≤ cond b 1 0 → b ≡ true
     shown true more = refl
     shown false more = absurd (omega (arith, more))
 
--- ---- all loads are back
-pub map_twice : {A B C : Type 0} (f : B → C) (g : A → B) (xs : List A) → map f (map g xs) ≡ map (λ x. f (g x)) xs
-map_twice f g [] = refl
-map_twice f g (x ∷ xs) = ap (λ ys. f (g x) ∷ ys) (map_twice f g xs)
+-- if these weigh something, it is one of them
+stamp_among : (s : Stamp) (xs : List Stamp) → 1 ≤ sum_by (one_for s) xs → IsAmong s xs
+stamp_among s xs more = let (x, among, some) = sum_some (one_for s) xs more in found_stamp s x xs some among
 
+-- each letter that the team has sent was put out by one of its nodes
+pub sent_put_out : (r : Round) (asked : ℕ) (t : TeamData) → IsTeam r asked t → (g : ℕ) (a : AddressData) (l : LetterData) → slice_get t.addresses g ≡ Some a → IsAmong l a.sent → WasPutOut t.nodes l
+sent_put_out r asked t team g a l at among =
+    let one = one_for (stamp_of l) in
+    let here : one (stamp_of l) ≡ 1 = ap (λ (b : Bool). cond b 1 0) (same_stamp_same (stamp_of l)) in
+    let by_address = sum_among (by_stamp one) a.sent l among in
+    let by_all = sum_among (λ (b : AddressData). sum_by (by_stamp one) b.sent) t.addresses a (among_get a t.addresses g at) in
+    let same = team.sent one in
+    let (d, among_d, more) = sum_some (λ (x : NodeData). sum_by one x.state.put_out) t.nodes (omega (arith, here, by_address, by_all, same)) in
+    let (p, there) = get_among d t.nodes among_d in
+    (p, d, there, stamp_among (stamp_of l) d.state.put_out more)
+
+-- ---- all loads are back
 module _ (level w : ℕ) (some : 0 < w) (first after : List NodeData) (ls bs : List LoadData)
     (dealt : map (λ (l : LoadData). l.team.nodes) ls ≡ grouped w 0 (map (begun_at level) first))
     (worked : AllZip Worked ls bs)
@@ -257,9 +264,9 @@ module _ (level w : ℕ) (some : 0 < w) (first after : List NodeData) (ls bs : L
   images_same : map (map as_new) (grouped w 0 after) ≡ map (map as_new) (grouped w 0 (map (begun_at level) first))
   images_same =
       ap (map (map as_new)) (sym collected)
-      ∙ map_twice (map as_new) (λ (b : LoadData). b.team.nodes) bs
+      ∙ map-map (map as_new) (λ (b : LoadData). b.team.nodes) bs
       ∙ sym (zip_map_same Worked (λ (l : LoadData). map as_new l.team.nodes) (λ (b : LoadData). map as_new b.team.nodes) (λ l b w. sym w.team.same) ls bs worked)
-      ∙ sym (map_twice (map as_new) (λ (l : LoadData). l.team.nodes) ls)
+      ∙ sym (map-map (map as_new) (λ (l : LoadData). l.team.nodes) ls)
       ∙ ap (map (map as_new)) dealt
 
   begun_same : (xs : List NodeData) → map as_new (map (begun_at level) xs) ≡ map as_new xs

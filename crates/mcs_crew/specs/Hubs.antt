@@ -62,7 +62,7 @@ pub record AreSplitOff (many : ℕ) (before : List AddressData) (seat : SeatData
   pub top : now.account.top ≡ seat.account.top
 
 -- the word, what the caller keeps, and new loads for all groups of a round
-pub record IsCrew (m : System) (groups asked : ℕ) (draw : DrawData) (addresses : List AddressData) (seat : SeatData) (loads : List LoadData) : Type 0 where
+pub record IsEquipment (m : System) (groups asked : ℕ) (draw : DrawData) (addresses : List AddressData) (seat : SeatData) (loads : List LoadData) : Type 0 where
   pub base : draw.base ≡ asked
   pub room : draw.room ≡ 1 + seat_room * groups
   pub word : seat.word ≡ draw.word

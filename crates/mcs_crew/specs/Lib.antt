@@ -5,6 +5,7 @@ pub mod Calls
 pub mod Hubs
 pub mod Children
 pub mod Trails
+pub mod Told
 pub mod Rounds
 pub mod Laws
 pub mod Crews

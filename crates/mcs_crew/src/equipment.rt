@@ -5,7 +5,7 @@ ghost use Rattle.std.specs.Arc.{arc_value};
 ghost use Rattle.std.specs.List.{AllByRecursion};
 ghost use Rattle.mcs_wire.specs.Ends.{AddressData};
 ghost use Rattle.mcs_crew.specs.Calls.{load_of};
-ghost use Rattle.mcs_crew.specs.Hubs.{AreNewLoads, AreSplitOff, AreWires, IsCrew, IsNewLoad};
+ghost use Rattle.mcs_crew.specs.Hubs.{AreNewLoads, AreSplitOff, AreWires, IsEquipment, IsNewLoad};
 ghost use Rattle.mcs_crew.specs.Teams.{seat_room};
 
 use crate::child::Child;
@@ -32,7 +32,7 @@ pub(crate) struct Hub {
 
 /// The word of a round, what the caller keeps, and the loads of all groups, without nodes.
 #[derive(Drop)]
-pub(crate) struct Crew<O: Oracle> {
+pub(crate) struct Equipment<O: Oracle> {
     pub draw: Draw,
     pub hub: Hub,
     pub loads: Vec<Load<O>>,
@@ -130,21 +130,21 @@ fn loads_of<O: Oracle>(
     Ok(loads)
 }
 
-/// The crew of so many groups. The word begins with the number of the questions that were asked before.
-pub(crate) fn crew_of<O: Oracle>(
+/// The equipment of so many groups. The word begins with the number of the questions that were asked before.
+pub(crate) fn equipment_of<O: Oracle>(
     alloc: Global,
     plan: &Arc<Plan>,
     asked: u64,
     groups: u32,
-) -> Result<Crew<O>, Memory>
+) -> Result<Equipment<O>, Memory>
     requires groups { (0 < groups) × (groups ≤ 64) }
     requires few { asked ≤ seat_room }
-    ensures crew { IfOk result (λ crew. IsCrew (arc_value plan.now) groups asked crew.draw crew.hub.addresses.items crew.hub.seat (map load_of crew.loads.items)) }
-    ensures room { IfOk result (λ crew. AllByRecursion (λ load. length (arc_value plan.now).contexts ≤ vec_capacity load.team.nodes) crew.loads.items) }
+    ensures equipped { IfOk result (λ e. IsEquipment (arc_value plan.now) groups asked e.draw e.hub.addresses.items e.hub.seat (map load_of e.loads.items)) }
+    ensures room { IfOk result (λ e. AllByRecursion (λ load. length (arc_value plan.now).contexts ≤ vec_capacity load.team.nodes) e.loads.items) }
 {
     let Wires { addresses, inboxes } = wires_of(alloc, plan, groups)?;
     let (draw, seat) = Draw::new(alloc, asked, SEAT_ROOM * groups as u64 + 1)?;
     let mut hub = Hub { addresses, seat };
     let loads = loads_of(alloc, plan, groups, &draw, &mut hub, inboxes)?;
-    Ok(Crew { draw, hub, loads })
+    Ok(Equipment { draw, hub, loads })
 }

@@ -17,7 +17,7 @@ mod taking;
 mod trail;
 mod wires;
 
-pub use laws::none_is_ignored;
+pub use laws::{none_is_ignored, one_letter_is_due};
 pub use player::{Crew, CrewPlayer};
 pub use playing::play_in_threads;
 pub use trail::Trail;

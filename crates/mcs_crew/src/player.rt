@@ -1,9 +1,10 @@
 //! A player whose rounds are played by threads, through a closure that is handed to it.
 
-ghost use Rattle.std.specs.Prelude.{◌≡◌};
+ghost use Rattle.std.specs.Prelude.{◌≡◌, true};
 ghost use Rattle.std.specs.Arc.{arc_value};
 ghost use Rattle.mcs_mesh.specs.Players.{IsPlayed, IsReadyRound};
 ghost use Rattle.mcs_crew.specs.Crews.{PlaysRounds};
+ghost use Rattle.mcs_crew.specs.Told.{HasEnded};
 ghost use Rattle.mcs_crew.specs.Trails.{IsTrail, trail_of};
 
 use crate::trail::Trail;
@@ -44,15 +45,22 @@ impl<'a, N: NodeList, F: Fn(Round<N>) -> Played<N, Trail>> Player for CrewPlayer
 
     ghost workers = { λ p. p.workers };
 
+    ghost plays_last = { true };
+
     ghost can_play = { λ p. PlaysRounds p.workers (λ r. arc_value r.plan) (λ r. r.level) (λ r. r.budget) (λ r. r.asked) (λ r. N.seen r.nodes) (λ s. N.seen s.nodes) (λ s. s.total) (λ s. trail_of s.trail) F.pre F.post p.play.now };
 
-    ghost leaves = { λ workers m level budget nodes total trail. IsTrail m level workers nodes total (trail_of trail) };
+    ghost leaves = { λ workers m level budget nodes total trail. IsTrail m level workers nodes total (trail_of trail) × HasEnded m level nodes total };
 
+    fn plays_last_level() -> bool {
+        true
+    }
+
+    #[tactic(auto, using(crate::proofs::ToldLemmas::has_ended))]
     fn play(&self, _alloc: Global, round: Round<N>) -> Played<N, Trail>
         requires can { PlaysRounds self.now.workers (λ r. arc_value r.plan) (λ r. r.level) (λ r. r.budget) (λ r. r.asked) (λ r. N.seen r.nodes) (λ s. N.seen s.nodes) (λ s. s.total) (λ s. trail_of s.trail) F.pre F.post self.now.play.now }
         requires ready { IsReadyRound (arc_value round.plan) round.level round.budget round.asked (N.seen round.nodes) }
         ensures played { IsPlayed (arc_value round.plan) round.level round.budget (N.seen round.nodes) (N.seen result.nodes) result.total }
-        ensures left { IsTrail (arc_value round.plan) round.level self.now.workers (N.seen result.nodes) result.total (trail_of result.trail) }
+        ensures left { IsTrail (arc_value round.plan) round.level self.now.workers (N.seen result.nodes) result.total (trail_of result.trail) × HasEnded (arc_value round.plan) round.level (N.seen result.nodes) result.total }
     {
         (self.play)(round)
     }

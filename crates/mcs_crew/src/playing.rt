@@ -12,7 +12,7 @@ ghost use Rattle.mcs_crew.specs.Trails.{IsNoTrail, IsToldHalt, IsTrail, IsTrailA
 use crate::crew::work_all;
 use crate::dealing::{collect, deal};
 use crate::ending::ending;
-use crate::equipment::{Crew, crew_of, hall_of};
+use crate::equipment::{Equipment, equipment_of, hall_of};
 use crate::returning::{Ended, end};
 use crate::trail::Trail;
 use mcs_base::Memory;
@@ -117,12 +117,12 @@ fn play_groups<O: Oracle + Send, G: Gate + Sync, R: Threads + Wait + Sync>(
 {
     let hall = hall_of(alloc, groups)?;
     begin_all(alloc, level, nodes)?;
-    let crew = crew_of(alloc, plan, asked, groups)?;
-    let Crew {
+    let equipment = equipment_of(alloc, plan, asked, groups)?;
+    let Equipment {
         draw,
         hub,
         mut loads,
-    } = crew;
+    } = equipment;
     let contexts = nodes.len();
     deal(nodes, &mut loads);
     let mut loads = work_all(rt, alloc, &draw, gate, hall, loads);

@@ -15,8 +15,8 @@ pub struct Trail {
 }
 
 impl Trail {
-    /// Nothing is to be seen.
-    pub(crate) fn nothing(alloc: Global) -> Trail
+    /// The trail of which nothing is to be seen: no wires and no word. No memory is needed.
+    pub fn nothing(alloc: Global) -> Trail
         ensures { IsNoTrail (trail_of result) }
     {
         Trail {

@@ -3,6 +3,8 @@
 use crate::runs::{End, SOUND, ends};
 use mcs_base::Memory;
 use std::alloc::Global;
+use std::sync::Wait;
+use std::thread::Threads;
 
 /// Two contexts and two rules, a line each.
 const TEXT: &str = "context c1 program { a. }
@@ -87,23 +89,32 @@ fn fault(length: usize) -> (u8, usize) {
 }
 
 /// Whether the equilibria of the text that is cut to this length end so.
-fn is_so(alloc: Global, length: usize, end: End<'_>) -> Result<bool, Memory> {
+fn is_so<R: Threads + Wait + Sync>(
+    rt: &R,
+    alloc: Global,
+    length: usize,
+    end: End<'_>,
+) -> Result<bool, Memory> {
     let front = TEXT.as_bytes().get(..length).unwrap_or(b"");
-    ends(alloc, "equilibria f", &[("f", front)], SOUND, end)
+    ends(rt, alloc, "equilibria f", &[("f", front)], SOUND, end)
 }
 
 /// Whether they are refused so.
-fn is_refused(alloc: Global, length: usize) -> Result<bool, Memory> {
+fn is_refused<R: Threads + Wait + Sync>(
+    rt: &R,
+    alloc: Global,
+    length: usize,
+) -> Result<bool, Memory> {
     let (number, offset) = fault(length);
     let noted: String = format!(in alloc; "mcs: refused: F{number} at {offset}\n")?;
-    is_so(alloc, length, (3, b"", noted.as_str()))
+    is_so(rt, alloc, length, (3, b"", noted.as_str()))
 }
 
 /// Whether they end as told.
-fn is_told(alloc: Global, length: usize) -> Result<bool, Memory> {
+fn is_told<R: Threads + Wait + Sync>(rt: &R, alloc: Global, length: usize) -> Result<bool, Memory> {
     match listed(length) {
-        Some(listing) => is_so(alloc, length, (0, listing.as_bytes(), "")),
-        None => is_refused(alloc, length),
+        Some(listing) => is_so(rt, alloc, length, (0, listing.as_bytes(), "")),
+        None => is_refused(rt, alloc, length),
     }
 }
 
@@ -111,6 +122,6 @@ fn is_told(alloc: Global, length: usize) -> Result<bool, Memory> {
 fn a_text_that_is_cut_is_told_to_be(rt: HostRuntime) {
     assert!(rt; TEXT.len() == LENGTH);
     for length in 0..LENGTH + 1 {
-        assert!(rt; is_told(rt.alloc(), length) == Ok(true));
+        assert!(rt; is_told(&rt, rt.alloc(), length) == Ok(true));
     }
 }

@@ -5,6 +5,8 @@ use crate::runs::{Devices, End, SOUND, ends, lines};
 use crate::wards::{WARDS, WARDS_LISTING};
 use mcs_base::Memory;
 use std::alloc::Global;
+use std::sync::Wait;
+use std::thread::Threads;
 
 /// The whole listing of a text without contexts.
 pub const EMPTY_LISTING: &str =
@@ -46,7 +48,12 @@ struct Printed {
 
 impl Printed {
     /// Whether the lines before this write are there where it fails, with the fault told.
-    fn is_cut(&self, alloc: Global, write: usize) -> Result<bool, Memory> {
+    fn is_cut<R: Threads + Wait + Sync>(
+        &self,
+        rt: &R,
+        alloc: Global,
+        write: usize,
+    ) -> Result<bool, Memory> {
         let devices = Devices {
             failing_write: write as u64,
             ..SOUND
@@ -58,13 +65,13 @@ impl Printed {
         } else {
             (0, self.written.as_bytes(), "")
         };
-        ends(alloc, self.words, &files, devices, end)
+        ends(rt, alloc, self.words, &files, devices, end)
     }
 
     /// Whether this is so of each write, and of one that no longer comes.
-    fn are_cut(&self, alloc: Global) -> Result<bool, Memory> {
+    fn are_cut<R: Threads + Wait + Sync>(&self, rt: &R, alloc: Global) -> Result<bool, Memory> {
         for write in 1..self.count.saturating_add(2) {
-            if !self.is_cut(alloc, write)? {
+            if !self.is_cut(rt, alloc, write)? {
                 return Ok(false);
             }
         }
@@ -120,13 +127,17 @@ const PRINTED: [Printed; 6] = [
 #[test]
 fn a_failed_write_leaves_the_lines_before_it(rt: HostRuntime) {
     for printed in &PRINTED {
-        assert!(rt; printed.are_cut(rt.alloc()) == Ok(true));
+        assert!(rt; printed.are_cut(&rt, rt.alloc()) == Ok(true));
     }
 }
 
 /// Whether the listing of a text without contexts is written up to before this write, where each takes a byte and this
 /// one fails; all of it where no such write comes.
-fn is_cut_within_a_line(alloc: Global, write: usize) -> Result<bool, Memory> {
+fn is_cut_within_a_line<R: Threads + Wait + Sync>(
+    rt: &R,
+    alloc: Global,
+    write: usize,
+) -> Result<bool, Memory> {
     let devices = Devices {
         failing_write: write as u64,
         most: 1,
@@ -136,18 +147,19 @@ fn is_cut_within_a_line(alloc: Global, write: usize) -> Result<bool, Memory> {
         Some(front) if write <= EMPTY_LISTING.len() => (6, front, "mcs: write fault\n"),
         _ => (0, EMPTY_LISTING.as_bytes(), ""),
     };
-    ends(alloc, "solve f", &[("f", b"")], devices, end)
+    ends(rt, alloc, "solve f", &[("f", b"")], devices, end)
 }
 
 #[test]
 fn each_write_of_a_byte_may_fail(rt: HostRuntime) {
     for write in 1..EMPTY_LISTING.len().saturating_add(2) {
-        assert!(rt; is_cut_within_a_line(rt.alloc(), write) == Ok(true));
+        assert!(rt; is_cut_within_a_line(&rt, rt.alloc(), write) == Ok(true));
     }
 }
 
 /// Whether the run over a file `f` and a file `r` ends so where this call of the shelf fails.
-fn fails_so(
+fn fails_so<R: Threads + Wait + Sync>(
+    rt: &R,
     alloc: Global,
     words: &str,
     text: &[u8],
@@ -160,7 +172,7 @@ fn fails_so(
         ..SOUND
     };
     let files = [("f", text), ("r", report.as_bytes())];
-    ends(alloc, words, &files, devices, end)
+    ends(rt, alloc, words, &files, devices, end)
 }
 
 /// Words over a file `f` of so many line feeds and a text, and a file `r`; the number of calls on the shelf; and what is
@@ -176,7 +188,12 @@ struct Read {
 
 impl Read {
     /// Whether the fault is told where this call fails.
-    fn is_told(&self, alloc: Global, call: u64) -> Result<bool, Memory> {
+    fn is_told<R: Threads + Wait + Sync>(
+        &self,
+        rt: &R,
+        alloc: Global,
+        call: u64,
+    ) -> Result<bool, Memory> {
         let mut text = vec![in alloc; b'\n'; self.line_feeds]?;
         text.extend_from_slice(self.text.as_bytes())?;
         let end = if call <= self.calls {
@@ -184,13 +201,13 @@ impl Read {
         } else {
             (0, self.written.as_bytes(), "")
         };
-        fails_so(alloc, self.words, &text, self.report, call, end)
+        fails_so(rt, alloc, self.words, &text, self.report, call, end)
     }
 
     /// Whether this is so of each call, and of one that no longer comes.
-    fn are_told(&self, alloc: Global) -> Result<bool, Memory> {
+    fn are_told<R: Threads + Wait + Sync>(&self, rt: &R, alloc: Global) -> Result<bool, Memory> {
         for call in 1..self.calls.saturating_add(2) {
-            if !self.is_told(alloc, call)? {
+            if !self.is_told(rt, alloc, call)? {
                 return Ok(false);
             }
         }
@@ -230,7 +247,7 @@ const READS: [Read; 3] = [
 #[test]
 fn a_failed_read_is_told(rt: HostRuntime) {
     for read in &READS {
-        assert!(rt; read.are_told(rt.alloc()) == Ok(true));
+        assert!(rt; read.are_told(&rt, rt.alloc()) == Ok(true));
     }
 }
 
@@ -242,23 +259,29 @@ const BARE: [(&str, u8, &str, &str); 3] = [
 ];
 
 /// Whether a run over a shelf without files, of which this call fails, ends so.
-fn is_bare(alloc: Global, words: &str, failing_call: u64, end: End<'_>) -> Result<bool, Memory> {
+fn is_bare<R: Threads + Wait + Sync>(
+    rt: &R,
+    alloc: Global,
+    words: &str,
+    failing_call: u64,
+    end: End<'_>,
+) -> Result<bool, Memory> {
     let devices = Devices {
         failing_call,
         ..SOUND
     };
-    ends(alloc, words, &[], devices, end)
+    ends(rt, alloc, words, &[], devices, end)
 }
 
 #[test]
 fn what_names_no_file_opens_none(rt: HostRuntime) {
     for (words, status, written, noted) in &BARE {
         let end = (*status, written.as_bytes(), *noted);
-        assert!(rt; is_bare(rt.alloc(), words, 1, end) == Ok(true));
+        assert!(rt; is_bare(&rt, rt.alloc(), words, 1, end) == Ok(true));
     }
 }
 
 #[test]
 fn a_file_that_is_not_there_is_told(rt: HostRuntime) {
-    assert!(rt; is_bare(rt.alloc(), "solve f", 0, READ_FAULT) == Ok(true));
+    assert!(rt; is_bare(&rt, rt.alloc(), "solve f", 0, READ_FAULT) == Ok(true));
 }

@@ -4,11 +4,18 @@ use crate::devices::EMPTY_LISTING;
 use crate::runs::{End, SOUND, ends};
 use mcs_base::Memory;
 use std::alloc::Global;
+use std::sync::Wait;
+use std::thread::Threads;
 
 /// Whether a file of as many spaces ends so.
-fn spaces_end(alloc: Global, count: usize, end: End<'_>) -> Result<bool, Memory> {
+fn spaces_end<R: Threads + Wait + Sync>(
+    rt: &R,
+    alloc: Global,
+    count: usize,
+    end: End<'_>,
+) -> Result<bool, Memory> {
     let spaces = vec![in alloc; b' '; count]?;
-    ends(alloc, "solve f", &[("f", &spaces)], SOUND, end)
+    ends(rt, alloc, "solve f", &[("f", &spaces)], SOUND, end)
 }
 
 /// How many spaces there are, and how the run ends.
@@ -21,6 +28,6 @@ const SPACES: [(usize, u8, &str, &str); 2] = [
 fn files_are_taken_up_to_a_length(rt: HostRuntime) {
     for (count, status, written, noted) in &SPACES {
         let end = (*status, written.as_bytes(), *noted);
-        assert!(rt; spaces_end(rt.alloc(), *count, end) == Ok(true));
+        assert!(rt; spaces_end(&rt, rt.alloc(), *count, end) == Ok(true));
     }
 }

@@ -3,16 +3,24 @@
 use crate::runs::{SOUND, ends, lines, sink_of, status_of};
 use mcs_base::{Memory, Text};
 use std::alloc::Global;
+use std::sync::Wait;
+use std::thread::Threads;
 
 /// What is found of a report that is valid.
 const VALID: &str = "valid\n";
 
 /// Whether `check` of the report on the system of this text writes this and ends with its status, and nothing is noted.
-fn is_found(alloc: Global, text: &str, report: &[u8], found: &str) -> Result<bool, Memory> {
+fn is_found<R: Threads + Wait + Sync>(
+    rt: &R,
+    alloc: Global,
+    text: &str,
+    report: &[u8],
+    found: &str,
+) -> Result<bool, Memory> {
     let files = [("f", text.as_bytes()), ("r", report)];
     let status = if found == VALID { 0 } else { 1 };
     let end = (status, found.as_bytes(), "");
-    ends(alloc, "check f r", &files, SOUND, end)
+    ends(rt, alloc, "check f r", &files, SOUND, end)
 }
 
 /// Lines of a report, from the first number up to the second, counted from 1; what is put in their place, before the
@@ -49,21 +57,22 @@ impl Case {
     }
 
     /// Whether this is found of the changed report.
-    fn is_told(
+    fn is_told<R: Threads + Wait + Sync>(
         &self,
+        rt: &R,
         alloc: Global,
         lines: (usize, usize),
         with: &str,
         found: &str,
     ) -> Result<bool, Memory> {
         let changed = self.changed(alloc, lines, with)?;
-        is_found(alloc, self.system, changed.bytes(), found)
+        is_found(rt, alloc, self.system, changed.bytes(), found)
     }
 
     /// Whether of each change it is found what the change says.
-    fn are_told(&self, alloc: Global) -> Result<bool, Memory> {
+    fn are_told<R: Threads + Wait + Sync>(&self, rt: &R, alloc: Global) -> Result<bool, Memory> {
         for change in self.changes {
-            if !self.is_told(alloc, change.lines, change.with, change.found)? {
+            if !self.is_told(rt, alloc, change.lines, change.with, change.found)? {
                 return Ok(false);
             }
         }
@@ -72,7 +81,12 @@ impl Case {
 
     /// Whether this line of the report, when another stands in its place, is told: one of the listing by its own
     /// number, one after it at the latest by that. It is so of the line that ends the listing.
-    fn line_counts(&self, alloc: Global, line: usize) -> Result<bool, Memory> {
+    fn line_counts<R: Threads + Wait + Sync>(
+        &self,
+        rt: &R,
+        alloc: Global,
+        line: usize,
+    ) -> Result<bool, Memory> {
         if line == self.listing {
             return Ok(true);
         }
@@ -82,13 +96,17 @@ impl Case {
             "grammar"
         };
         let found: String = format!(in alloc; "not valid: line {line}: {part}\n")?;
-        self.is_told(alloc, (line, line), "no line\n", found.as_str())
+        self.is_told(rt, alloc, (line, line), "no line\n", found.as_str())
     }
 
     /// Whether each line of the report counts.
-    fn each_line_counts(&self, alloc: Global) -> Result<bool, Memory> {
+    fn each_line_counts<R: Threads + Wait + Sync>(
+        &self,
+        rt: &R,
+        alloc: Global,
+    ) -> Result<bool, Memory> {
         for line in 1..self.report.split_terminator('\n').count().saturating_add(1) {
-            if !self.line_counts(alloc, line)? {
+            if !self.line_counts(rt, alloc, line)? {
                 return Ok(false);
             }
         }
@@ -97,9 +115,9 @@ impl Case {
 }
 
 /// Whether the report is valid, what each change says is found of it, and each of its lines counts.
-fn is_judged(alloc: Global, case: &Case) -> Result<bool, Memory> {
-    let is_valid = is_found(alloc, case.system, case.report.as_bytes(), VALID)?;
-    Ok(is_valid && case.are_told(alloc)? && case.each_line_counts(alloc)?)
+fn is_judged<R: Threads + Wait + Sync>(rt: &R, alloc: Global, case: &Case) -> Result<bool, Memory> {
+    let is_valid = is_found(rt, alloc, case.system, case.report.as_bytes(), VALID)?;
+    Ok(is_valid && case.are_told(rt, alloc)? && case.each_line_counts(rt, alloc)?)
 }
 
 /// A context that contradicts itself believes what a rule reads.
@@ -307,15 +325,20 @@ const CASES: [Case; 3] = [
 #[test]
 fn the_first_test_that_fails_is_told(rt: HostRuntime) {
     for case in &CASES {
-        assert!(rt; is_judged(rt.alloc(), case) == Ok(true));
+        assert!(rt; is_judged(&rt, rt.alloc(), case) == Ok(true));
     }
 }
 
 /// Whether what `solve` writes of the text with its proof is found valid.
-fn is_proved(alloc: Global, text: &str, words: &str) -> Result<bool, Memory> {
+fn is_proved<R: Threads + Wait + Sync>(
+    rt: &R,
+    alloc: Global,
+    text: &str,
+    words: &str,
+) -> Result<bool, Memory> {
     let mut sink = sink_of(alloc, SOUND)?;
-    let status = status_of(alloc, words, &[("f", text.as_bytes())], 0, &mut sink);
-    let is_valid = is_found(alloc, text, sink.written(), VALID);
+    let status = status_of(rt, alloc, words, &[("f", text.as_bytes())], 0, &mut sink);
+    let is_valid = is_found(rt, alloc, text, sink.written(), VALID);
     Ok(status == Ok(0) && sink.noted().is_empty() && is_valid == Ok(true))
 }
 
@@ -336,7 +359,7 @@ const PROVE: [&str; 2] = ["solve f --proof --workers 1", "solve f --proof --work
 fn what_is_solved_with_its_proof_is_valid(rt: HostRuntime) {
     for text in &SYSTEMS {
         for words in &PROVE {
-            assert!(rt; is_proved(rt.alloc(), text, words) == Ok(true));
+            assert!(rt; is_proved(&rt, rt.alloc(), text, words) == Ok(true));
         }
     }
 }

@@ -4,6 +4,8 @@ use mcs_base::Memory;
 use mcs_ports::{IdleGate, MemoryShelf, MemorySink};
 use mcs_top::run;
 use std::alloc::Global;
+use std::sync::Wait;
+use std::thread::Threads;
 
 /// Which call of the shelf and which write of the sink fail, counted from 1, and how many bytes a write takes.
 #[derive(Clone, Copy)]
@@ -71,7 +73,8 @@ pub fn sink_of(alloc: Global, devices: Devices) -> Result<MemorySink, Memory> {
 }
 
 /// What the words give over these files, on which one call fails: the status by its number.
-pub fn status_of(
+pub fn status_of<R: Threads + Wait + Sync>(
+    rt: &R,
     alloc: Global,
     words: &str,
     files: Files<'_>,
@@ -80,14 +83,19 @@ pub fn status_of(
 ) -> Result<u8, Memory> {
     let mut shelf = shelf_of(alloc, files, failing_call)?;
     let words = words_of(alloc, words)?;
-    Ok(run(alloc, &words, &mut shelf, sink, &IdleGate).number())
+    Ok(
+        run(rt, alloc, &words, &mut shelf, sink, &IdleGate)
+            .0
+            .number(),
+    )
 }
 
 /// How a run ends: the status, what is written, and what is noted.
 pub type End<'a> = (u8, &'a [u8], &'a str);
 
 /// Whether the words end so over these files.
-pub fn ends(
+pub fn ends<R: Threads + Wait + Sync>(
+    rt: &R,
     alloc: Global,
     words: &str,
     files: Files<'_>,
@@ -95,6 +103,6 @@ pub fn ends(
     (status, written, noted): End<'_>,
 ) -> Result<bool, Memory> {
     let mut sink = sink_of(alloc, devices)?;
-    let ended = status_of(alloc, words, files, devices.failing_call, &mut sink);
+    let ended = status_of(rt, alloc, words, files, devices.failing_call, &mut sink);
     Ok(ended == Ok(status) && sink.written() == written && sink.noted() == noted.as_bytes())
 }

@@ -1,4 +1,4 @@
 pub mod JobLemmas
 pub mod WorkLemmas
-pub mod EvaluatorLemmas
+pub mod WorkedLemmas
 pub mod LineLemmas

@@ -18,7 +18,7 @@ use Rattle.mcs_work.specs.declared.task.Task.TheVariants.{Equilibria, Solve, Mak
 use Rattle.mcs_work.specs.declared.task.WorkStop.{WorkStop}
 use Rattle.mcs_work.specs.declared.task.WorkStop.TheVariants as works
 use Rattle.mcs_listing.specs.Endings.{stop_for_work, stop_for_unwritten}
-use Rattle.mcs_listing.specs.Listings.{NeedsMoreThan, IsListingText, IsListedBefore, AfterNumber, number_line, Prints, PrintsFront, StopsWork, StopsGenerated, IsNewMesh}
+use Rattle.mcs_listing.specs.Listings.{NeedsMoreThan, IsListingText, IsListedBefore, AfterNumber, number_line, Prints, PrintsFront, StopsWork, StopsGenerated, IsNewEvaluator}
 use Rattle.mcs_listing.specs.declared.ending.Stop.{Stop}
 use Rattle.mcs_listing.specs.declared.ending.Stop.TheVariants as stops
 use Rattle.mcs_text.specs.declared.unwritten.Unwritten.{Unwritten}
@@ -40,7 +40,7 @@ nothing_left task m now = record {
 }
 
 -- ---- what the work did, of the system
-module _ (task : Task) (m : System) (budget : ℕ) (e e' : EvaluatorState) (fresh : IsNewMesh m budget e) where
+module _ (task : Task) (m : System) (budget : ℕ) (e e' : EvaluatorState) (fresh : IsNewEvaluator m budget e) where
   beyond_here : (level : ℕ) → evaluators.ExceedsBudget e level → NeedsMoreThan m level budget
   beyond_here level h = subst (λ (n : System). HasQuestions n level (budget + 1)) fresh.system (subst (λ (b : ℕ). HasQuestions e.system level (b + 1)) fresh.budget_is h)
 

@@ -103,13 +103,17 @@ StopsAnswers stops.WriteFault m level sink_rose before now = sink_rose × ((now 
 StopsAnswers stops.Memory m level sink_rose before now = (now ≡ before) ⊎ HasBegunProof m level before now
 
 -- ---- the evaluator of a run
+-- none of the oracles can miss an answer
+abbrev pub AreSure : List OracleState → Type 0
+AreSure oracles = (i : ℕ) (o : OracleState) → slice_get oracles i ≡ Some o → o.holds ≡ None
+
 -- an evaluator of the system that was asked nothing, whose oracles never miss
-pub record IsNewMesh (m : System) (budget : ℕ) (e : EvaluatorState) : Type 0 where
+pub record IsNewEvaluator (m : System) (budget : ℕ) (e : EvaluatorState) : Type 0 where
   pub system : e.system ≡ m
   pub budget_is : e.budget ≡ budget
   pub fresh : e.done ≡ None
   pub going : e.halted ≡ false
-  pub sure : (i : ℕ) (o : OracleState) → slice_get e.oracles i ≡ Some o → o.holds ≡ None
+  pub sure : AreSure e.oracles
 
 -- each of the oracles has this origin
 abbrev pub HaveOrigin : List (List ℕ) → List OracleState → Type 0

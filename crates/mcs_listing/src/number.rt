@@ -11,7 +11,7 @@ use mcs_text::{Unwritten, write_line};
 use std::alloc::Global;
 
 /// Prints the number, and how many contexts, bridge rules and variables the system has.
-pub(crate) fn print_number<K: Sink>(
+pub fn print_number<K: Sink>(
     alloc: Global,
     number: u64,
     system: &System,

@@ -24,7 +24,7 @@ use Rattle.mcs_node.specs.Nodes.{IsAbove, NodeData, done_level, round_at}
 use Rattle.mcs_node.specs.Playing.{HasState, has_begun, has_not}
 use Rattle.mcs_node.proofs.DoneLemmas.{done_rounds_are_quiet}
 use Rattle.mcs_mesh.specs.Players.{AreNodesOf, HasRoundCause, HaveFinished, HaveReached, IsPlayed, IsReadyRound, as_new, known_to, oracles_of}
-use Rattle.mcs_mesh.specs.Rounds.{AreFresh, AreKnown, AreNew, CanGoOn, EvaluationData, HasFewRules, HaveFinishedLast, IsEvaluation, HasEndedBy, IsLastRound, IsLastRoundOf, HasShown, IsSoundRound, evaluation_of, evaluator_state_of, round_of}
+use Rattle.mcs_mesh.specs.Rounds.{AreFresh, AreKnown, AreNew, CanGoOn, EvaluationData, HasFewRules, HaveFinishedLast, IsEvaluation, HasEndedBy, HasLastRound, HasShown, IsHaltOfRound, IsLastRound, IsLastRoundOf, IsSoundRound, evaluation_of, evaluator_state_of, round_of}
 use Rattle.mcs_mesh.proofs.General.{question_higher}
 use Rattle.mcs_mesh.proofs.LastingLemmas.{count_higher, known_higher}
 use Rattle.mcs_mesh.proofs.NodeLemmas.{oracles_rest, still_nodes}
@@ -44,8 +44,8 @@ module _ (m : System) (last level : ℕ) (low : last ≤ level) (alike : last < 
   ]
 
 -- ---- what an evaluator stands for
-abbrev state_with : System → ℕ → Option ℕ → Option Halt → Bool → List OracleState → EvaluatorState
-state_with m budget done halt halted oracles = record { system = m; budget = budget; done = done; halt = halt; halted = halted; oracles = oracles }
+abbrev state_with : ℕ → System → ℕ → Option ℕ → Option Halt → Bool → List OracleState → EvaluatorState
+state_with w m budget done halt halted oracles = record { system = m; budget = budget; workers = w; done = done; halt = halt; halted = halted; oracles = oracles }
 
 neither : (halt : Option Halt) (replayed : Bool) → is_some halt || replayed ≡ false → (halt ≡ None) × (replayed ≡ false)
 neither None false going = (refl, refl)
@@ -104,8 +104,8 @@ module _ (m : System) (budget : ℕ) (nodes : List NodeData) (own : AreNodesOf m
         (λ i xs at. let (o, there, e) = map_slice_get (λ (o : OracleState). o.journal) (oracles_of nodes) i xs at in subst (λ ys. IsInventory (IsQuestionAt m level i) ys) e (journal_at i o there)))
         ∙ sum_of_journals (oracles_of nodes)
 
-    settled : IsEvaluatorSettled (evaluator_state_of m budget (Some level) None (oracles_of nodes))
-    settled = record {
+    settled : (w : ℕ) → IsEvaluatorSettled (evaluator_state_of w m budget (Some level) None (oracles_of nodes))
+    settled w = record {
       going = refl;
       no_halt = refl;
       one_each = oracles_each;
@@ -114,20 +114,20 @@ module _ (m : System) (budget : ℕ) (nodes : List NodeData) (own : AreNodesOf m
     }
 
     -- a call of this level, or of a lower one, came to its end
-    module _ (reached : Option ℕ) (halt : Option Halt) (halted : Bool) (first : List OracleState) (same : unasked (oracles_of nodes) ≡ unasked first) (lower : ℕ) (less : lower ≤ level) where
+    module _ (w : ℕ) (reached : Option ℕ) (halt : Option Halt) (halted : Bool) (first : List OracleState) (same : unasked (oracles_of nodes) ≡ unasked first) (lower : ℕ) (less : lower ≤ level) where
       not_beyond : ¬ HasQuestions m lower (budget + 1)
       not_beyond h =
           let most : budget + 1 ≤ asked = (counts_agree m level asked (budget + 1) is_count).0 (questions_grow m lower level (budget + 1) less h) in
           let few = r.within in omega (arith, most, few)
 
-      none_unanswered : (i x : ℕ) → ¬ IsUnanswered (state_with m budget reached halt halted first) lower i x
+      none_unanswered : (i x : ℕ) → ¬ IsUnanswered (state_with w m budget reached halt halted first) lower i x
       none_unanswered i x u =
           let (o, at, holds) = same_oracle first (oracles_of nodes) (sym same) i u.oracle u.is_its in
           let (k, has, one) = context_at i o at in
           has.held x ((one.answered.questions.exactly x).1 (question_higher m lower level i x less u.question)) (subst (λ (h : Option (List ℕ)). IsLacking h x) holds u.lacks)
 
-      has_done : Some level ≡ raised reached lower → HasDone (state_with m budget reached halt halted first) (evaluator_state_of m budget (Some level) None (oracles_of nodes)) lower
-      has_done is = record { level_done = is; settled = settled; within = not_beyond; answered = none_unanswered }
+      has_done : Some level ≡ raised reached lower → HasDone (state_with w m budget reached halt halted first) (evaluator_state_of w m budget (Some level) None (oracles_of nodes)) lower
+      has_done is = record { level_done = is; settled = settled w; within = not_beyond; answered = none_unanswered }
 
   -- before any level was done
   none_in_journals : (asked : ℕ) → HaveReached m budget None asked nodes → asked ≡ sum_by (λ (o : OracleState). length o.journal) (oracles_of nodes)
@@ -242,6 +242,23 @@ shown_on leaves shown halt halt' none memory (trail, is, total, left, ended) = (
     on (Ok n) ended = refl
     on (Err h) ended = absurd ended
 
+-- ---- the last round, and the halt
+-- a level that is not the last one was done without a round
+pub other_level : (m m' : System) (level : ℕ) (last : Option ℕ) → m' ≡ m → ¬ (level ≡ length m'.bridges) → HasLastRound m (Some level) last
+other_level m m' level last same other is = absurd (other (same_Some level (length m.bridges) is ∙ ap (λ (z : System). length z.bridges) (sym same)))
+
+-- where there is a halt nothing is said of the last round
+pub halted_anyhow : (kept : Option Halt) (h : Halt) (m : System) (greatest last : Option ℕ) → kept ≡ Some h → kept ≡ None → HasLastRound m greatest last
+halted_anyhow kept h m greatest last is none = absurd (none-some h (sym none ∙ is))
+
+round_halt : (m : System) (level budget : ℕ) (os : List OracleState) (h : Halt) → HasRoundCause m level budget os h → IsHaltOfRound budget (Some level) (Some h)
+round_halt m level budget os (Spent at drawn) (is, more, some) = (is, more)
+round_halt m level budget os (Missing i x) cause = tt
+round_halt m level budget os Memory cause = tt
+
+pub halt_of_round : (m : System) (level budget : ℕ) (nodes after : List NodeData) (kept : Option Halt) (h : Halt) → kept ≡ Some h → IsPlayed m level budget nodes after (Err h) → IsHaltOfRound budget (Some level) kept
+halt_of_round m level budget nodes after kept h is p = subst (λ (o : Option Halt). IsHaltOfRound budget (Some level) o) (sym is) (round_halt m level budget (oracles_of nodes) h p.ends)
+
 pub ended_err : (kept : Option Halt) (h : Halt) (total : Result ℕ Halt) → kept ≡ Some h → total ≡ Err h → HasEndedBy kept total
 ended_err kept h total is ends = rw (is, ends) refl
 
@@ -256,6 +273,10 @@ module _ (w : ℕ) (m : System) (budget : ℕ) (reached : Option ℕ) (halt : Op
 
   pub memory_shown : {T : Type 0} (leaves : Result ℕ Halt → T → Type 0) (shown : Option T) (kept : Option Halt) → now.state.halted ≡ false → kept ≡ Some Memory → HasShown leaves halt shown → HasShown leaves kept shown
   memory_shown leaves shown kept going is one = shown_on leaves shown halt kept (no_halt going).0 is one
+
+  -- it has had no halt of any round
+  pub no_halt_yet : now.state.halted ≡ false → (any : Option ℕ) → IsHaltOfRound budget any halt
+  no_halt_yet going any = subst (λ (o : Option Halt). IsHaltOfRound budget any o) (sym (no_halt going).0) tt
 
   can_go_on : now.state.halted ≡ false → CanGoOn (evaluation_of w m budget reached halt replayed last nodes) asked
   can_go_on going = l.ready (ap (λ (e : EvaluationData). e.state.halted) view ∙ going)
@@ -273,7 +294,7 @@ module _ (w : ℕ) (m : System) (budget : ℕ) (reached : Option ℕ) (halt : Op
       let (n, low, alike, r) = last_at d going is in
       let top : Some d ≡ raised (Some d) level = let e : d ≡ max d level = omega (arith, less) in ap (λ n. Some n) e in
       subst (λ (x : EvaluationData). HasDone x.state (evaluation_of w m budget reached halt replayed last nodes).state level) view
-      (rw (is, none, not) (has_done m budget nodes l.own asked n r d low alike (Some d) None false (oracles_of nodes) refl level less top))
+      (rw (is, none, not) (has_done m budget nodes l.own asked n r d low alike w (Some d) None false (oracles_of nodes) refl level less top))
 
   -- its level has no questions and rows that the one before has not
   module _ (level : ℕ) (going : now.state.halted ≡ false) (low : (d : ℕ) → reached ≡ Some d → d < level) (m' : System) (same_m : m' ≡ m) (done : (d : ℕ) × (reached ≡ Some d) × HasFewRules m' d) where
@@ -303,7 +324,7 @@ module _ (w : ℕ) (m : System) (budget : ℕ) (reached : Option ℕ) (halt : Op
         let (none, not) = no_halt going in
         let r = subst (λ (o : Option ℕ). HaveReached m budget o asked nodes) last_is (can_go_on going).reached in
         subst (λ (x : EvaluationData). HasDone x.state (evaluation_of w m budget (Some level) halt replayed last nodes).state level) view
-        (rw (none, not) (has_done m budget nodes l.own asked n r level below alike reached None false (oracles_of nodes) refl level (omega arith) (raised_to reached level (λ d is. let less = low d is in omega (arith, less)))))
+        (rw (none, not) (has_done m budget nodes l.own asked n r level below alike w reached None false (oracles_of nodes) refl level (omega arith) (raised_to reached level (λ d is. let less = low d is in omega (arith, less)))))
 
   -- what is known at the level done
   pub known_at : (before : EvaluatorState) (level : ℕ) → HasDone before now.state level → (k : ℕ) × (reached ≡ Some k) × (level ≤ k) × (length nodes ≡ length m.contexts) × AreKnown m k (known_to nodes)
@@ -336,6 +357,30 @@ module _ (w : ℕ) (m : System) (budget : ℕ) (reached : Option ℕ) (halt : Op
       let (s, ended) = round_by level at (left level at) (is_some halt || replayed) l.ready in
       subst (λ (e : EvaluationData). IsLastRoundOf e level) view (record { round = s; ended = ended })
 
+  -- ---- what it leaves
+  pub left_oracles : now.state.oracles ≡ oracles_of nodes
+  left_oracles = ap (λ (e : EvaluationData). e.state.oracles) (sym view)
+
+  pub left_nodes : AreNodesOf now.state.system now.state.budget nodes
+  left_nodes = subst (λ (e : EvaluationData). AreNodesOf e.state.system e.state.budget nodes) view l.own
+
+  pub left_last : now.state.halted ≡ false → IsLastRound now.state.system now.last now.state.done
+  left_last going = subst (λ (e : EvaluationData). IsLastRound e.state.system e.last e.state.done) view (can_go_on going).last
+
+  pub left_reaches : (halt ≡ None → HasLastRound m reached last) → now.state.halted ≡ false → HasLastRound now.state.system now.state.done now.last
+  left_reaches reaches going = subst (λ (e : EvaluationData). HasLastRound e.state.system e.state.done e.last) view (reaches (no_halt going).0)
+
+  pub left_halt : IsHaltOfRound budget last halt → IsHaltOfRound now.state.budget now.last now.state.halt
+  left_halt is = subst (λ (e : EvaluationData). IsHaltOfRound e.state.budget e.last e.state.halt) view is
+
+  pub left_shown : {T : Type 0} (leaves : ℕ → System → ℕ → ℕ → List NodeData → Result ℕ Halt → T → Type 0) (shown told : Option T) → told ≡ shown → ((level : ℕ) → last ≡ Some level → HasShown (leaves w m level budget nodes) halt shown)
+      → (level : ℕ) → now.last ≡ Some level → HasShown (leaves now.state.workers now.state.system level now.state.budget now.nodes) now.state.halt told
+  left_shown {T} leaves shown told same one level at = subst (λ (e : EvaluationData). HasShown (leaves e.state.workers e.state.system level e.state.budget e.nodes) e.state.halt told) view
+      (subst (λ (o : Option T). HasShown (leaves w m level budget nodes) halt o) (sym same) (one level (ap (λ (e : EvaluationData). e.last) view ∙ at)))
+
+  pub left_unshown : {T : Type 0} (shown told : Option T) → told ≡ shown → (last ≡ None → shown ≡ None) → now.last ≡ None → told ≡ None
+  left_unshown shown told same none at = same ∙ none (ap (λ (e : EvaluationData). e.last) view ∙ at)
+
   -- ---- a round above it
   module _ (level : ℕ) (going : now.state.halted ≡ false) (low : (d : ℕ) → now.state.done ≡ Some d → d < level) where
     below : (d : ℕ) → reached ≡ Some d → d < level
@@ -358,7 +403,7 @@ module _ (w : ℕ) (m : System) (budget : ℕ) (reached : Option ℕ) (halt : Op
           let (none, not) = no_halt going in
           subst (λ (x : EvaluationData). HasDone x.state (evaluation_of w m budget (Some level) halt replayed (Some level) after).state level) view
           (rw (none, not) (has_done m budget after (still_nodes after nodes p.same m budget l.own) total level p.ends.0 level (omega arith) (λ less. absurd (omega (arith, less)))
-          reached None false (oracles_of nodes) (oracles_rest after nodes p.same) level (omega arith) (raised_to reached level (λ d is. let less = below d is in omega (arith, less)))))
+          w reached None false (oracles_of nodes) (oracles_rest after nodes p.same) level (omega arith) (raised_to reached level (λ d is. let less = below d is in omega (arith, less)))))
 
       -- it stopped
       pub stopped_kept : (h : Halt) (n : ℕ) → map as_new after ≡ map as_new nodes → IsEvaluation (evaluation_of w m budget reached (Some h) replayed (Some level) after) n
@@ -377,6 +422,7 @@ module _ (w : ℕ) (m : System) (budget : ℕ) (reached : Option ℕ) (halt : Op
       played_rest done' halt' same = record {
         system = ap (λ (e : EvaluationData). e.state.system) view;
         budget = ap (λ (e : EvaluationData). e.state.budget) view;
+        workers = ap (λ (e : EvaluationData). e.state.workers) view;
         oracles = oracles_rest after nodes same ∙ ap (λ (e : EvaluationData). unasked e.state.oracles) view;
       }
 

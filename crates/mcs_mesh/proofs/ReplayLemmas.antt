@@ -412,6 +412,7 @@ module _ (w : ℕ) (m : System) (budget : ℕ) (done : Option ℕ) (halt : Optio
     replay_rest last' = record {
       system = ap (λ (e : EvaluationData). e.state.system) view;
       budget = ap (λ (e : EvaluationData). e.state.budget) view;
+      workers = ap (λ (e : EvaluationData). e.state.workers) view;
       oracles = oracles_rest after nodes same ∙ ap (λ (e : EvaluationData). unasked e.state.oracles) view;
     }
 

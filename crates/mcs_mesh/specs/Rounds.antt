@@ -10,7 +10,7 @@ use Rattle.mcs_states.specs.Oracles.{OracleState}
 use Rattle.mcs_states.specs.Evaluators.{EvaluatorState}
 use Rattle.mcs_states.specs.Codes.{coded_evaluator}
 use Rattle.mcs_states.specs.declared.halt.Halt.{Halt}
-use Rattle.mcs_states.specs.declared.halt.Halt.TheVariants.{Memory}
+use Rattle.mcs_states.specs.declared.halt.Halt.TheVariants.{Spent, Missing, Memory}
 use Rattle.mcs_node.specs.Known.{IsKnown, Knowledge}
 use Rattle.mcs_node.specs.Codes.{coded_node}
 use Rattle.mcs_node.specs.Nodes.{NodeData, IsFreshOracle, IsNewNode}
@@ -69,8 +69,6 @@ pub record AreNew (m : System) (budget : ℕ) (oracles : List OracleState) (node
 -- ---- what an evaluation is seen as
 pub record EvaluationData : Type 0 where
   pub state : EvaluatorState
-  -- how many workers play its rounds
-  pub workers : ℕ
   -- the level of the last round that was played, if one was
   pub last : Option ℕ
   -- for each context, in order, its node
@@ -78,18 +76,17 @@ pub record EvaluationData : Type 0 where
 
 -- by what a proof tells them apart
 abbrev pub coded_evaluation : Coded EvaluationData
-coded_evaluation = code_by (EvaluatorState × (ℕ × (Option ℕ × List NodeData))) (coded× coded_evaluator (coded× coded_ℕ (coded× (coded_option coded_ℕ) (coded_list coded_node))))
-    (λ e. (e.state, (e.workers, (e.last, e.nodes)))) (λ t. record { state = t.0; workers = t.1.0; last = t.1.1.0; nodes = t.1.1.1 }) (λ _. refl)
+coded_evaluation = code_by (EvaluatorState × (Option ℕ × List NodeData)) (coded× coded_evaluator (coded× (coded_option coded_ℕ) (coded_list coded_node)))
+    (λ e. (e.state, (e.last, e.nodes))) (λ t. record { state = t.0; last = t.1.0; nodes = t.1.1 }) (λ _. refl)
 
--- the evaluator's parts
-abbrev pub evaluator_state_of : System → ℕ → Option ℕ → Option Halt → List OracleState → EvaluatorState
-evaluator_state_of m budget done halt oracles = record { system = m; budget = budget; done = done; halt = halt; halted = is_some halt; oracles = oracles }
+-- the evaluator's parts, the number of workers first
+abbrev pub evaluator_state_of : ℕ → System → ℕ → Option ℕ → Option Halt → List OracleState → EvaluatorState
+evaluator_state_of workers m budget done halt oracles = record { system = m; budget = budget; workers = workers; done = done; halt = halt; halted = is_some halt; oracles = oracles }
 
 -- an evaluation's parts: it can be asked no more after a halt, and once events were replayed over its nodes
 abbrev pub evaluation_of : ℕ → System → ℕ → Option ℕ → Option Halt → Bool → Option ℕ → List NodeData → EvaluationData
 evaluation_of workers m budget done halt replayed last nodes = record {
-  workers = workers;
-  state = record { system = m; budget = budget; done = done; halt = halt; halted = is_some halt || replayed; oracles = oracles_of nodes };
+  state = record { system = m; budget = budget; workers = workers; done = done; halt = halt; halted = is_some halt || replayed; oracles = oracles_of nodes };
   last = last;
   nodes = nodes;
 }
@@ -117,6 +114,19 @@ abbrev pub IsLastRound : System → Option ℕ → Option ℕ → Type 0
 IsLastRound m None None = Unit {0}
 IsLastRound m (Some last) (Some done) = (last ≤ done) × (last < done → HasFewRules m last)
 IsLastRound m last greatest = ⊥
+
+-- where the level of all rules was done, the last round that was played was of this very level
+abbrev pub HasLastRound : System → Option ℕ → Option ℕ → Type 0
+HasLastRound m done last = done ≡ Some (length m.bridges) → last ≡ Some (length m.bridges)
+
+-- a halt other than want of memory is that of the last round: where the budget was spent, it was at the level of this round, and more was found than the budget
+abbrev pub IsHaltOfRound : ℕ → Option ℕ → Option Halt → Type 0
+IsHaltOfRound budget last None = Unit {0}
+IsHaltOfRound budget last (Some Memory) = Unit {0}
+IsHaltOfRound budget None (Some (Spent at drawn)) = ⊥
+IsHaltOfRound budget (Some level) (Some (Spent at drawn)) = (at ≡ level) × (budget < drawn)
+IsHaltOfRound budget None (Some (Missing context active)) = ⊥
+IsHaltOfRound budget (Some level) (Some (Missing context active)) = Unit {0}
 
 -- each node has finished the last round, if one was played
 abbrev pub HaveFinishedLast : Option ℕ → List NodeData → Type 0

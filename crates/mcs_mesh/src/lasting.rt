@@ -1,8 +1,9 @@
 //! Whether levels above one have the same questions and rows.
 
-ghost use Rattle.std.specs.Prelude.{◌≡◌, ◌<◌, ◌≤◌, ℕ, Some, IsTrue};
+ghost use Rattle.std.specs.Prelude.{◌≡◌, ◌<◌, ◌≤◌, ℕ, Some, IsTrue, length, true};
 ghost use Rattle.mcs_mesh.specs.Rounds.{changeable, HasFewRules};
 
+use crate::player::Player;
 use mcs_base::{Active, Pair};
 use mcs_system::System;
 
@@ -29,13 +30,25 @@ pub(crate) fn has_few_rules(system: &System, level: u32) -> bool
 }
 
 /// Whether a level was done, and each level above the greatest one done has the same questions and rows.
-pub(crate) fn is_all_done(system: &System, done: Option<u32>) -> bool
+fn is_all_done(system: &System, done: Option<u32>) -> bool
     ensures { IsTrue result → (d : ℕ) × (done ≡ Some d) × HasFewRules system.now d }
 {
     match done {
         Some(done) => has_few_rules(system, done),
         None => false,
     }
+}
+
+/// Whether the round of the level is left out: it has the same questions and rows as that of the greatest level done.
+/// The player has that of the last level played all the same, if it plays this.
+pub(crate) fn is_left_out<P: Player>(system: &System, done: Option<u32>, level: u32) -> bool
+    ensures done { result ≡ true → (d : ℕ) × (done ≡ Some d) × HasFewRules system.now d }
+    ensures last { result ≡ true → P.plays_last ≡ true → ¬ (level ≡ length system.now.bridges) }
+{
+    if P::plays_last_level() && level as usize == system.bridges().len() {
+        return false;
+    }
+    is_all_done(system, done)
 }
 
 /// Up to which level repairs are searched for when this one is asked for. If each level above it has the same rows, it

@@ -32,7 +32,7 @@ impl<'a, O: Oracle, G: Gate> Mesh<'a, O, G> {
     ) -> Result<Mesh<'a, O, G>, Memory>
         requires one_each { length oracles.items ≡ length (arc_value plan).contexts }
         requires own { AreFresh (arc_value plan) (map O.stands oracles.items) }
-        ensures state { IfOk result (λ mesh. mesh.state ≡ evaluator_state_of (arc_value plan) budget None None (map O.stands oracles.items)) }
+        ensures state { IfOk result (λ mesh. mesh.state ≡ evaluator_state_of 1 (arc_value plan) budget None None (map O.stands oracles.items)) }
         ensures none { IfOk result (λ mesh. mesh.last ≡ None) }
     {
         let list = nodes_of(alloc, &plan, budget, oracles)?;

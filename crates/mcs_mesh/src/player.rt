@@ -1,6 +1,6 @@
 //! Players: the trait of what plays a round of questions.
 
-ghost use Rattle.std.specs.Prelude.{ℕ, List, Result};
+ghost use Rattle.std.specs.Prelude.{◌≡◌, ℕ, Bool, List, Result};
 ghost use Rattle.std.specs.Arc.{arc_value};
 ghost use Rattle.mcs_system.specs.Plain.{System};
 ghost use Rattle.mcs_states.specs.declared.halt.Halt.{Halt};
@@ -44,6 +44,14 @@ pub trait Player {
 
     /// How many workers play.
     ghost workers: { Self → ℕ };
+
+    /// Whether the round of the last level, which is the number of the rules, is played even where it has no other
+    /// questions than one before.
+    ghost plays_last: { Bool };
+
+    /// Whether it is.
+    fn plays_last_level() -> bool
+        ensures { result ≡ plays_last };
 
     /// That it can play, and plays as is said of `play`.
     ghost can_play: { Self → Type 0 };

@@ -1,6 +1,6 @@
 //! Rounds that are played on one thread, one context after the other.
 
-ghost use Rattle.std.specs.Prelude.{◌≡◌, ◌+◌, ◌≤◌, ◌^◌, ◌⊎◌, ℕ, IfErr, IfOk, OnErr, OnOk, map};
+ghost use Rattle.std.specs.Prelude.{◌≡◌, ◌+◌, ◌≤◌, ◌^◌, ◌⊎◌, ℕ, IfErr, IfOk, OnErr, OnOk, false, map};
 ghost use Rattle.std.specs.Arc.{arc_value};
 ghost use Rattle.std.specs.List.{AllByRecursion};
 ghost use Rattle.mcs_node.specs.Nodes.{WaitsForGrant, begun_at};
@@ -43,9 +43,15 @@ impl<'a, O: Oracle, G: Gate> Player for TurnPlayer<'a, O, G> {
 
     ghost workers = { λ _. 1 };
 
+    ghost plays_last = { false };
+
     ghost can_play = { λ _. Unit {0} };
 
     ghost leaves = { λ _ m level budget nodes _ _. IsSoundRound m level budget nodes };
+
+    fn plays_last_level() -> bool {
+        false
+    }
 
     fn play(&self, alloc: Global, round: Round<Nodes<O>>) -> Played<Nodes<O>, ()>
         requires can { Unit {0} }

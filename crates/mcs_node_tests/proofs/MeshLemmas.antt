@@ -39,6 +39,6 @@ fresh_seen m os fresh i o is =
     subst (λ y. IsFreshOracle m i y) same (fresh i x at)
 
 -- a new mesh of them has played no round, and can be asked
-pub new_mesh : {E : Type 0} (m : System) (budget : ℕ) (os : List OracleState) (r : Result EvaluationData E) → IfOk r (λ mesh. mesh.state ≡ evaluator_state_of m budget None None os) → IfOk r (λ mesh. mesh.last ≡ None) → IfOk r (λ mesh. (mesh.last ≡ None) × (mesh.state.halted ≡ false))
+pub new_mesh : {E : Type 0} (m : System) (budget : ℕ) (os : List OracleState) (r : Result EvaluationData E) → IfOk r (λ mesh. mesh.state ≡ evaluator_state_of 1 m budget None None os) → IfOk r (λ mesh. mesh.last ≡ None) → IfOk r (λ mesh. (mesh.last ≡ None) × (mesh.state.halted ≡ false))
 new_mesh m budget os (Err e) state last = tt
 new_mesh m budget os (Ok mesh) state last = (last, ap (λ (e : EvaluatorState). e.halted) state)

@@ -7,7 +7,7 @@ use Rattle.mcs_states.specs.declared.halt.Halt.{Halt}
 use Rattle.mcs_states.specs.declared.halt.Halt.TheVariants.{Spent, Missing, Memory}
 
 pub rest_kept : (a b c : EvaluatorState) → KeepsRest a b → KeepsRest b c → KeepsRest a c
-rest_kept a b c h k = record { system = k.system ∙ h.system; budget = k.budget ∙ h.budget; oracles = k.oracles ∙ h.oracles }
+rest_kept a b c h k = record { system = k.system ∙ h.system; budget = k.budget ∙ h.budget; workers = k.workers ∙ h.workers; oracles = k.oracles ∙ h.oracles }
 
 -- the oracle of a context, but for its journal
 pub same_oracle : (xs ys : List OracleState) → unasked xs ≡ unasked ys → (i : ℕ) (o : OracleState) → slice_get xs i ≡ Some o → (o' : OracleState) × (slice_get ys i ≡ Some o') × (o.holds ≡ o'.holds)

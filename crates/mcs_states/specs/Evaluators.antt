@@ -18,6 +18,8 @@ pub record EvaluatorState : Type 0 where
   pub system : System
   -- the most questions of a level that may be asked
   pub budget : ℕ
+  -- by how many workers its rounds are played
+  pub workers : ℕ
   -- the greatest level done
   pub done : Option ℕ
   -- what its own call answered in place of an answer
@@ -40,6 +42,7 @@ raised (Some done) level = Some (max done level)
 pub record KeepsRest (before after : EvaluatorState) : Type 0 where
   pub system : after.system ≡ before.system
   pub budget : after.budget ≡ before.budget
+  pub workers : after.workers ≡ before.workers
   pub oracles : unasked after.oracles ≡ unasked before.oracles
 
 -- x is a question of the greatest level done: of none where no level was done

@@ -4,10 +4,17 @@ use crate::made::{Rows, text_of};
 use crate::runs::{JOB, made_ends, sink_of, status_of};
 use mcs_base::Memory;
 use std::alloc::Global;
+use std::sync::Wait;
+use std::thread::Threads;
 
 /// Whether this is the whole listing of the system of these rows, and nothing is noted.
-fn is_listed(alloc: Global, rows: &[Rows], listing: &str) -> Result<bool, Memory> {
-    made_ends(alloc, rows, (0, listing.as_bytes(), ""))
+fn is_listed<R: Threads + Wait + Sync>(
+    rt: &R,
+    alloc: Global,
+    rows: &[Rows],
+    listing: &str,
+) -> Result<bool, Memory> {
+    made_ends(rt, alloc, rows, (0, listing.as_bytes(), ""))
 }
 
 /// Four times over, that each atom up to number 64 follows from the one before: 253 items with the first atom.
@@ -39,8 +46,8 @@ const PROGRAM: [Rows; 3] = [
 fn what_follows_in_64_steps_is_believed(rt: HostRuntime) {
     let listing =
         "mcs 1: 2 contexts, 1 rules, 1 variables\nequilibrium 1: {c1:a64} applicable {r1}\nconsistent\nend: 1 equilibria, need 2\n";
-    assert!(rt; is_listed(rt.alloc(), &CHAIN, listing) == Ok(true));
-    assert!(rt; is_listed(rt.alloc(), &PROGRAM, listing) == Ok(true));
+    assert!(rt; is_listed(&rt, rt.alloc(), &CHAIN, listing) == Ok(true));
+    assert!(rt; is_listed(&rt, rt.alloc(), &PROGRAM, listing) == Ok(true));
 }
 
 /// That each of four pigeons sits in one of three holes and no two in one, and two rules that read whether the first
@@ -94,11 +101,11 @@ fn pigeons_need_holes(rt: HostRuntime) {
     // Nothing holds of four pigeons in three holes, so everything is believed.
     let all =
         "mcs 1: 2 contexts, 2 rules, 2 variables\nequilibrium 1: {c:p0_0, c:~p0_0} applicable {r, s}\nconsistent\nend: 1 equilibria, need 2\n";
-    assert!(rt; is_listed(rt.alloc(), &FOUR_IN_THREE, all) == Ok(true));
+    assert!(rt; is_listed(&rt, rt.alloc(), &FOUR_IN_THREE, all) == Ok(true));
     // Five pigeons fit in five holes, and the first may sit anywhere.
     let none =
         "mcs 1: 2 contexts, 2 rules, 2 variables\nequilibrium 1: {} applicable {}\nconsistent\nend: 1 equilibria, need 2\n";
-    assert!(rt; is_listed(rt.alloc(), &FIVE_IN_FIVE, none) == Ok(true));
+    assert!(rt; is_listed(&rt, rt.alloc(), &FIVE_IN_FIVE, none) == Ok(true));
 }
 
 /// Each of the eight variables supports itself and nothing else, so every set of them is an equilibrium.
@@ -135,16 +142,16 @@ fn are_all_sets(written: &[u8]) -> bool {
         && written.ends_with(EIGHT_FREE_BACK.as_bytes())
 }
 
-fn are_all_sets_listed(alloc: Global) -> Result<bool, Memory> {
+fn are_all_sets_listed<R: Threads + Wait + Sync>(rt: &R, alloc: Global) -> Result<bool, Memory> {
     let mut sink = sink_of(alloc)?;
-    let status = status_of(alloc, JOB, &[("f", EIGHT_FREE.as_bytes())], &mut sink)?;
+    let status = status_of(rt, alloc, JOB, &[("f", EIGHT_FREE.as_bytes())], &mut sink)?;
     let (is_noted, are_written) = (!sink.noted().is_empty(), are_all_sets(sink.written()));
     Ok((status == 0) & !is_noted & are_written)
 }
 
 #[test]
 fn all_sets_of_8_variables_are_listed(rt: HostRuntime) {
-    assert!(rt; are_all_sets_listed(rt.alloc()) == Ok(true));
+    assert!(rt; are_all_sets_listed(&rt, rt.alloc()) == Ok(true));
 }
 
 /// 64 contexts and 64 rules, of which 12 go into the first context and one into each of the last 52: the last context
@@ -160,7 +167,7 @@ const WIDE_LISTING: &str =
 
 #[test]
 fn as_many_contexts_and_rules_as_may_be_are_listed(rt: HostRuntime) {
-    assert!(rt; is_listed(rt.alloc(), &WIDE, WIDE_LISTING) == Ok(true));
+    assert!(rt; is_listed(&rt, rt.alloc(), &WIDE, WIDE_LISTING) == Ok(true));
 }
 
 /// Contexts in a ring, each of which takes over what the one before it believes.
@@ -189,13 +196,17 @@ fn ring_listing(count: u64) -> [Rows; 6] {
     ]
 }
 
-fn is_ring_listed(alloc: Global, count: u64) -> Result<bool, Memory> {
+fn is_ring_listed<R: Threads + Wait + Sync>(
+    rt: &R,
+    alloc: Global,
+    count: u64,
+) -> Result<bool, Memory> {
     let listing = text_of(alloc, &ring_listing(count))?;
-    made_ends(alloc, &ring(count), (0, listing.bytes(), ""))
+    made_ends(rt, alloc, &ring(count), (0, listing.bytes(), ""))
 }
 
 #[test]
 fn rings_of_contexts_are_listed(rt: HostRuntime) {
-    assert!(rt; is_ring_listed(rt.alloc(), 3) == Ok(true));
-    assert!(rt; is_ring_listed(rt.alloc(), 64) == Ok(true));
+    assert!(rt; is_ring_listed(&rt, rt.alloc(), 3) == Ok(true));
+    assert!(rt; is_ring_listed(&rt, rt.alloc(), 64) == Ok(true));
 }

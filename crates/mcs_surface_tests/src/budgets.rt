@@ -7,11 +7,11 @@ const CHOICE: &str =
     "context c1 program {} context c2 program {} bridge r1: c1:a if not c2:b. bridge r2: c2:b if not c1:a.";
 
 /// A context that may not believe what a rule tells it.
-const TOLD: &str =
+pub(crate) const TOLD: &str =
     "context c1 program { a. }\ncontext c2 program { :- p. }\nbridge r1: c2:p if c1:a.\n";
 
 /// A budget below the need leaves what is listed before its level.
-const RUNS: [Run; 8] = [
+pub(crate) const RUNS: [Run; 8] = [
     Run {
         words: "equilibria f --budget 1",
         text: SELF_ATTACK,
@@ -74,6 +74,6 @@ const RUNS: [Run; 8] = [
 #[test]
 fn budgets_suffice_or_leave_what_is_before_their_level(rt: HostRuntime) {
     for run in &RUNS {
-        assert!(rt; run.ends_so(rt.alloc()) == Ok(true));
+        assert!(rt; run.ends_so(&rt, rt.alloc()) == Ok(true));
     }
 }

@@ -2,7 +2,7 @@
 
 use crate::runs::{JOB, Listed, SELF_ATTACK, SELF_SUPPORT, SELF_SUPPORT_LISTING};
 
-const LISTINGS: [Listed; 9] = [
+pub(crate) const LISTINGS: [Listed; 9] = [
     // A context without a model believes everything.
     Listed {
         text: "context c1 classical { p. ~p. }\ncontext c2 classical {}\nbridge r1: c2:x if c1:q.\n",
@@ -50,6 +50,6 @@ const LISTINGS: [Listed; 9] = [
 #[test]
 fn equilibria_are_listed(rt: HostRuntime) {
     for listed in &LISTINGS {
-        assert!(rt; listed.is_given(rt.alloc(), JOB) == Ok(true));
+        assert!(rt; listed.is_given(&rt, rt.alloc(), JOB) == Ok(true));
     }
 }

@@ -4,7 +4,9 @@ use crate::runs::{sink_of, status_with};
 use mcs_base::Memory;
 use mcs_ports::Gate;
 use std::alloc::Global;
+use std::sync::Wait;
 use std::sync::atomic::{AtomicU64, Ordering};
+use std::thread::Threads;
 
 /// A gate that counts the questions to the first context, to the second, and to any other.
 #[derive(Drop)]
@@ -46,11 +48,12 @@ impl Gate for Counts {
 }
 
 /// The first context has one question. The second has one of level 0, two more of level 1 and one more of level 2.
-const FORBIDDEN: &str = "context c1 program { a. } context c2 program { :- p. :- q. }
+pub(crate) const FORBIDDEN: &str = "context c1 program { a. } context c2 program { :- p. :- q. }
 bridge r1: c2:p if c1:a. bridge r2: c2:q if not c1:b.";
 
 /// Whether the words over the system end with this status, and these are the questions that the gate was called before.
-fn is_called(
+fn is_called<R: Threads + Wait + Sync>(
+    rt: &R,
     alloc: Global,
     words: &str,
     status: u8,
@@ -59,7 +62,7 @@ fn is_called(
     let mut sink = sink_of(alloc)?;
     let gate = Counts::new();
     let files: [(&str, &[u8]); 1] = [("f", FORBIDDEN.as_bytes())];
-    let ended = status_with(alloc, words, &files, &mut sink, &gate)?;
+    let ended = status_with(rt, alloc, words, &files, &mut sink, &gate)?;
     Ok(ended == status && gate.counted() == counted)
 }
 
@@ -75,6 +78,6 @@ const CALLS: [(&str, u8, (u64, u64, u64)); 4] = [
 #[test]
 fn the_gate_is_called_once_before_each_question(rt: HostRuntime) {
     for (words, status, counted) in &CALLS {
-        assert!(rt; is_called(rt.alloc(), words, *status, *counted) == Ok(true));
+        assert!(rt; is_called(&rt, rt.alloc(), words, *status, *counted) == Ok(true));
     }
 }

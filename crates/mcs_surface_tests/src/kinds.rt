@@ -108,6 +108,6 @@ const LISTINGS: [Listed; 20] = [
 #[test]
 fn contexts_of_each_kind_are_evaluated(rt: HostRuntime) {
     for listed in &LISTINGS {
-        assert!(rt; listed.is_given(rt.alloc(), JOB) == Ok(true));
+        assert!(rt; listed.is_given(&rt, rt.alloc(), JOB) == Ok(true));
     }
 }

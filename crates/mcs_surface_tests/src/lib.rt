@@ -30,3 +30,5 @@ mod statuses;
 mod usage;
 #[cfg(test)]
 mod words;
+#[cfg(test)]
+mod workers;

@@ -33,6 +33,6 @@ const MADE: [Run; 3] = [
 #[test]
 fn systems_are_made(rt: HostRuntime) {
     for run in &MADE {
-        assert!(rt; run.ends_so(rt.alloc()) == Ok(true));
+        assert!(rt; run.ends_so(&rt, rt.alloc()) == Ok(true));
     }
 }

@@ -59,7 +59,7 @@ const REFUSALS: [Run; 7] = [
 #[test]
 fn texts_are_refused_for_what_is_wrong_with_them(rt: HostRuntime) {
     for run in &REFUSALS {
-        assert!(rt; run.ends_so(rt.alloc()) == Ok(true));
+        assert!(rt; run.ends_so(&rt, rt.alloc()) == Ok(true));
     }
 }
 
@@ -73,7 +73,7 @@ const LARGE: [Rows; 3] = [
 #[test]
 fn a_large_formula_is_refused(rt: HostRuntime) {
     let noted = "mcs: refused: F5 at 535: formula_size 512\n";
-    assert!(rt; made_ends(rt.alloc(), &LARGE, (3, b"", noted)) == Ok(true));
+    assert!(rt; made_ends(&rt, rt.alloc(), &LARGE, (3, b"", noted)) == Ok(true));
 }
 
 /// Thirteen rules into one context, numbered with two digits.
@@ -86,5 +86,5 @@ const MANY_RULES: [Rows; 3] = [
 #[test]
 fn too_many_rules_into_one_context_are_refused(rt: HostRuntime) {
     let noted = "mcs: refused: F5 at 250: rules_per_context 12\n";
-    assert!(rt; made_ends(rt.alloc(), &MANY_RULES, (3, b"", noted)) == Ok(true));
+    assert!(rt; made_ends(&rt, rt.alloc(), &MANY_RULES, (3, b"", noted)) == Ok(true));
 }

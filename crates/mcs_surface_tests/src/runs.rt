@@ -3,8 +3,10 @@
 use crate::made::{Rows, text_of};
 use mcs_base::Memory;
 use mcs_ports::{Gate, IdleGate, MemoryShelf, MemorySink};
-use mcs_top::run;
+use mcs_top::{Trail, run};
 use std::alloc::Global;
+use std::sync::Wait;
+use std::thread::Threads;
 
 /// The words that ask for the equilibria of the file `f`.
 pub const JOB: &str = "equilibria f";
@@ -56,49 +58,70 @@ pub fn sink_of(alloc: Global) -> Result<MemorySink, Memory> {
     MemorySink::new(alloc, Vec::new(alloc), ROOM, ROOM)
 }
 
+/// What the words give over these files, with a gate before each question: the status by its number, and the trail.
+pub fn run_with<G: Gate + Sync, R: Threads + Wait + Sync>(
+    rt: &R,
+    alloc: Global,
+    words: &str,
+    files: &[(&str, &[u8])],
+    sink: &mut MemorySink,
+    gate: &G,
+) -> Result<(u8, Trail), Memory> {
+    let mut shelf = shelf_of(alloc, files)?;
+    let words = words_of(alloc, words)?;
+    let (status, trail) = run(rt, alloc, &words, &mut shelf, sink, gate);
+    Ok((status.number(), trail))
+}
+
 /// What the words give over these files, with a gate before each question: the status by its number.
-pub fn status_with<G: Gate>(
+pub fn status_with<G: Gate + Sync, R: Threads + Wait + Sync>(
+    rt: &R,
     alloc: Global,
     words: &str,
     files: &[(&str, &[u8])],
     sink: &mut MemorySink,
     gate: &G,
 ) -> Result<u8, Memory> {
-    let mut shelf = shelf_of(alloc, files)?;
-    let words = words_of(alloc, words)?;
-    Ok(run(alloc, &words, &mut shelf, sink, gate).number())
+    Ok(run_with(rt, alloc, words, files, sink, gate)?.0)
 }
 
 /// What the words give over these files: the status by its number.
-pub fn status_of(
+pub fn status_of<R: Threads + Wait + Sync>(
+    rt: &R,
     alloc: Global,
     words: &str,
     files: &[(&str, &[u8])],
     sink: &mut MemorySink,
 ) -> Result<u8, Memory> {
-    status_with(alloc, words, files, sink, &IdleGate)
+    status_with(rt, alloc, words, files, sink, &IdleGate)
 }
 
 /// How a run ends: the status, what is written, and what is noted.
 pub type End<'a> = (u8, &'a [u8], &'a str);
 
 /// Whether the words end so over these files.
-pub fn ends(
+pub fn ends<R: Threads + Wait + Sync>(
+    rt: &R,
     alloc: Global,
     words: &str,
     files: &[(&str, &[u8])],
     (status, written, noted): End<'_>,
 ) -> Result<bool, Memory> {
     let mut sink = sink_of(alloc)?;
-    let ended = status_of(alloc, words, files, &mut sink)?;
+    let ended = status_of(rt, alloc, words, files, &mut sink)?;
     let (is_written, is_noted) = (sink.written() == written, sink.noted() == noted.as_bytes());
     Ok((ended == status) & is_written & is_noted)
 }
 
 /// Whether the equilibria of a file of these rows end so.
-pub fn made_ends(alloc: Global, rows: &[Rows], end: End<'_>) -> Result<bool, Memory> {
+pub fn made_ends<R: Threads + Wait + Sync>(
+    rt: &R,
+    alloc: Global,
+    rows: &[Rows],
+    end: End<'_>,
+) -> Result<bool, Memory> {
     let text = text_of(alloc, rows)?;
-    ends(alloc, JOB, &[("f", text.bytes())], end)
+    ends(rt, alloc, JOB, &[("f", text.bytes())], end)
 }
 
 /// Words over a file `f` of this text, and how the run ends.
@@ -112,9 +135,9 @@ pub struct Run {
 
 impl Run {
     /// Whether the run ends so.
-    pub fn ends_so(&self, alloc: Global) -> Result<bool, Memory> {
+    pub fn ends_so<R: Threads + Wait + Sync>(&self, rt: &R, alloc: Global) -> Result<bool, Memory> {
         let end = (self.status, self.written.as_bytes(), self.noted);
-        ends(alloc, self.words, &[("f", self.text.as_bytes())], end)
+        ends(rt, alloc, self.words, &[("f", self.text.as_bytes())], end)
     }
 }
 
@@ -126,8 +149,13 @@ pub struct Listed {
 
 impl Listed {
     /// Whether the words give this listing, and nothing is noted.
-    pub fn is_given(&self, alloc: Global, words: &str) -> Result<bool, Memory> {
+    pub fn is_given<R: Threads + Wait + Sync>(
+        &self,
+        rt: &R,
+        alloc: Global,
+        words: &str,
+    ) -> Result<bool, Memory> {
         let end = (0, self.listing.as_bytes(), "");
-        ends(alloc, words, &[("f", self.text.as_bytes())], end)
+        ends(rt, alloc, words, &[("f", self.text.as_bytes())], end)
     }
 }

@@ -5,7 +5,7 @@ use crate::runs::Listed;
 /// The words that ask for the whole listing of the file `f`.
 const SOLVE: &str = "solve f";
 
-const LISTINGS: [Listed; 11] = [
+pub(crate) const LISTINGS: [Listed; 11] = [
     // A text without contexts.
     Listed {
         text: "",
@@ -66,6 +66,6 @@ const LISTINGS: [Listed; 11] = [
 #[test]
 fn systems_are_solved(rt: HostRuntime) {
     for listed in &LISTINGS {
-        assert!(rt; listed.is_given(rt.alloc(), SOLVE) == Ok(true));
+        assert!(rt; listed.is_given(&rt, rt.alloc(), SOLVE) == Ok(true));
     }
 }

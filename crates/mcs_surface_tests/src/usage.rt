@@ -3,11 +3,18 @@
 use crate::runs::{End, SELF_SUPPORT, SELF_SUPPORT_LISTING, ends};
 use mcs_base::Memory;
 use std::alloc::Global;
+use std::sync::Wait;
+use std::thread::Threads;
 
 /// Whether the words of each line end so over a file `f`.
-fn all_end(alloc: Global, lines: &str, end: End<'_>) -> Result<bool, Memory> {
+fn all_end<R: Threads + Wait + Sync>(
+    rt: &R,
+    alloc: Global,
+    lines: &str,
+    end: End<'_>,
+) -> Result<bool, Memory> {
     for words in lines.split('\n') {
-        if !ends(alloc, words, &[("f", SELF_SUPPORT.as_bytes())], end)? {
+        if !ends(rt, alloc, words, &[("f", SELF_SUPPORT.as_bytes())], end)? {
             return Ok(false);
         }
     }
@@ -25,6 +32,13 @@ const JOBS: &str =
 #[test]
 fn words_start_runs_or_are_told_to_be_no_job(rt: HostRuntime) {
     let usage = "mcs: usage: mcs JOB FILE [REPORT] [--budget N] [--workers N] [--proof]\n";
-    assert!(rt; all_end(rt.alloc(), NO_JOBS, (2, b"", usage)) == Ok(true));
-    assert!(rt; all_end(rt.alloc(), JOBS, (0, SELF_SUPPORT_LISTING.as_bytes(), "")) == Ok(true));
+    assert!(rt; all_end(&rt, rt.alloc(), NO_JOBS, (2, b"", usage)) == Ok(true));
+    assert!(rt;
+        all_end(
+            &rt,
+            rt.alloc(),
+            JOBS,
+            (0, SELF_SUPPORT_LISTING.as_bytes(), "")
+        ) == Ok(true)
+    );
 }

@@ -21,7 +21,7 @@ told_status stop status before now (inl own) = inl own.status_is
 told_status stop status before now (inr want) = inr want.status_is
 
 -- where another status than that of want of memory is told, it is the stop's own
-own_line : (stop : Stop) (status due : Status) (before now : Device) → IsEndingTold stop status before now → status ≡ due → ¬ (due ≡ statuses.OutOfMemory) → (status_of stop ≡ due) × (now.notes ≡ noted before.notes (line_of stop))
+pub own_line : (stop : Stop) (status due : Status) (before now : Device) → IsEndingTold stop status before now → status ≡ due → ¬ (due ≡ statuses.OutOfMemory) → (status_of stop ≡ due) × (now.notes ≡ noted before.notes (line_of stop))
 own_line stop status due before now (inl own) is other = (sym own.status_is ∙ is, own.notes)
 own_line stop status due before now (inr want) is other = absurd (other (sym is ∙ want.status_is))
 

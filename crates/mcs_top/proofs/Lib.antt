@@ -4,3 +4,5 @@ pub mod StageLemmas
 pub mod ProvingLemmas
 pub mod CheckingLemmas
 pub mod PromiseLemmas
+pub mod TrailLemmas
+pub mod JobTrails

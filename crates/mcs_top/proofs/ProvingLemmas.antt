@@ -24,8 +24,9 @@ use Rattle.mcs_work.specs.declared.task.Task.TheVariants.{Solve}
 use Rattle.mcs_words.specs.Commands.{Word, solve}
 use Rattle.mcs_listing.specs.Jobs.{File, OfOneFile}
 use Rattle.mcs_listing.specs.Texts.{IsTextOf, StopsReading}
+use Rattle.mcs_top.specs.Evaluating.{HasListed}
 use Rattle.mcs_top.specs.Promise.{IsListedProved, IsSolved, IsSolutionStage, WritesOutput, WritesStage, StopsProof, IsStopCause, LeavesText}
-use Rattle.mcs_listing.specs.Listings.{OfSystem, IsListedBefore, Prints, PrintsFront, StopsWork, StopsAnswers, IsNewMesh, HaveOrigin}
+use Rattle.mcs_listing.specs.Listings.{OfSystem, IsListedBefore, Prints, PrintsFront, StopsWork, StopsAnswers, IsNewEvaluator, HaveOrigin}
 use Rattle.mcs_listing.specs.declared.ending.Stop.{Stop}
 use Rattle.mcs_listing.specs.declared.ending.Stop.TheVariants as stops
 use Rattle.mcs_listing.proofs.JobLemmas.{told_also, of_file}
@@ -48,7 +49,7 @@ work_stops_proof budget m sink-rose before now stops.WriteFault h = (h.0, front_
 work_stops_proof budget m sink-rose before now stops.Memory h = front_of_stage m before now h
 
 -- ---- after the listing
-module _ (m : System) (budget : ℕ) (e e' : EvaluatorState) (fresh : IsNewMesh m budget e) (rest : KeepsRest e e') (before mid : Option (List ℕ)) (d : IsDone Solve [] e e' before mid) where
+module _ (m : System) (budget : ℕ) (e e' : EvaluatorState) (fresh : IsNewEvaluator m budget e) (rest : KeepsRest e e') (before mid : Option (List ℕ)) (d : IsDone Solve [] e e' before mid) where
   system_kept : e'.system ≡ m
   system_kept = rest.system ∙ fresh.system
 
@@ -188,3 +189,15 @@ module _ (name : Word) (budget workers : ℕ) where
         → IfErr r (λ stop. LeavesText stop (solve name budget workers true) files before now)
     proof_leaves sink-rose before now (Ok x) h = tt
     proof_leaves sink-rose before now (Err stop) h = proof_left sink-rose before now stop h
+
+-- ---- after the evaluation of a system
+module _ (m : System) (budget : ℕ) (oracles : List OracleState) (before mid : Option (List ℕ)) (h : HasListed Solve budget true m oracles before mid) where
+  pub listed_asked : AreAsked m h.whole.level oracles
+  listed_asked = subst (λ (os : List OracleState). AreAsked m h.whole.level os) h.oracles_are (solvers_asked m budget h.first h.state h.fresh h.rest before mid h.whole h.keeps)
+
+  pub listed_proved : (now : Option (List ℕ)) (r : Result (Unit {0}) Stop) → OnOk r (HasProved m h.whole.level mid now) → OnOk r (Prints (λ text. IsListedProved budget text m) before now)
+  listed_proved now r p = proof_done m budget h.first h.state h.fresh h.rest before mid h.whole now r p
+
+  pub listed_stops : (first middle last : ℕ) → first ≤ middle → (now : Option (List ℕ)) (r : Result (Unit {0}) Stop) → IfErr r (λ stop. StopsAnswers stop m h.whole.level (Rose middle last) mid now)
+      → IfErr r (λ stop. StopsProof stop budget m (Rose first last) before now)
+  listed_stops first middle last up now r stops = proof_stops m budget h.first h.state h.fresh h.rest before mid h.whole first middle last up now r stops

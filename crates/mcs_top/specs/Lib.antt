@@ -1,2 +1,4 @@
 pub mod Promise
 pub mod Programs
+pub mod Trails
+pub mod Evaluating

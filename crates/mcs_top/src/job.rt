@@ -4,25 +4,35 @@ ghost use Rattle.std.specs.Prelude.{◌≡◌, ◌≤◌, [], IfSome, IfOk, IfEr
 ghost use Rattle.mcs_ports.specs.Causes.{Rose};
 ghost use Rattle.mcs_words.specs.Reading.{request_of};
 ghost use Rattle.mcs_listing.specs.Jobs.{told_all, files_in};
+ghost use Rattle.mcs_crew.specs.Trails.{IsNoTrail, trail_of};
 ghost use Rattle.mcs_top.specs.Promise.{EndsSo, IsStopCause, LeavesText, as_done};
+ghost use Rattle.mcs_top.specs.Trails.{LeavesTrail};
 
+use crate::assignment::Assignment;
 use crate::checking::check;
 use crate::listing::evaluate;
+use crate::making::generated;
 use crate::outcome::Outcome;
 use crate::proving::prove;
-use mcs_listing::{Stop, generated};
+use mcs_crew::Trail;
+use mcs_listing::Stop;
 use mcs_ports::{Gate, Shelf, Sink};
 use mcs_words::Job;
 use mcs_work::Task;
 use std::alloc::Global;
+use std::sync::Wait;
+use std::thread::Threads;
 
-/// Does the job. If it names no file, the shelf stays as it is.
-pub(crate) fn do_job<H: Shelf, K: Sink, G: Gate>(
+/// Does the job. If it names no file, the shelf stays as it is. What the last round of several workers leaves to be seen
+/// is put into `trail`.
+pub(crate) fn do_job<H: Shelf, K: Sink, G: Gate + Sync, R: Threads + Wait + Sync>(
+    rt: &R,
     alloc: Global,
     job: &Job,
     shelf: &mut H,
     sink: &mut K,
     gate: &G,
+    trail: &mut Trail,
 ) -> Result<Outcome, Stop>
     ensures shelf_later { H.faults shelf.old ≤ H.faults shelf.new }
     ensures unread { files_in (request_of job.now) ≡ [] → shelf.new ≡ shelf.old }
@@ -38,25 +48,50 @@ pub(crate) fn do_job<H: Shelf, K: Sink, G: Gate>(
     ensures leaves { IfErr result (λ stop. LeavesText stop
         (request_of job.now) (told_all (H.held shelf.old) (files_in (request_of job.now)))
         (K.device sink.old).written (K.device sink.new).written) }
+    ensures trail { IsNoTrail (trail_of trail.old) → LeavesTrail (request_of job.now) (told_all (H.held shelf.old) (files_in (request_of job.now))) (trail_of trail.new) result }
 {
     match job {
-        Job::Equilibria { file, budget, .. } => {
-            done(evaluate(alloc, Task::Equilibria, file, *budget, shelf, sink, gate))
+        Job::Equilibria {
+            file,
+            budget,
+            workers,
+        } => {
+            let assignment = plain(Task::Equilibria, *budget, *workers);
+            done(evaluate(rt, alloc, assignment, file, shelf, sink, gate, trail))
         }
         Job::Solve {
             file,
             budget,
+            workers,
             proof,
-            ..
         } => {
             if *proof {
-                done(prove(alloc, file, *budget, shelf, sink, gate))
+                done(prove(rt, alloc, file, *budget, *workers, shelf, sink, gate, trail))
             } else {
-                done(evaluate(alloc, Task::Solve, file, *budget, shelf, sink, gate))
+                let assignment = plain(Task::Solve, *budget, *workers);
+                done(evaluate(rt, alloc, assignment, file, shelf, sink, gate, trail))
             }
         }
         Job::Check { file, report } => check(alloc, file, report, shelf, sink),
-        Job::Make { number, budget, .. } => done(generated(alloc, *number, *budget, sink, gate)),
+        Job::Make {
+            number,
+            budget,
+            workers,
+        } => done(generated(rt, alloc, *number, *budget, *workers, sink, gate, trail)),
+    }
+}
+
+/// The task within this budget, by so many workers, without certificates.
+fn plain(task: Task, budget: u64, workers: u32) -> Assignment
+    ensures task { result.task ≡ task }
+    ensures budget { result.budget ≡ budget }
+    ensures workers { result.workers ≡ workers }
+{
+    Assignment {
+        task,
+        budget,
+        workers,
+        keep: false,
     }
 }
 

@@ -2,15 +2,20 @@
 //! listing and the number of the status.
 #![tactic(auto)]
 
+mod assignment;
 mod checking;
 mod command;
+mod evaluating;
 mod job;
 mod listing;
+mod making;
 mod outcome;
 mod program;
 mod proving;
+mod threads;
 
 pub use command::run;
+pub use mcs_crew::Trail;
 pub use mcs_listing::Status;
 pub use mcs_work::{Task, WorkStop, work};
 pub use program::run_program;

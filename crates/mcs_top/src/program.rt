@@ -10,13 +10,16 @@ use crate::command::run;
 use mcs_listing::{Status, note_want_of_memory};
 use mcs_ports::{Gate, Shelf, Sink};
 use std::alloc::{AllocError, Global};
+use std::sync::Wait;
+use std::thread::Threads;
 use std::{env, io};
 
 /// Runs the program. `words` are the words that the operating system gives; the first, the program's name, is dropped,
 /// and the others are passed to `run`. Returns the number of the status, with which the program ends. If the operating
 /// system fails to give the words, there are none, and so they ask for no job; but if it fails for want of memory, the
 /// run ends for want of memory.
-pub fn run_program<H: Shelf, K: Sink, G: Gate>(
+pub fn run_program<H: Shelf, K: Sink, G: Gate + Sync, R: Threads + Wait + Sync>(
+    rt: &R,
     alloc: Global,
     words: io::Result<env::Args>,
     shelf: &mut H,
@@ -29,11 +32,12 @@ pub fn run_program<H: Shelf, K: Sink, G: Gate>(
     ensures unread { NamesNoFile (words_given words) → shelf.new ≡ shelf.old }
     ensures unheard { LackedMemory words → result ≡ 7 }
 {
-    done_so(alloc, words, shelf, sink, gate).number()
+    done_so(rt, alloc, words, shelf, sink, gate).number()
 }
 
 /// Does the job that the given words ask for, and returns the status.
-fn done_so<H: Shelf, K: Sink, G: Gate>(
+fn done_so<H: Shelf, K: Sink, G: Gate + Sync, R: Threads + Wait + Sync>(
+    rt: &R,
     alloc: Global,
     words: io::Result<env::Args>,
     shelf: &mut H,
@@ -46,7 +50,7 @@ fn done_so<H: Shelf, K: Sink, G: Gate>(
     ensures unheard { LackedMemory words → result ≡ statuses.OutOfMemory }
 {
     match kept_words(alloc, words) {
-        Ok(words) => run(alloc, after_name(&words), shelf, sink, gate),
+        Ok(words) => run(rt, alloc, after_name(&words), shelf, sink, gate).0,
         Err(_) => note_want_of_memory(sink),
     }
 }

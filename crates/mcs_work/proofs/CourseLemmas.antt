@@ -346,7 +346,7 @@ module _ (x : Extent) (m : System) (e e' : EvaluatorState) (same : e.system ≡ 
 
   pub verdict_cut : (before mid now : Device) (why : Unwritten) → mid.faults ≡ before.faults → mid.written ≡ appended before.written (opening (task_of x) m) → Writes {T = Unit {0}} (states_part x m σs) mid now (Err why) → HasStopped (task_of x) [] e e' before now (stop_for_line why)
   verdict_cut before mid now why still wrote w =
-      stopped_later (task_of x) [] (opening (task_of x) m) e e e' before mid now (record { system = refl; budget = refl; oracles = refl }) still wrote (stop_for_line why) (cut_off (task_of x) (opening (task_of x) m) (states_part x m σs) e e' mid now why front_stage w)
+      stopped_later (task_of x) [] (opening (task_of x) m) e e e' before mid now (record { system = refl; budget = refl; workers = refl; oracles = refl }) still wrote (stop_for_line why) (cut_off (task_of x) (opening (task_of x) m) (states_part x m σs) e e' mid now why front_stage w)
 
 pub front_written : (x : Extent) (m : System) (σs : List ℕ) (before mid now : Option (List ℕ)) → mid ≡ appended before (opening (task_of x) m) → now ≡ appended mid (states_part x m σs) → now ≡ appended before (front_part x m σs [])
 front_written x m σs before mid now first next = next ∙ ap (λ w. appended w (states_part x m σs)) first ∙ appended-append before (opening (task_of x) m) (states_part x m σs) ∙ ap (appended before) (front_begins x m σs)

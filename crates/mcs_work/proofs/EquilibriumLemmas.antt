@@ -28,10 +28,10 @@ works_stopped task so_far e e' before now stop (Err s) is later notes rest h = r
 -- a text was cut off, or written whole, and nothing else was done
 pub rest_stopped : (task : Task) (so_far : List ℕ) (e : EvaluatorState) (before now : Device) (text : List ℕ) (why : Unwritten) (r : Result (Unit {0}) WorkStop) → IsErrAnd r (λ s. s ≡ stop_for_line why) → Writes {T = Unit {0}} text before now (Err why)
     → HasStopped task so_far e e before now (stop_for_line why) → Works task so_far e e before now r
-rest_stopped task so_far e before now text why r is w h = works_stopped task so_far e e before now (stop_for_line why) r is w.later w.notes (record { system = refl; budget = refl; oracles = refl }) h
+rest_stopped task so_far e before now text why r is w h = works_stopped task so_far e e before now (stop_for_line why) r is w.later w.notes (record { system = refl; budget = refl; workers = refl; oracles = refl }) h
 
 pub rest_finished : (task : Task) (so_far : List ℕ) (e : EvaluatorState) (before now : Device) (text : List ℕ) (x : Unit {0}) → Writes text before now (Ok x) → IsDone task so_far e e before.written now.written → Works task so_far e e before now (Ok tt)
-rest_finished task so_far e before now text x w d = record { later = w.later; notes = w.notes; rest = record { system = refl; budget = refl; oracles = refl }; quiet = w.quiet; done = d; stop = tt }
+rest_finished task so_far e before now text x w d = record { later = w.later; notes = w.notes; rest = record { system = refl; budget = refl; workers = refl; oracles = refl }; quiet = w.quiet; done = d; stop = tt }
 
 module _ (m : System) (e e' : EvaluatorState) (same : e.system ≡ m) (fresh : e.done ≡ None) (kept : KeepsRest e e') (h : HasDone e e' 0) (states : List ℕ) (asked : ℕ) (equilibria : AreEquilibria m states) (told : e'.halted ≡ false → asked ≡ asked_of e')
     (before mid : Device) (still : mid.faults ≡ before.faults) (notes : mid.notes ≡ before.notes) (wrote : mid.written ≡ appended before.written (heading m)) where
@@ -49,7 +49,7 @@ module _ (m : System) (e e' : EvaluatorState) (same : e.system ≡ m) (fresh : e
 
   pub listing_cut : (now : Device) (why : Unwritten) (r : Result (Unit {0}) WorkStop) → IsErrAnd r (λ s. s ≡ stop_for_line why) → Writes {T = Unit {0}} (after_heading m states asked) mid now (Err why) → Works Equilibria [] e e' before now r
   listing_cut now why r is w = works_stopped Equilibria [] e e' before now (stop_for_line why) r is (omega (arith, still, w.later)) (w.notes ∙ notes) kept
-      (stopped_later Equilibria [] (heading m) e e e' before mid now (record { system = refl; budget = refl; oracles = refl }) still wrote (stop_for_line why)
+      (stopped_later Equilibria [] (heading m) e e e' before mid now (record { system = refl; budget = refl; workers = refl; oracles = refl }) still wrote (stop_for_line why)
       (cut_off Equilibria (heading m) (after_heading m states asked) e e' mid now why (inr known) w))
 
   pub listing_done : (now : Device) (x : Unit {0}) → Writes (after_heading m states asked) mid now (Ok x) → Works Equilibria [] e e' before now (Ok tt)

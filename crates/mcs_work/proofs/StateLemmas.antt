@@ -19,7 +19,7 @@ use Rattle.mcs_report.specs.Solutions.{AreEquilibria}
 
 -- what stays, seen from the later one
 pub rest_back : (a b : EvaluatorState) → KeepsRest a b → KeepsRest b a
-rest_back a b h = record { system = sym h.system; budget = sym h.budget; oracles = sym h.oracles }
+rest_back a b h = record { system = sym h.system; budget = sym h.budget; workers = sym h.workers; oracles = sym h.oracles }
 
 pub beyond_before : (a b : EvaluatorState) → KeepsRest a b → (level : ℕ) → ExceedsBudget b level → ExceedsBudget a level
 beyond_before a b h level beyond = subst (λ (m : System). HasQuestions m level (a.budget + 1)) h.system (subst (λ (n : ℕ). HasQuestions b.system level (n + 1)) h.budget beyond)

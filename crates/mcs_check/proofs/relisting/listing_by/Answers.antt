@@ -14,7 +14,7 @@ use Rattle.mcs_check.proofs.RelistingLemmas.{start_of, told_listing, told_stop, 
 use Rattle.mcs_check.proofs.relisting.listing_by.Goals as goal
 
 -- the evaluator that is made
-made : (m n : System) (os : List OracleState) (e : EvaluatorState) → e ≡ evaluator_state_of n 4294967295 None None (map (λ (o : OracleState). o) os) → n ≡ m → e ≡ start_of m os
+made : (m n : System) (os : List OracleState) (e : EvaluatorState) → e ≡ evaluator_state_of 1 n 4294967295 None None (map (λ (o : OracleState). o) os) → n ≡ m → e ≡ start_of m os
 made m n os e is same = is ∙ ap (λ (k : System). start_of k (map (λ (o : OracleState). o) os)) same ∙ ap (start_of m) (map-id os)
 
 pub new-requires-2-clause-own : goal.new-requires-2-clause-own

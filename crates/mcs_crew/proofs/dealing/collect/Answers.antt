@@ -1,9 +1,8 @@
-use Rattle.std.proofs.Common.{◌≡◌, ◌≤◌, ◌%◌, ◌+◌, ◌∙◌, List, ap, length, get_or, slice_get, slice_set, Some, refl, sym, subst, arith}
-use Rattle.mcs_node.specs.Nodes.{NodeData}
+use Rattle.std.proofs.Common.{◌≡◌, ◌%◌, ◌∙◌, ap, length, get_or, slice_get, Some, refl, arith}
 use Rattle.mcs_mesh.proofs.NodeLemmas.{image_kept, read_at}
 use Rattle.mcs_crew.specs.Calls.{without_nodes}
 use Rattle.mcs_crew.specs.declared.load.Load.{Load}
-use Rattle.mcs_crew.proofs.PlayLemmas.{AreCollected, collected_all, collected_on, collected_some}
+use Rattle.mcs_crew.proofs.PlayLemmas.{collected_all, collected_on, collected_some}
 use Rattle.mcs_crew.proofs.dealing.collect.Goals as goal
 
 pub unreachable-requires : goal.unreachable-requires
@@ -31,10 +30,9 @@ loop-i-preserved g c =
     let d : Load g.row.O.Denot = get_or loads group c.index-loads-group.result in
     let e : Load g.row.O.Denot = record d { team = record d.team { nodes = c.pop.new.self } } in
     let at : slice_get loads group ≡ Some d = read_at loads group c.index-loads-group.result (omega (arith, long, some)) in record {
-      collecting = subst (λ (ns : List NodeData). AreCollected (length c.args.loads.now) c.args.contexts c.args.loads.now (slice_set loads group e) ns (i + 1)) (sym c.push_reserved.ensures.items)
-          (collected_on (length c.args.loads.now) c.args.contexts group some c.args.loads.now loads c.loop-i.nodes.items i d e at (ap (λ n. i % n) long) c.loop-i-test.true c.loop-i.invariant.collecting c.in-Some.node c.in-Some.ensures.items);
+      collecting = rw c.push_reserved.ensures.items (collected_on (length c.args.loads.now) c.args.contexts group some c.args.loads.now loads c.loop-i.nodes.items i d e at (ap (λ n. i % n) long) c.loop-i-test.true c.loop-i.invariant.collecting c.in-Some.node c.in-Some.ensures.items);
       rest = image_kept without_nodes loads group d e at refl ∙ c.loop-i.invariant.rest;
-      room = subst (λ n. c.args.contexts ≤ n) (sym c.push_reserved.ensures.capacity) c.loop-i.invariant.room;
+      room = rw c.push_reserved.ensures.capacity c.loop-i.invariant.room;
     }
 
 pub returns-clause-dealt : goal.returns-clause-dealt

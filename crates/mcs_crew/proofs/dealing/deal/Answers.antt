@@ -1,4 +1,4 @@
-use Rattle.std.proofs.Common.{◌≡◌, ◌≤◌, ◌%◌, ◌∙◌, ap, length, get_or, slice_get, Some, vec_len, vec_capacity, refl, sym, subst, arith}
+use Rattle.std.proofs.Common.{◌≡◌, ◌≤◌, ◌%◌, ◌∙◌, ap, length, get_or, slice_get, Some, vec_len, vec_capacity, refl, arith}
 use Rattle.mcs_base.proofs.Each.{all_get}
 use Rattle.mcs_mesh.proofs.NodeLemmas.{image_kept, read_at}
 use Rattle.mcs_crew.specs.Calls.{without_nodes}
@@ -34,6 +34,6 @@ loop-node-preserved g c =
     let room = all_get (λ (l : Load g.row.O.Denot). vec_len c.args.nodes.now ≤ vec_capacity l.team.nodes) loads group d c.loop-node.invariant.room at in record {
       part = dealt_on (length c.args.loads.now) k group c.in-Some.node c.args.nodes.now.items c.loop-node.nodes.items c.pop.new.self.items loads d e at (ap (λ n. k % n) long) c.in-Some.ensures.items (c.len.ensures ∙ c.pop.new.self.ok.0) c.loop-node.invariant.part c.push_reserved.ensures.items;
       rest = image_kept without_nodes loads group d e at refl ∙ c.loop-node.invariant.rest;
-      room = all_set (λ (l : Load g.row.O.Denot). vec_len c.args.nodes.now ≤ vec_capacity l.team.nodes) loads group e c.loop-node.invariant.room (subst (λ n. vec_len c.args.nodes.now ≤ n) (sym c.push_reserved.ensures.capacity) room);
+      room = all_set (λ (l : Load g.row.O.Denot). vec_len c.args.nodes.now ≤ vec_capacity l.team.nodes) loads group e c.loop-node.invariant.room (rw c.push_reserved.ensures.capacity room);
       capacity = c.in-Some.ensures.capacity ∙ c.loop-node.invariant.capacity;
     }

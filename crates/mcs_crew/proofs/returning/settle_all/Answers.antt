@@ -1,9 +1,7 @@
-use Rattle.std.proofs.Common.{◌++◌, ◌∙◌, ℕ, List, [], ◌∷◌, ap, drop, length, length-append, refl, sym, subst}
+use Rattle.std.proofs.Common.{◌∙◌, ℕ, [], ◌∷◌, ap, drop, length, length-append, refl, sym}
 use Rattle.std.proofs.lemmas.Iterator.Adapters.{YieldsList-from_vec}
 use Rattle.std.proofs.lemmas.Iterator.Consumers.{YieldsList-turn}
 use Rattle.std.proofs.lemmas.Option.{slice_get_read}
-use Rattle.mcs_wire.specs.Ends.{SettledData}
-use Rattle.mcs_crew.specs.Hubs.{AreSettled}
 use Rattle.mcs_crew.proofs.HubLemmas.{next_dropped, settled_more}
 use Rattle.mcs_crew.proofs.returning.settle_all.Goals as goal
 
@@ -24,6 +22,6 @@ loop-address-preserved g c =
     let first = next_dropped (length yielded) c.args.inboxes.items c.in-Some-pop_front.inbox c.pop_front.new.self.items (sym c.loop-address.invariant.left ∙ c.in-Some-pop_front.ensures.items) in
     let told = c.in_ok-settle.ensures in record {
       left = first.1 ∙ ap (λ (n : ℕ). drop n c.args.inboxes.items) (sym (length-append yielded (c.in-Some.address ∷ [])));
-      settled = subst (λ (ws : List SettledData). AreSettled (yielded ++ c.in-Some.address ∷ []) c.args.inboxes.items ws) (sym c.in_ok-push.ensures.items)
+      settled = rw c.in_ok-push.ensures.items
           (settled_more yielded c.args.inboxes.items c.loop-address.wires.items c.in-Some.address c.in-Some-pop_front.inbox c.in_ok-settle.field-0 c.loop-address.invariant.settled first.0 told.plan told.sent told.got);
     }

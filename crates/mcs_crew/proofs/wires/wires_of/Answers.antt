@@ -1,7 +1,4 @@
-use Rattle.std.proofs.Common.{◌+◌, ◌++◌, [], ◌∷◌, List, subst, sym}
 use Rattle.std.specs.Arc.{arc_value}
-use Rattle.mcs_wire.specs.Ends.{AddressData, InboxData}
-use Rattle.mcs_crew.specs.Hubs.{AreWires}
 use Rattle.mcs_crew.proofs.HubLemmas.{wires_more}
 use Rattle.mcs_crew.proofs.wires.wires_of.Goals as goal
 
@@ -11,6 +8,5 @@ loop-group-preserved c =
     let k = c.loop-group.group in
     let ps = c.loop-group.addresses.items in
     let is = c.loop-group.inboxes.items in
-    subst (λ (xs : List AddressData). AreWires m c.args.groups (k + 1) xs c.push-in-loop-group.new.self.items) (sym c.in_ok-push.ensures.items)
-    (subst (λ (ys : List InboxData). AreWires m c.args.groups (k + 1) (ps ++ c.in_ok-address.field-0.address ∷ []) ys) (sym c.in_ok-push-2.ensures.items)
-    (wires_more m c.args.groups k ps is c.in_ok-address.field-0.address c.in_ok-address.field-0.inbox c.loop-group.invariant c.in_ok-address.ensures))
+    rw (c.in_ok-push.ensures.items, c.in_ok-push-2.ensures.items)
+    (wires_more m c.args.groups k ps is c.in_ok-address.field-0.address c.in_ok-address.field-0.inbox c.loop-group.invariant c.in_ok-address.ensures)

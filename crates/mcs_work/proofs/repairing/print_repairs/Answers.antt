@@ -13,7 +13,7 @@ returns-in_err-found g c σs equilibria counted = works_stopped (task_of c.args.
 pub returns-in_err-pairs : goal.returns-in_err-pairs
 returns-in_err-pairs g c σs equilibria counted = works_later (task_of c.args.extent) (front_part c.args.extent c.args.system.now σs []) (diagnoses_part c.args.extent c.args.system.now 1 c.in_ok-found.found.items) (g.E.Evaluator.stands c.args.levels.now.evaluator) (g.E.Evaluator.stands c.print_levels.new.levels.evaluator) (g.E.Evaluator.stands c.print_levels.new.levels.evaluator) (g.K.Sink.device c.args.sink.now) (g.K.Sink.device c.print_levels.new.sink) (g.K.Sink.device c.print_levels.new.sink) c.in_ok-found.ensures.rest c.in_ok-found.ensures.quiet c.in_ok-found.ensures.written c.in_ok-found.ensures.notes _
     (subst (λ t. Works (task_of c.args.extent) t (g.E.Evaluator.stands c.print_levels.new.levels.evaluator) (g.E.Evaluator.stands c.print_levels.new.levels.evaluator) (g.K.Sink.device c.print_levels.new.sink) (g.K.Sink.device c.print_levels.new.sink) c.from_residual-in_err-pairs.result) (sym (front_more c.args.extent c.args.system.now σs [] c.in_ok-found.found.items))
-    (works_stopped (task_of c.args.extent) (front_part c.args.extent c.args.system.now σs c.in_ok-found.found.items) (g.E.Evaluator.stands c.print_levels.new.levels.evaluator) (g.E.Evaluator.stands c.print_levels.new.levels.evaluator) (g.K.Sink.device c.print_levels.new.sink) (g.K.Sink.device c.print_levels.new.sink) _ _ c.from_residual-in_err-pairs.ensures.1 (omega arith) refl (record { system = refl; budget = refl; oracles = refl })
+    (works_stopped (task_of c.args.extent) (front_part c.args.extent c.args.system.now σs c.in_ok-found.found.items) (g.E.Evaluator.stands c.print_levels.new.levels.evaluator) (g.E.Evaluator.stands c.print_levels.new.levels.evaluator) (g.K.Sink.device c.print_levels.new.sink) (g.K.Sink.device c.print_levels.new.sink) _ _ c.from_residual-in_err-pairs.ensures.1 (omega arith) refl (record { system = refl; budget = refl; workers = refl; oracles = refl })
     (levels_left c.args.extent c.args.system.now (g.E.Evaluator.stands c.print_levels.new.levels.evaluator) (c.in_ok-found.ensures.rest.system ∙ c.requires.same) c.print_levels.new.levels.level c.in_ok-found.found.items c.in_ok-found.ensures.under_way σs equilibria (g.K.Sink.device c.print_levels.new.sink))))
 
 pub print_rest-requires : goal.print_rest-requires

@@ -1,10 +1,11 @@
 use Rattle.std.proofs.Common.{ℕ, ap, subst, sym, Option, Some, Ok, Err}
+use Rattle.std.proofs.lemmas.Option.{none-some}
 use Rattle.std.specs.Arc.{arc_value}
 use Rattle.mcs_system.specs.Plain.{System}
 use Rattle.mcs_states.specs.Evaluators.{HasHalted}
 use Rattle.mcs_states.specs.declared.halt.Halt.{Halt}
 use Rattle.mcs_mesh.specs.Rounds.{IsEvaluation, evaluation_of}
-use Rattle.mcs_mesh.proofs.MeshLemmas.{as_played, ended_err, ended_ok, shown_at, play_ready, played_done, played_halted, played_kept, played_rest, stopped_kept}
+use Rattle.mcs_mesh.proofs.MeshLemmas.{as_played, ended_err, ended_ok, halt_of_round, halted_anyhow, no_halt_yet, shown_at, play_ready, played_done, played_halted, played_kept, played_rest, stopped_kept}
 use Rattle.mcs_mesh.proofs.evaluation.Evaluation.play.Goals as goal
 
 pub play-nodes-requires-clause-ready : goal.play-nodes-requires-clause-ready
@@ -21,6 +22,9 @@ invariant_of-self-in-Ok-total g c =
       shown_at (arc_value c.self.inside.plan) c.args.level (λ (m : System) (level : ℕ). g.P.Player.leaves (g.P.Player.workers c.self.inside.player) m level c.self.inside.budget (g.P.Over.NodeList.seen c.play-nodes.result.nodes)) (arc_value c.in-Ok.plan) c.in-Ok.ensures
           c.play-nodes.result.trail c.play-nodes.result.total c.play-nodes.ensures.left c.self.inside.halt (ended_ok (g.P.Player.workers c.self.inside.player) (arc_value c.self.inside.plan) c.self.inside.budget c.self.inside.done c.self.inside.halt c.self.inside.replayed c.self.inside.level (g.P.Over.NodeList.seen c.self.inside.nodes) c.self.inside.asked c.self.invariant.0 c.args.self.now c.self.view_is
           c.requires.going c.play-nodes.result.total c.in-Ok-total.total c.in-Ok-total.is),
+      λ plays none is. is,
+      no_halt_yet (g.P.Player.workers c.self.inside.player) (arc_value c.self.inside.plan) c.self.inside.budget c.self.inside.done c.self.inside.halt c.self.inside.replayed c.self.inside.level (g.P.Over.NodeList.seen c.self.inside.nodes) c.self.inside.asked c.self.invariant.0 c.args.self.now c.self.view_is c.requires.going (Some c.args.level),
+      λ none. absurd (none-some c.args.level (sym none)),
     )
 
 pub returns-in-Ok-total-clause-done : goal.returns-in-Ok-total-clause-done
@@ -45,6 +49,9 @@ invariant_of-self-in-Err g c =
       c.self.invariant.2,
       shown_at (arc_value c.self.inside.plan) c.args.level (λ (m : System) (level : ℕ). g.P.Player.leaves (g.P.Player.workers c.self.inside.player) m level c.self.inside.budget (g.P.Over.NodeList.seen c.play-nodes.result.nodes)) (arc_value c.in-Ok.plan) c.in-Ok.ensures
           c.play-nodes.result.trail c.play-nodes.result.total c.play-nodes.ensures.left c.kept_in-in-Err.new.place (ended_err c.kept_in-in-Err.new.place c.in-Err.halt c.play-nodes.result.total c.kept_in-in-Err.ensures.kept c.in-Err.is),
+      λ plays none. halted_anyhow c.kept_in-in-Err.new.place c.in-Err.halt (arc_value c.self.inside.plan) c.self.inside.done (Some c.args.level) c.kept_in-in-Err.ensures.kept none,
+      halt_of_round (arc_value c.self.inside.plan) c.args.level c.self.inside.budget (g.P.Over.NodeList.seen c.self.inside.nodes) (g.P.Over.NodeList.seen c.play-nodes.result.nodes) c.kept_in-in-Err.new.place c.in-Err.halt c.kept_in-in-Err.ensures.kept p,
+      λ none. absurd (none-some c.args.level (sym none)),
     )
 
 pub returns-in-Err-clause-halt : goal.returns-in-Err-clause-halt

@@ -1,4 +1,4 @@
-use Rattle.std.proofs.Common.{rules}
+use Rattle.std.proofs.Common.{refl, rules}
 use Rattle.std.proofs.lemmas.Option.{none-some}
 use Rattle.std.specs.Arc.{arc_value}
 use Rattle.mcs_mesh.specs.Players.{oracles_of}
@@ -11,4 +11,7 @@ invariant_of-result g c = (
   search rules,
   c.requires.can,
   λ level is. absurd (none-some level is),
+  λ plays none is. is,
+  tt,
+  λ none. refl,
 )

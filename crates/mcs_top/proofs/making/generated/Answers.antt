@@ -3,7 +3,12 @@ use Rattle.mcs_listing.specs.Listings.{StopsGenerated}
 use Rattle.mcs_listing.proofs.WorkLemmas.{made_done, made_stops, line_stopped}
 use Rattle.mcs_listing.proofs.LineLemmas.{line_unfailed}
 use Rattle.mcs_base.proofs.Results.{err_told}
-use Rattle.mcs_listing.proofs.listing.generated.Goals as goal
+use Rattle.mcs_listing.specs.declared.ending.Stop.TheVariants as stops
+use Rattle.mcs_work.specs.declared.task.Task.TheVariants.{Make}
+use Rattle.mcs_generator.specs.Generated.{generated_system}
+use Rattle.mcs_crew.specs.Trails.{trail_of}
+use Rattle.mcs_top.proofs.TrailLemmas.{line_end, nothing_end}
+use Rattle.mcs_top.proofs.making.generated.Goals as goal
 
 pub returns-in_err-print_number-clause-stop : goal.returns-in_err-print_number-clause-stop
 returns-in_err-print_number-clause-stop g c = err_told (λ stop. StopsGenerated stop c.args.number c.args.budget _ _ _) _ _ c.from_residual-in_err-print_number.ensures.1
@@ -20,3 +25,13 @@ returns-in_err-print_number-clause-unfailed g c = line_unfailed _ _ _ _ c.from_r
 
 pub returns-clause-unfailed : goal.returns-clause-unfailed
 returns-clause-unfailed g c other = c.list_system.ensures.unfailed other ∙ c.in_ok-print_number.ensures.quiet
+
+-- ---- what is left to be seen
+pub returns-in_err-system-clause-trail : goal.returns-in_err-system-clause-trail
+returns-in_err-system-clause-trail g c none = nothing_end Make c.args.budget c.args.workers (generated_system c.args.number) (trail_of c.args.trail.now) none stops.Memory (λ level limit e. cc) _ c.from_residual.ensures.1
+
+pub returns-in_err-print_number-clause-trail : goal.returns-in_err-print_number-clause-trail
+returns-in_err-print_number-clause-trail g c none = line_end Make c.args.budget c.args.workers (generated_system c.args.number) (trail_of c.args.trail.now) none _ _ c.from_residual-in_err-print_number.ensures.1
+
+pub returns-clause-trail : goal.returns-clause-trail
+returns-clause-trail g c none = rw c.in_ok-system.ensures at c.list_system.ensures.trail none

@@ -1,10 +1,15 @@
-use Rattle.std.proofs.Common.{◌≤◌, ◌∙◌, ℕ, List, Option, sym, subst, arith}
+use Rattle.std.proofs.Common.{◌≤◌, ◌∙◌, ℕ, List, Option, sym, subst, inl, inr, arith}
 use Rattle.mcs_ports.specs.Causes.{Rose}
 use Rattle.mcs_words.specs.Reading.{texts_of, request_of}
 use Rattle.mcs_listing.specs.Jobs.{files_in, told_all}
 use Rattle.mcs_top.specs.Promise.{IsStopCause, LeavesText}
 use Rattle.mcs_top.proofs.PromiseLemmas.{told_since, words_kept, done_kept, rejected_kept, stop_kept}
-use Rattle.mcs_top.proofs.command.run.Goals as goal
+use Rattle.mcs_crew.specs.Trails.{trail_of}
+use Rattle.mcs_listing.specs.declared.status.Status.{Status}
+use Rattle.mcs_listing.specs.declared.status.Status.TheVariants as statuses
+use Rattle.mcs_top.proofs.JobTrails as trails
+use Rattle.mcs_top.proofs.EndingLemmas.{words_told}
+use Rattle.mcs_top.proofs.command.run_job.Goals as goal
 
 -- ---- words that are no job
 pub returns-in-Err-clause-kept : goal.returns-in-Err-clause-kept
@@ -54,3 +59,28 @@ returns-clause-kept g c =
 
 pub returns-clause-unread : goal.returns-clause-unread
 returns-clause-unread g c none = c.in-Err-do_job.ensures.unread (none (request_of c.in-Ok.job) c.in-Ok.ensures)
+
+-- ---- what is left to be seen
+pub returns-in-Err-clause-trail : goal.returns-in-Err-clause-trail
+returns-in-Err-clause-trail g c =
+    let told = words_told c.in-Err.fault c.into.result c.tell.result (g.K.Sink.device c.args.sink.now) (g.K.Sink.device c.tell.new.sink) c.into.ensures c.tell.ensures.told in
+    trails.nothing_kept (texts_of c.args.words.now) (g.H.Shelf.held c.args.shelf.now) (g.K.Sink.device c.args.sink.now).notes (g.K.Sink.device c.tell.new.sink).notes (trail_of c.args.trail.now) c.tell.result c.requires
+    (λ is. elim told [ inl usage ↦ (let no = usage.0 in cc) | inr want ↦ cc ]) (λ is. elim told [ inl usage ↦ (let no = usage.0 in cc) | inr want ↦ cc ])
+
+pub returns-in-Ok-Done-clause-trail : goal.returns-in-Ok-Done-clause-trail
+returns-in-Ok-Done-clause-trail g c =
+    trails.done_kept (texts_of c.args.words.now) (g.H.Shelf.held c.args.shelf.now) (g.K.Sink.device c.args.sink.now).notes (g.K.Sink.device c.do_job.new.sink).notes (trail_of c.do_job.new.trail) (request_of c.in-Ok.job) c.in-Ok.ensures
+    (rw c.in-Ok-Done.field-0-is at c.in-Ok-Done.ensures.trail c.requires)
+
+pub returns-in-Ok-NotValid-clause-trail : goal.returns-in-Ok-NotValid-clause-trail
+returns-in-Ok-NotValid-clause-trail g c =
+    trails.rejected_kept (texts_of c.args.words.now) (g.H.Shelf.held c.args.shelf.now) (g.K.Sink.device c.args.sink.now).notes (g.K.Sink.device c.do_job.new.sink).notes (trail_of c.do_job.new.trail) (request_of c.in-Ok.job) c.in-Ok.ensures
+    (rw c.in-Ok-NotValid.field-0-is at c.in-Ok-NotValid.ensures.trail c.requires)
+
+pub returns-clause-trail : goal.returns-clause-trail
+returns-clause-trail g c =
+    let before = g.K.Sink.device c.args.sink.now in
+    let mid = g.K.Sink.device c.do_job.new.sink in
+    let now = g.K.Sink.device c.tell-in-Err-do_job.new.sink in
+    trails.stop_kept (texts_of c.args.words.now) (g.H.Shelf.held c.args.shelf.now) before now (trail_of c.do_job.new.trail) (request_of c.in-Ok.job) c.in-Ok.ensures c.in-Err-do_job.stop c.tell-in-Err-do_job.result
+    (told_since c.in-Err-do_job.stop c.tell-in-Err-do_job.result before mid now c.in-Err-do_job.ensures.notes c.tell-in-Err-do_job.ensures.told) _ _ _ c.in-Err-do_job.ensures.cause (c.in-Err-do_job.ensures.trail c.requires)

@@ -3,7 +3,7 @@ use Rattle.std.proofs.lemmas.List.FromFn.{map-range_with_len_more}
 use Rattle.std.specs.Arc.{arc_value}
 use Rattle.std.specs.List.{range_with_len}
 use Rattle.mcs_solver.specs.Solvers.{solver_with}
-use Rattle.mcs_listing.proofs.evaluator.solvers_of.Goals as goal
+use Rattle.mcs_listing.proofs.beginning.solvers_of.Goals as goal
 
 pub loop-context-preserved : goal.loop-context-preserved
 loop-context-preserved c =
