@@ -23,4 +23,4 @@ class Refuse(Ground):
     def test_the_program_ends_as_it_may(self):
         status, told, noted = self.ran("tools/refuse", "--program", PROGRAM, "--every", "211")
         self.assertEqual((status, noted), (0, ""), told)
-        self.assertEqual(told.count("\n"), 12)
+        self.assertEqual(told.count("\n"), 15)
