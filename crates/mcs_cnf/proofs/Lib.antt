@@ -1,4 +1,5 @@
 pub mod NumberLemmas
+pub mod DenialLemmas
 pub mod ClauseLemmas
 pub mod ListLemmas
 pub mod GrowingLemmas

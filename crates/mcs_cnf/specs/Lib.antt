@@ -1,4 +1,5 @@
 pub mod ClauseLists
+pub mod Denials
 pub mod Growing
 pub mod Meaning
 pub mod Entailments

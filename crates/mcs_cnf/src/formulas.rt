@@ -1,14 +1,15 @@
 //! The clauses of formulas.
 
-ghost use Rattle.std.specs.Prelude.{◌≡◌, ◌≤◌, ◌++◌, [], ◌∷◌, length, map, IfOk, OnOk, OnErr};
+ghost use Rattle.std.specs.Prelude.{◌≡◌, ◌<◌, ◌≤◌, ◌++◌, [], ◌∷◌, length, map, IfOk, OnOk, OnErr};
 ghost use Rattle.mcs_system.specs.Plain as plain;
 ghost use Rattle.mcs_system.specs.Seen.{formula_of};
 ghost use Rattle.mcs_cnf.specs.ClauseLists.{atom_number, taken, number, formula_clauses, with_formulas, clause_list, IsOver, AreOver};
+ghost use Rattle.mcs_cnf.specs.Denials.{denials_added};
 
 use crate::literals::push_unit;
 use crate::occurrences::{push_falsity, push_not, push_sign, push_truth};
 use mcs_base::Memory;
-use mcs_system::{Formula, Name};
+use mcs_system::{Formula, Name, denied};
 use mcs_trace::Cnf;
 use std::alloc::Global;
 
@@ -24,8 +25,24 @@ pub fn atom_number(atoms: &[Name], name: &Name) -> u64
     atoms.len() as u64 + 1
 }
 
+/// Adds an occurrence of each denial that the formula begins with, and returns the number of the last one. `x` is the
+/// number of what they deny, and is returned where there is none.
+fn push_denials(alloc: Global, cnf: &mut Cnf, formula: &Formula, x: u64) -> Result<u64, Memory>
+    requires part { (0 < x) × (x ≤ cnf.old.vars) }
+    ensures added { IfOk result (λ _. cnf.new ≡ (denials_added (formula_of formula.now) cnf.old x).0) }
+    ensures number { IfOk result (λ n. n ≡ (denials_added (formula_of formula.now) cnf.old x).1) }
+{
+    let mut rest = formula;
+    let mut number = x;
+    while let Formula::Not(inner) = rest {
+        number = push_not(alloc, cnf, number)?;
+        rest = inner;
+    }
+    Ok(number)
+}
+
 /// Adds the clauses of the occurrences in the formula, and returns the number of the whole.
-#[tactic(auto, using(crate::proofs::NumberLemmas::numbers_fit))]
+#[tactic(auto, using(crate::proofs::NumberLemmas::numbers_fit, crate::proofs::DenialLemmas::taken_least))]
 fn push_occurrences(
     alloc: Global,
     cnf: &mut Cnf,
@@ -47,8 +64,8 @@ fn push_occurrences(
         Formula::False => push_falsity(alloc, cnf),
         Formula::Atom(name) => Ok(atom_number(atoms, name)),
         Formula::Not(g) => {
-            let x = push_occurrences(alloc, cnf, atoms, g)?;
-            push_not(alloc, cnf, x)
+            let x = push_occurrences(alloc, cnf, atoms, denied(g))?;
+            push_denials(alloc, cnf, formula, x)
         }
         Formula::And(g, h) | Formula::Or(g, h) | Formula::Implies(g, h) | Formula::Iff(g, h) => {
             let x = push_occurrences(alloc, cnf, atoms, g)?;

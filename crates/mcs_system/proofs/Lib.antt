@@ -1,4 +1,5 @@
 pub mod SeenLemmas
+pub mod DenialLemmas
 pub mod Sameness
 pub mod VariableLemmas
 pub mod GatherLemmas

@@ -1,6 +1,7 @@
 pub mod Plain
 pub mod Naming
 pub mod Seen
+pub mod Denials
 pub mod Logic
 pub mod Systems
 pub mod Equality

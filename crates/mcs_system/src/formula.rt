@@ -9,6 +9,7 @@ ghost use Rattle.mcs_system.specs.Seen.{formula_of};
 ghost use Rattle.mcs_system.specs.Systems.{same_formula};
 
 use crate::copied::Copied;
+use crate::denials::{denied, with_denials};
 use crate::name::Name;
 use crate::same::same_formula;
 use mcs_base::Memory;
@@ -43,19 +44,22 @@ impl Formula {
     pub fn copy(&self, alloc: Global) -> Result<Formula, Memory>
         ensures { IfOk result (λ f. formula_of f ≡ formula_of self.now) }
     {
-        Ok(match self {
-            Formula::True => Formula::True,
-            Formula::False => Formula::False,
-            Formula::Atom(name) => Formula::Atom(name.copy(alloc)?),
-            Formula::Not(g) => Formula::Not(copy_in_box(alloc, g)?),
-            Formula::And(g, h) => Formula::And(copy_in_box(alloc, g)?, copy_in_box(alloc, h)?),
-            Formula::Or(g, h) => Formula::Or(copy_in_box(alloc, g)?, copy_in_box(alloc, h)?),
-            Formula::Implies(g, h) => Formula::Implies(
+        match self {
+            Formula::True => Ok(Formula::True),
+            Formula::False => Ok(Formula::False),
+            Formula::Atom(name) => Ok(Formula::Atom(name.copy(alloc)?)),
+            Formula::Not(g) => {
+                let core = denied(g).copy(alloc)?;
+                with_denials(alloc, self, core)
+            }
+            Formula::And(g, h) => Ok(Formula::And(copy_in_box(alloc, g)?, copy_in_box(alloc, h)?)),
+            Formula::Or(g, h) => Ok(Formula::Or(copy_in_box(alloc, g)?, copy_in_box(alloc, h)?)),
+            Formula::Implies(g, h) => Ok(Formula::Implies(
                 copy_in_box(alloc, g)?,
                 copy_in_box(alloc, h)?,
-            ),
-            Formula::Iff(g, h) => Formula::Iff(copy_in_box(alloc, g)?, copy_in_box(alloc, h)?),
-        })
+            )),
+            Formula::Iff(g, h) => Ok(Formula::Iff(copy_in_box(alloc, g)?, copy_in_box(alloc, h)?)),
+        }
     }
 }
 

@@ -6,6 +6,7 @@ mod atoms;
 mod bridge;
 mod build;
 mod copied;
+mod denials;
 mod facts;
 mod fault;
 mod faults;
@@ -22,6 +23,7 @@ mod variables;
 
 pub use atomic::names_of;
 pub use bridge::{Bridge, Read};
+pub use denials::denied;
 pub use facts::{with_facts, with_heads};
 pub use fault::BuildFault;
 pub use formula::Formula;
