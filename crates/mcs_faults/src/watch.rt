@@ -80,7 +80,9 @@ impl Watch {
     }
 
     /// The lowest fault of the next token. If it has none, the token is recorded. `read` is the read that ends with the
-    /// token, if one does and its name is not too long. If memory runs out, the table can't be used any more.
+    /// token, if one does and its name is not too long. If memory runs out, the table can't be used any more: of the
+    /// token's uses, which are its end of a read, its beginning of an item and its role, only the first ones may be
+    /// recorded.
     pub fn note(
         &mut self,
         alloc: Global,

@@ -340,7 +340,7 @@ impl FormulaReader {
     }
 
     /// Takes the next token, if the formula can continue with it; otherwise nothing changes. If memory runs out, the
-    /// parser can't be used any more.
+    /// parser can't be used any more: the operand that it held is let go, with the parts that it completes.
     pub fn take(&mut self, alloc: Global, token: &[u8]) -> Result<Answer, Memory>
         ensures { (s : PartFormula) → IsReader self.old s → IfOk result (λ a. IsReaderAnswer a self.old self.new s token.now) }
     {

@@ -96,7 +96,8 @@ fn join(first: &[i64], second: &[i64], literal: i64, out: &mut Vec<i64>) -> Resu
     Ok(())
 }
 
-/// Replaces `out` by the resolvent of the two clauses, and returns whether there is one.
+/// Replaces `out` by the resolvent of the two clauses, and returns whether there is one. If there is none, `out` is as
+/// before. If memory runs out, it has only the first literals of the resolvent, and can be used for another one.
 pub fn resolve(first: &[i64], second: &[i64], out: &mut Vec<i64>) -> Result<bool, Memory>
     requires first { IsClause first.now }
     requires second { IsClause second.now }
