@@ -77,6 +77,21 @@ IsAt (places.ReadColon b denied c) q = (w : WrittenBridge) × IsBridgeImage b w 
 IsAt (places.InRead b denied c f) q = (w : WrittenBridge) × IsBridgeImage b w × ((s : PartFormula) × IsReader f s × (q ≡ InRead w (part_read denied c) s))
 IsAt (places.AfterRead b denied r) q = (w : WrittenBridge) × ((v : Written) × IsBridgeImage b w × (formula_of r.belief ≡ formula_in v) × (q ≡ AfterRead (with_read w (part_read denied r.context) v)))
 
+-- a place within a bridge rule
+abbrev pub IsOfBridge : code_place.Place → Type 0
+IsOfBridge places.BridgeName = Unit {0}
+IsOfBridge (places.BridgeColon n) = Unit {0}
+IsOfBridge (places.HeadContext n) = Unit {0}
+IsOfBridge (places.HeadColon n c) = Unit {0}
+IsOfBridge (places.InHead n c f) = Unit {0}
+IsOfBridge (places.AfterHead b) = Unit {0}
+IsOfBridge (places.NextRead b) = Unit {0}
+IsOfBridge (places.ReadContext b) = Unit {0}
+IsOfBridge (places.ReadColon b denied c) = Unit {0}
+IsOfBridge (places.InRead b denied c f) = Unit {0}
+IsOfBridge (places.AfterRead b denied r) = Unit {0}
+IsOfBridge p = ⊥
+
 -- the read that was written last, where a rule may go on with one more
 abbrev pub last_read : code_place.Place → Option code_read.NamedRead
 last_read (places.AfterRead b denied r) = Some r

@@ -3,7 +3,7 @@
 ghost use Rattle.std.specs.Prelude.{◌≡◌, nat_eq, length, IfOk, MatchOption, Some, None};
 ghost use Rattle.mcs_reader.specs.TextSteps as written;
 ghost use Rattle.mcs_reader.specs.TextSteps.{PartText, finished_text, nothing_written};
-ghost use Rattle.mcs_reader.specs.TextImages.{IsAt, IsReaderStep, IsTokenTaken, IsTextReader, last_read, subject_at};
+ghost use Rattle.mcs_reader.specs.TextImages.{IsAt, IsOfBridge, IsReaderStep, IsTokenTaken, IsTextReader, last_read, subject_at};
 ghost use Rattle.mcs_reader.specs.Ends.{AreReaderParts};
 
 use crate::bridges::{
@@ -65,6 +65,16 @@ fn step_at(alloc: Global, place: Place, no_bridges: bool, token: &[u8]) -> Resul
         Place::NextLiteral { context, rule } => next_literal(alloc, context, rule, token),
         Place::AfterNot { context, rule } => one_literal(alloc, context, rule, true, token),
         Place::AfterLiteral { context, rule } => after_literal(context, rule, token),
+        place => step_in_bridge(alloc, place, token),
+    }
+}
+
+/// The step of the token in the state, which has to be one within a bridge rule.
+fn step_in_bridge(alloc: Global, place: Place, token: &[u8]) -> Result<Step, Memory>
+    requires { IsOfBridge place }
+    ensures { (s : PartText) (q : written.Place) → IsAt place q → IfOk result (λ step. IsReaderStep step (subject_at q) s token.now (written.step_at s token.now q)) }
+{
+    match place {
         Place::BridgeName => bridge_name(alloc, token),
         Place::BridgeColon { name } => Ok(bridge_colon(name, token)),
         Place::HeadContext { name } => head_context(alloc, name, token),
@@ -93,6 +103,7 @@ fn step_at(alloc: Global, place: Place, no_bridges: bool, token: &[u8]) -> Resul
             denied,
             read,
         } => after_read(bridge, denied, read, token),
+        _ => unreachable!(),
     }
 }
 
@@ -127,7 +138,8 @@ impl Reader {
 
     /// Takes the next token, and returns its uses, or `None` if the text can't continue with it. The uses of a name
     /// that is too long are returned too, but the text can't be read on after it. If memory runs out, the parser can't
-    /// be used any more.
+    /// be used any more: the context or rule that is being read is let go, and those before it stay until the parser
+    /// is dropped.
     pub fn take(&mut self, alloc: Global, token: &[u8]) -> Result<Option<Uses>, Memory>
         ensures { (s : PartText) → IsTextReader self.old s → IfOk result (λ uses. IsTokenTaken uses self.new s token.now) }
     {

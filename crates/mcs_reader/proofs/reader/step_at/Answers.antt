@@ -1,15 +1,49 @@
-use Rattle.std.proofs.Common.{◌≡◌, Result, Ok, IfOk, sym, subst}
+use Rattle.std.proofs.Common.{◌≡◌, Result, Ok, IfOk, refl, sym, subst}
 use Rattle.mcs_base.specs.declared.memory.Memory.{Memory}
 use Rattle.mcs_grammar.specs.Entries.{Token}
 use Rattle.mcs_reader.specs.TextSteps.{Place, PartText, step_at}
-use Rattle.mcs_reader.specs.TextImages.{IsAt, IsReaderStep, subject_at}
+use Rattle.mcs_reader.specs.TextImages.{IsAt, IsOfBridge, IsReaderStep, subject_at}
 use Rattle.mcs_reader.specs.declared.place.Place as code_place
+use Rattle.mcs_reader.specs.declared.place.Place.TheVariants as places
 use Rattle.mcs_reader.specs.declared.place.Step as code_step
 use Rattle.mcs_reader.proofs.reader.step_at.Goals as goal
 
 -- the step at the place q is the one at an equal place
 at-place : (r : Result code_step.Step Memory) (s : PartText) (t : Token) (p q : Place) → q ≡ p → IfOk r (λ step. IsReaderStep step (subject_at p) s t (step_at s t p)) → IfOk r (λ step. IsReaderStep step (subject_at q) s t (step_at s t q))
 at-place r s t p q e h = subst (λ (x : Place). IfOk r (λ step. IsReaderStep step (subject_at x) s t (step_at s t x))) (sym e) h
+
+-- what is no place of a context is one of a bridge rule
+pub step_in_bridge-requires : goal.step_in_bridge-requires
+step_in_bridge-requires c = elim c.args.place as (λ (p : code_place.Place). c.args.place ≡ p → IsOfBridge p) [
+  | places.Between ↦ λ e. absurd (c.in_default.not-Between e)
+  | places.ContextName ↦ λ e. absurd (c.in_default.not-ContextName e)
+  | (places.KindWord n) ↦ λ e. absurd (c.in_default.not-KindWord n e)
+  | (places.OpenBrace w) ↦ λ e. absurd (c.in_default.not-OpenBrace w e)
+  | (places.NextItem w) ↦ λ e. absurd (c.in_default.not-NextItem w e)
+  | (places.InFact w f) ↦ λ e. absurd (c.in_default.not-InFact w f e)
+  | (places.InJust w d f) ↦ λ e. absurd (c.in_default.not-InJust w d f e)
+  | (places.InConclusion w d f) ↦ λ e. absurd (c.in_default.not-InConclusion w d f e)
+  | (places.AfterHeadName w head) ↦ λ e. absurd (c.in_default.not-AfterHeadName w head e)
+  | (places.NextHeadName w head) ↦ λ e. absurd (c.in_default.not-NextHeadName w head e)
+  | (places.AfterSign w r) ↦ λ e. absurd (c.in_default.not-AfterSign w r e)
+  | (places.NextLiteral w r) ↦ λ e. absurd (c.in_default.not-NextLiteral w r e)
+  | (places.AfterNot w r) ↦ λ e. absurd (c.in_default.not-AfterNot w r e)
+  | (places.AfterLiteral w r) ↦ λ e. absurd (c.in_default.not-AfterLiteral w r e)
+  | places.BridgeName ↦ λ e. tt
+  | (places.BridgeColon n) ↦ λ e. tt
+  | (places.HeadContext n) ↦ λ e. tt
+  | (places.HeadColon n w) ↦ λ e. tt
+  | (places.InHead n w f) ↦ λ e. tt
+  | (places.AfterHead b) ↦ λ e. tt
+  | (places.NextRead b) ↦ λ e. tt
+  | (places.ReadContext b) ↦ λ e. tt
+  | (places.ReadColon b denied w) ↦ λ e. tt
+  | (places.InRead b denied w f) ↦ λ e. tt
+  | (places.AfterRead b denied r) ↦ λ e. tt
+] refl
+
+pub returns-in_default : goal.returns-in_default
+returns-in_default c s q none at = c.step_in_bridge.ensures s q at
 
 pub returns-in-Between : goal.returns-in-Between
 returns-in-Between c s q none at =
@@ -80,58 +114,3 @@ pub returns-in-AfterLiteral : goal.returns-in-AfterLiteral
 returns-in-AfterLiteral c s q none at =
     let a = subst (λ (p : code_place.Place). IsAt p q) c.in-AfterLiteral.is at in
     at-place c.after_literal.result s c.args.token.now _ q a.2.2 (c.after_literal.ensures s a.0 a.2.0 a.1 a.2.1)
-
-pub returns-in-BridgeName : goal.returns-in-BridgeName
-returns-in-BridgeName c s q none at =
-    let a = subst (λ (p : code_place.Place). IsAt p q) c.in-BridgeName.is at in
-    at-place c.bridge_name.result s c.args.token.now _ q a (c.bridge_name.ensures s)
-
-pub returns-in-BridgeColon : goal.returns-in-BridgeColon
-returns-in-BridgeColon c s q none at =
-    let a = subst (λ (p : code_place.Place). IsAt p q) c.in-BridgeColon.is at in
-    at-place (Ok c.bridge_colon.result) s c.args.token.now _ q a (c.bridge_colon.ensures s)
-
-pub returns-in-HeadContext : goal.returns-in-HeadContext
-returns-in-HeadContext c s q none at =
-    let a = subst (λ (p : code_place.Place). IsAt p q) c.in-HeadContext.is at in
-    at-place c.head_context.result s c.args.token.now _ q a (c.head_context.ensures s)
-
-pub returns-in-HeadColon : goal.returns-in-HeadColon
-returns-in-HeadColon c s q none at =
-    let a = subst (λ (p : code_place.Place). IsAt p q) c.in-HeadColon.is at in
-    at-place (Ok c.head_colon.result) s c.args.token.now _ q a (c.head_colon.ensures s)
-
-pub returns-in-InHead : goal.returns-in-InHead
-returns-in-InHead c s q none at =
-    let a = subst (λ (p : code_place.Place). IsAt p q) c.in-InHead.is at in
-    at-place c.in_head.result s c.args.token.now _ q a.2 (c.in_head.ensures s a.0 a.1)
-
-pub returns-in-AfterHead : goal.returns-in-AfterHead
-returns-in-AfterHead c s q none at =
-    let a = subst (λ (p : code_place.Place). IsAt p q) c.in-AfterHead.is at in
-    at-place (Ok c.after_head.result) s c.args.token.now _ q a.2 (c.after_head.ensures s a.0 a.1)
-
-pub returns-in-NextRead : goal.returns-in-NextRead
-returns-in-NextRead c s q none at =
-    let a = subst (λ (p : code_place.Place). IsAt p q) c.in-NextRead.is at in
-    at-place c.next_read.result s c.args.token.now _ q a.2 (c.next_read.ensures s a.0 a.1)
-
-pub returns-in-ReadContext : goal.returns-in-ReadContext
-returns-in-ReadContext c s q none at =
-    let a = subst (λ (p : code_place.Place). IsAt p q) c.in-ReadContext.is at in
-    at-place c.read_context.result s c.args.token.now _ q a.2 (c.read_context.ensures s a.0 a.1)
-
-pub returns-in-ReadColon : goal.returns-in-ReadColon
-returns-in-ReadColon c s q none at =
-    let a = subst (λ (p : code_place.Place). IsAt p q) c.in-ReadColon.is at in
-    at-place (Ok c.read_colon.result) s c.args.token.now _ q a.2 (c.read_colon.ensures s a.0 a.1)
-
-pub returns-in-InRead : goal.returns-in-InRead
-returns-in-InRead c s q none at =
-    let a = subst (λ (p : code_place.Place). IsAt p q) c.in-InRead.is at in
-    at-place c.in_read.result s c.args.token.now _ q a.2.2 (c.in_read.ensures s a.0 a.2.0 a.1 a.2.1)
-
-pub returns-in-AfterRead : goal.returns-in-AfterRead
-returns-in-AfterRead c s q none at =
-    let a = subst (λ (p : code_place.Place). IsAt p q) c.in-AfterRead.is at in
-    at-place c.after_read.result s c.args.token.now _ q a.1.3 (c.after_read.ensures s a.0 a.1.0 a.1.1 a.1.2)
