@@ -86,6 +86,7 @@ pub(crate) fn replay_events<A: Asker>(
     asker: &A,
     events: &[Event],
 ) -> Result<Replay, Memory>
+    requires asks { A.asks asker.now }
     requires new { (m : System) × (budget : ℕ) × (oracles : List OracleState) × AreNew m budget oracles nodes.old }
     ensures replayed { (m : System) (budget : ℕ) (oracles : List OracleState) → AreNew m budget oracles nodes.old → IfOk result (λ told. LeavesReplay m budget level events.now nodes.new told) }
     ensures same { map as_new nodes.new ≡ map as_new nodes.old }
@@ -113,7 +114,8 @@ fn step<A: Asker>(
     total: &mut u64,
     event: Event,
 ) -> Result<Outcome, Memory>
-    requires { AreOfRound level nodes.old }
+    requires of_round { AreOfRound level nodes.old }
+    requires asks { A.asks asker.now }
     ensures goes { IfOk result (λ outcome. GoesOn level event (outcome_of outcome) (course nodes.old letters.old.items total.old) (course nodes.new letters.new.items total.new)) }
     ensures same { map as_new nodes.new ≡ map as_new nodes.old }
 {
@@ -165,6 +167,7 @@ fn grant_at<A: Asker>(
     total: &mut u64,
     i: u32,
 ) -> Result<Outcome, Memory>
+    requires { A.asks asker.now }
     ensures goes { IfOk result (λ outcome. (level : ℕ) → GoesOn level (events.Grant i) (outcome_of outcome) (course nodes.old letters.old.items total.old) (course nodes.new letters.new.items total.new)) }
     ensures same { map as_new nodes.new ≡ map as_new nodes.old }
 {
@@ -183,6 +186,7 @@ fn grant_node<A: Asker>(
     letters: &mut Vec<Letter>,
     total: &mut u64,
 ) -> Result<Outcome, Memory>
+    requires { A.asks asker.now }
     ensures grants { IfOk result (λ outcome. Grants node.old node.new letters.old.items letters.new.items total.old total.new (outcome_of outcome)) }
     ensures same { as_new node.new ≡ as_new node.old }
 {

@@ -85,7 +85,8 @@ fn play_in_turn<A: Asker>(
     nodes: &mut [Node<A::Of>],
     asker: &A,
 ) -> Result<u64, Halt>
-    requires { (budget : ℕ) × IsReadyRound plan.now level budget asked nodes.old }
+    requires ready { (budget : ℕ) × IsReadyRound plan.now level budget asked nodes.old }
+    requires asks { A.asks asker.now }
     ensures played { (budget : ℕ) → IsReadyRound plan.now level budget asked nodes.old → IsPlayed plan.now level budget nodes.old nodes.new result }
     ensures left { (budget : ℕ) → IsReadyRound plan.now level budget asked nodes.old → IsSoundRound plan.now level budget nodes.new }
 {
@@ -120,7 +121,8 @@ fn grant_need<A: Asker>(
     node: &mut Node<A::Of>,
     asker: &A,
 ) -> Result<u64, Halt>
-    requires { WaitsForGrant node.old }
+    requires waits { WaitsForGrant node.old }
+    requires asks { A.asks asker.now }
     ensures done { IfOk result (λ total. FinishesOn asked total node.old node.new) }
     ensures cause { IfErr result (HasGrantCause asked node.old) }
     ensures stopped { OnErr result ((node.new ≡ node.old) ⊎ HasStoppedOn node.old node.new) }

@@ -129,6 +129,7 @@ pub(crate) fn find_out<A: Asker>(
     asked: &[Active],
     known: Known,
 ) -> FoundOut<A::Of>
+    requires asks { A.asks asker.now }
     requires context { (A.Of.stands oracle).context ≡ context }
     requires rules { AllByRecursion (λ x. Within x (rules_into (A.Of.stands oracle).system context)) asked.now }
     requires before { HasAsked (A.Of.stands oracle).system context (A.Of.stands oracle) (knowledge_of known).answers }

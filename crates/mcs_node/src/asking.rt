@@ -26,6 +26,9 @@ pub struct Asked<O: Oracle> {
 pub trait Asker {
     type Of: Oracle;
 
+    /// That it can ask, and asks as is said of `ask_all`.
+    ghost asks: { Self → Type 0 };
+
     /// Asks the oracle of the context each of the questions, which are sets of the rules into it, and gives it back
     /// with the answers, in the order of the questions; then its journal has grown by the questions, in this order.
     /// Stops with `Missing` only at a question that the oracle lacks, and with want of memory; never with `Spent`. Of
@@ -37,6 +40,7 @@ pub trait Asker {
         oracle: Self::Of,
         questions: &[Active],
     ) -> Asked<Self::Of>
+        requires asks { asks self.now }
         requires context { (Self.Of.stands oracle).context ≡ context }
         requires rules { AllByRecursion (λ x. Within x (rules_into (Self.Of.stands oracle).system context)) questions.now }
         ensures answers { IfOk result.answers (λ answers. HasAskedAll (Self.Of.stands oracle) (Self.Of.stands result.oracle) questions.now (map answered_of answers.items)) }
@@ -65,6 +69,8 @@ impl<'a, O, G> InTurn<'a, O, G> {
 
 impl<'a, O: Oracle, G: Gate> Asker for InTurn<'a, O, G> {
     type Of = O;
+
+    ghost asks = { λ _. Unit {0} };
 
     fn ask_all(&self, alloc: Global, context: u32, oracle: O, questions: &[Active]) -> Asked<O> {
         let mut oracle = oracle;

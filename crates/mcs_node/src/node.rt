@@ -158,7 +158,8 @@ impl<O: Oracle> Node<O> {
     /// Else the new questions are asked, by the asker, and the node is done and puts out its supplies; or it stops with
     /// `Missing`, for a question that its oracle lacks, or with want of memory, and puts out stops.
     pub fn grant<A: Asker<Of = O>>(&mut self, alloc: Global, total: u64, asker: &A)
-        requires { WaitsForGrant self.old }
+        requires waits { WaitsForGrant self.old }
+        requires asks { A.asks asker.now }
         ensures { IsGranted total self.old self.new }
     {
         let Some(mut round) = mem::replace(&mut self.round, None) else {

@@ -10,7 +10,7 @@ use Rattle.mcs_mesh.proofs.turns.play_in_turn.Goals as goal
 
 -- ---- the begin
 pub begin_all-requires : goal.begin_all-requires
-begin_all-requires g c = let (budget, ready) = c.requires in can_begin c.args.plan.now c.args.level budget c.args.asked c.args.nodes.now ready
+begin_all-requires g c = let (budget, ready) = c.requires.ready in can_begin c.args.plan.now c.args.level budget c.args.asked c.args.nodes.now ready
 
 pub loop-i-init : goal.loop-i-init
 loop-i-init g c = λ budget ready.
@@ -20,9 +20,9 @@ pub returns-in_err-begin_all-clause-left : goal.returns-in_err-begin_all-clause-
 returns-in_err-begin_all-clause-left g c = λ budget ready. some_begun_sound c.args.plan.now c.args.level budget c.args.asked c.args.nodes.now ready c.begin_all.new.nodes c.begin_all.ensures.same c.in_err-begin_all.ensures.some
 
 -- ---- the next context
-pub grant_need-requires : goal.grant_need-requires
-grant_need-requires g c =
-    let (budget, ready) = c.requires in
+pub grant_need-requires-clause-waits : goal.grant_need-requires-clause-waits
+grant_need-requires-clause-waits g c =
+    let (budget, ready) = c.requires.ready in
     let order = c.order-i-items.result.now in
     let nodes = c.loop-i.nodes in
     let here = get_or order c.loop-i.i-index 0 in
@@ -61,7 +61,7 @@ returns-in_err-total-clause-left g c = λ budget ready.
 -- ---- its letters
 pub deliver_all-requires : goal.deliver_all-requires
 deliver_all-requires g c =
-    let (budget, ready) = c.requires in
+    let (budget, ready) = c.requires.ready in
     let order = c.order-i-items.result.now in
     let nodes = c.loop-i.nodes in
     let here = get_or order c.loop-i.i-index 0 in
