@@ -1,15 +1,15 @@
 -- Certificates of what a context accepts, and answers that are kept with them.
-use Rattle.std.proofs.Common.{◌≡◌, ℕ, ◌<◌, Bool, false, List, [], ◌∷◌, ◌++◌, map, slice_get, Some, None, refl, sym, subst, inl, inr, ◌⊎◌}
+use Rattle.std.proofs.Common.{◌≡◌, ℕ, ◌<◌, Bool, true, false, cond, List, [], ◌∷◌, ◌++◌, map, slice_get, Some, None, refl, sym, ap, subst, inl, inr, ◌⊎◌}
 use Rattle.std.proofs.lemmas.Bool.{cases_eq}
 use Rattle.std.proofs.lemmas.Cmp.{ranked}
 use Rattle.std.specs.BTreeMap.{BTreeMap, get, is_at, IsEmpty, IsUnchanged}
 use Rattle.std.specs.Map.{lookup}
 use Rattle.std.specs.Ordering.{MatchOrdering, is_eq, nat_cmp}
-use Rattle.std.specs.Prelude.{Option}
+use Rattle.std.specs.Prelude.{Option, MatchOption}
 use Rattle.std.specs.declared.cmp.Ordering.{Ordering}
 use Rattle.std.specs.declared.cmp.Ordering.TheVariants.{Less, Equal, Greater}
 use Rattle.mcs_sets.specs.Orders.{StateBefore}
-use Rattle.mcs_base.specs.Listings.{IsListing}
+use Rattle.mcs_base.specs.Listings.{IsAmong, IsListing}
 use Rattle.mcs_base.proofs.Among.{among_push}
 use Rattle.mcs_system.specs.Plain.{Context, System}
 use Rattle.mcs_system.specs.Atoms.{atoms_of}
@@ -19,7 +19,8 @@ use Rattle.mcs_system.specs.Views.{at_places, beliefs_at}
 use Rattle.mcs_asking.specs.Certificates.{plain_of, IsAccepted, IsAcceptedFor}
 use Rattle.mcs_asking.specs.declared.certificate.AnswerCert as code
 use Rattle.mcs_solver.specs.Certified.{IsCertified}
-use Rattle.mcs_solver.specs.Solvers.{IsKeptFor, IsKeptAt, AreAnswersKept, IsKeptNow, HasKept}
+use Rattle.mcs_states.specs.Oracles.{OracleState, with_journal}
+use Rattle.mcs_solver.specs.Solvers.{solver_with, IsKeptFor, IsKeptAt, AreAnswersKept, IsKeptNow, HasKept, HasMoved, IsLeftAt, AreAnswersLeft}
 use Rattle.mcs_solver.specs.declared.keeping.Kept.{Kept}
 
 -- ---- what is shown of a context
@@ -66,3 +67,80 @@ module _ (m : System) (i : ℕ) (keep : Bool) where
         (subst (λ (kept : Option Kept). IsKeptAt m i keep (journal ++ x ∷ []) x kept) (sym now.there) (shown.0, (among_push x journal x).1 (inr refl), shown_now x outputs cert old new now shown.1 listing))
     | inr differ ↦ subst (λ (kept : Option Kept). IsKeptAt m i keep (journal ++ x ∷ []) y kept) (sym (now.others y (apart_at x y differ))) (later journal x y (get nat_cmp old y) (inr differ) (are y))
   ]
+
+  -- ---- answers that are moved
+  -- what is kept for y, where x is in the journal already
+  again : (journal : List ℕ) (x y : ℕ) (kept : Option Kept) → IsAmong x journal → IsKeptAt m i keep journal y kept → IsKeptAt m i keep (journal ++ x ∷ []) y kept
+  again journal x y None there (inl off) = inl off
+  again journal x y None there (inr none) = inr (λ among. elim ((among_push y journal x).0 among) [ inl before ↦ none before | inr e ↦ none (subst (λ (z : ℕ). IsAmong z journal) (sym e) there) ])
+  again journal x y (Some k) there h = (h.0, (among_push y journal x).1 (inl h.1), h.2)
+
+  -- after the move of the answer to x, or where there is none
+  kept_then : (journal asked : List ℕ) (x : ℕ) (answer : Option Kept) (old new : BTreeMap ℕ Kept) → IsAmong x asked → MatchOption answer (IsUnchanged old new) (λ k. IsKeptNow x k.outputs.items k.cert old new)
+      → IsLeftAt m i keep journal asked x answer → AreAnswersKept m i keep journal old → AreAnswersKept m i keep (journal ++ x ∷ []) new
+  kept_then journal asked x None old new among same (inl off) are y = later journal x y (get nat_cmp new y) (inl off) (still_kept journal old new same are y)
+  kept_then journal asked x None old new among same (inr (inl none)) are y = absurd (none among)
+  kept_then journal asked x None old new among same (inr (inr there)) are y = again journal x y (get nat_cmp new y) there (still_kept journal old new same are y)
+  kept_then journal asked x (Some k) old new among now left are y = kept_more journal x k.outputs.items (Some k.cert) old new now (left.0, left.1.0) left.1.1 are y
+
+  -- what is left for y, after one more question
+  left_later : (journal asked : List ℕ) (x y : ℕ) (answer : Option Kept) → IsLeftAt m i keep journal asked y answer → IsLeftAt m i keep (journal ++ x ∷ []) asked y answer
+  left_later journal asked x y None (inl off) = inl off
+  left_later journal asked x y None (inr (inl none)) = inr (inl none)
+  left_later journal asked x y None (inr (inr there)) = inr (inr ((among_push y journal x).1 (inl there)))
+  left_later journal asked x y (Some k) h = h
+
+  left_then : (journal asked : List ℕ) (x : ℕ) (old others new rest : BTreeMap ℕ Kept) → HasMoved x old others new rest → AreAnswersLeft m i keep journal asked others → AreAnswersLeft m i keep (journal ++ x ∷ []) asked rest
+  left_then journal asked x old others new rest moved left y = elim (cases_eq x y) [
+    | inl same ↦ subst (λ (z : ℕ). IsLeftAt m i keep (journal ++ x ∷ []) asked z (get nat_cmp rest z)) same
+        (subst (λ (answer : Option Kept). IsLeftAt m i keep (journal ++ x ∷ []) asked x answer) (sym moved.gone) (inr (inr ((among_push x journal x).1 (inr refl)))))
+    | inr differ ↦ subst (λ (answer : Option Kept). IsLeftAt m i keep (journal ++ x ∷ []) asked y answer) (sym (moved.left y (apart_at x y differ))) (left_later journal asked x y (get nat_cmp others y) (left y))
+  ]
+
+  -- after one more question
+  pub moved_more : (journal asked : List ℕ) (x : ℕ) (old others new rest : BTreeMap ℕ Kept) → IsAmong x asked → HasMoved x old others new rest → AreAnswersKept m i keep journal old × AreAnswersLeft m i keep journal asked others
+      → AreAnswersKept m i keep (journal ++ x ∷ []) new × AreAnswersLeft m i keep (journal ++ x ∷ []) asked rest
+  moved_more journal asked x old others new rest among moved are =
+      (kept_then journal asked x (get nat_cmp others x) old new among moved.given (are.1 x) are.0, left_then journal asked x old others new rest moved are.1)
+
+  left_first : (journal asked : List ℕ) (x : ℕ) (answer : Option Kept) → IsKeptAt m i keep asked x answer → IsLeftAt m i keep journal asked x answer
+  left_first journal asked x None (inl off) = inl off
+  left_first journal asked x None (inr none) = inr (inl none)
+  left_first journal asked x (Some k) h = (h.0, h.2)
+
+  -- before any was moved
+  pub all_left : (journal asked : List ℕ) (others : BTreeMap ℕ Kept) → AreAnswersKept m i keep asked others → AreAnswersLeft m i keep journal asked others
+  all_left journal asked others are x = left_first journal asked x (get nat_cmp others x) (are x)
+
+-- ---- solvers of the same context
+-- two that keep their answers alike, where they have one origin
+same_keeping : (a b : Bool) → ◌≡◌ {A = List (List ℕ)} (cond a ([] ∷ []) []) (cond b ([] ∷ []) []) → a ≡ b
+same_keeping true true same = refl
+same_keeping true false same = cc
+same_keeping false true same = cc
+same_keeping false false same = refl
+
+-- what the other has kept is kept of the own context too
+pub kept_alike : (keep keep' : Bool) (m m' : System) (i i' : ℕ) (journal journal' : List ℕ) (kept : BTreeMap ℕ Kept) → with_journal [] (solver_with keep' m' i' journal') ≡ with_journal [] (solver_with keep m i journal)
+    → AreAnswersKept m' i' keep' journal' kept → AreAnswersKept m i keep journal' kept
+kept_alike keep keep' m m' i i' journal journal' kept same are =
+    subst (λ (b : Bool). AreAnswersKept m i b journal' kept) (same_keeping keep' keep (ap (λ (o : OracleState). o.origin) same))
+    (subst (λ (n : System). AreAnswersKept n i keep' journal' kept) (ap (λ (o : OracleState). o.system) same)
+    (subst (λ (k : ℕ). AreAnswersKept m' k keep' journal' kept) (ap (λ (o : OracleState). o.context) same) are))
+
+-- ---- the move of an answer
+pub none_moved : (x : ℕ) (kept others rest : BTreeMap ℕ Kept) → get nat_cmp others x ≡ None → IsUnchanged others rest → HasMoved x kept others kept rest
+none_moved x kept others rest none same = record {
+  given = subst (λ (answer : Option Kept). MatchOption answer (IsUnchanged kept kept) (λ k. IsKeptNow x k.outputs.items k.cert kept kept)) (sym none) refl;
+  gone = subst (λ (es : List (ℕ × Kept)). lookup (is_at (nat_cmp x)) es ≡ None) (sym same) none;
+  left = λ y apart. ap (lookup (is_at (nat_cmp y))) same;
+}
+
+pub one_moved : (x : ℕ) (k : Kept) (old others new rest : BTreeMap ℕ Kept) → get nat_cmp others x ≡ Some k → get nat_cmp rest x ≡ None → ((y : ℕ) → is_at (nat_cmp x) y ≡ false → get nat_cmp rest y ≡ get nat_cmp others y)
+    → get nat_cmp new x ≡ Some k → ((y : ℕ) → is_at (nat_cmp x) y ≡ false → get nat_cmp new y ≡ get nat_cmp old y) → HasMoved x old others new rest
+one_moved x k old others new rest had gone left there apart = record {
+  given = subst (λ (answer : Option Kept). MatchOption answer (IsUnchanged old new) (λ k. IsKeptNow x k.outputs.items k.cert old new)) (sym had)
+      (record { kept = k; outputs_are = refl; cert_is = refl; there = there; others = apart });
+  gone = gone;
+  left = left;
+}

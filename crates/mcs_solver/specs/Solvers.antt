@@ -44,3 +44,18 @@ pub record IsKeptNow (x : ℕ) (outputs : List ℕ) (cert : code.AnswerCert) (ol
 abbrev pub HasKept : ℕ → List ℕ → Option code.AnswerCert → BTreeMap ℕ Kept → BTreeMap ℕ Kept → Type 0
 HasKept x outputs None old new = IsUnchanged old new
 HasKept x outputs (Some cert) old new = IsKeptNow x outputs cert old new
+
+-- ---- answers that are moved to another solver
+-- the answer to x, where the others have one, is kept now, and they have it no more; all other answers are where they were
+pub record HasMoved (x : ℕ) (old others new rest : BTreeMap ℕ Kept) : Type 0 where
+  pub given : MatchOption (get nat_cmp others x) (IsUnchanged old new) (λ k. IsKeptNow x k.outputs.items k.cert old new)
+  pub gone : get nat_cmp rest x ≡ None
+  pub left : (y : ℕ) → is_at (nat_cmp x) y ≡ false → get nat_cmp rest y ≡ get nat_cmp others y
+
+-- so much of the answers to the questions asked is still to be moved for x: nothing only where no answers are kept, x was not asked, or its answer was moved
+abbrev pub IsLeftAt : System → ℕ → Bool → List ℕ → List ℕ → ℕ → Option Kept → Type 0
+IsLeftAt m i keep journal asked x kept = MatchOption kept ((keep ≡ false) ⊎ ((¬ IsAmong x asked) ⊎ IsAmong x journal)) (λ k. (keep ≡ true) × IsKeptFor m i x k)
+
+-- for each set of rules
+abbrev pub AreAnswersLeft : System → ℕ → Bool → List ℕ → List ℕ → BTreeMap ℕ Kept → Type 0
+AreAnswersLeft m i keep journal asked others = (x : ℕ) → IsLeftAt m i keep journal asked x (get nat_cmp others x)

@@ -8,12 +8,12 @@ ghost use Rattle.mcs_system.specs.Systems.{IsAcceptedPart};
 ghost use Rattle.mcs_asking.specs.Certificates.{plain_of, IsAccepted};
 ghost use Rattle.mcs_solver.specs.Solvers.{solver_with};
 
-use crate::keeping::{Kept, keep_answer};
+use crate::keeping::{Kept, absorb_answers, keep_answer};
 use crate::known::Known;
 use crate::parts::parts_with;
 use mcs_asking::AnswerCert;
-use mcs_base::{Active, Vars};
-use mcs_states::{Oracle, OracleStop};
+use mcs_base::{Active, Memory, Vars};
+use mcs_states::{Fork, Oracle, OracleStop};
 use mcs_system::System;
 use std::alloc::Global;
 use std::collections::BTreeMap;
@@ -23,7 +23,7 @@ use std::sync::Arc;
 /// Answers what one context of a system accepts, by the logic of its kind. It never lacks an answer. It keeps the
 /// journal of the questions asked. If it was made to, it keeps each answer with a certificate. For later questions it
 /// keeps the clauses of the formulas of a classical context. If it keeps no certificates, it also keeps what it found
-/// to follow, and of a default theory the clauses of its facts and what it found.
+/// to follow, and of a default theory the clauses of its facts and what it found. A fork of it has none of this yet.
 #[derive(Drop)]
 pub struct LocalSolver {
     system: Arc<System>,
@@ -108,5 +108,24 @@ impl Oracle for LocalSolver {
         keep_answer(alloc, &mut self.kept, active, &parts, cert)?;
         self.journal.push(active)?;
         Ok(parts)
+    }
+}
+
+impl Fork for LocalSolver {
+    fn fork(&self, alloc: Global) -> Result<LocalSolver, Memory> {
+        let system = Arc::try_clone(&self.system)?;
+        Ok(LocalSolver::new(alloc, system, self.context, self.keep))
+    }
+
+    fn absorb(&mut self, _alloc: Global, other: LocalSolver) -> Result<(), Memory> {
+        let LocalSolver {
+            system,
+            known,
+            journal,
+            kept,
+            ..
+        } = other;
+        drop((system, known));
+        absorb_answers(&mut self.journal, &mut self.kept, &journal, kept)
     }
 }
