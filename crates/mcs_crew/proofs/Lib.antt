@@ -9,3 +9,4 @@ pub mod RoundLemmas
 pub mod PlayLemmas
 pub mod BagLemmas
 pub mod ToldLemmas
+pub mod PartLemmas

@@ -1,4 +1,4 @@
--- What may go to another thread: seats, and nodes, teams and loads of an oracle that may. What threads may share: a word.
+-- What may go to another thread: seats, and nodes, teams and loads of an oracle that may. What threads may share: a word, and the number of those at work.
 use denote.RattleType.{RattleType}
 use denote.Param.Send.{AllSend, IsSend, IsSync, recorded_send, sendable, struct_send, view_send}
 use denote.Struct.Declared.{shape}
@@ -20,6 +20,7 @@ use Rattle.mcs_node.specs.contracts.node.Node as node
 use Rattle.mcs_node.specs.contracts.node.Node.TheInside as inside
 use Rattle.mcs_crew.specs.contracts.load.Load as load
 use Rattle.mcs_crew.specs.contracts.load.Team as team
+use Rattle.mcs_crew.specs.contracts.workforce.Workforce as workforce
 
 ruleset word = (
   table.the_field_send,
@@ -39,6 +40,9 @@ draw_sync = search (word, crosses, sendable) depth 60 fits 20000
 
 pub flag_sync : IsSync flag.the_row
 flag_sync = search (crosses, sendable) depth 60 fits 20000
+
+pub workforce_sync : IsSync workforce.the_row
+workforce_sync = search (crosses, sendable) depth 60 fits 20000
 
 in_round_send : IsSend in_round.the_row
 in_round_send = search (plan_send, plan_sync, crosses, sendable) depth 60 fits 20000
@@ -84,8 +88,8 @@ module _ (O : RattleType) (k : Ghosts O.Denot) (send : IsSend O) where
   pub load_send : IsSend (load.the_row O k)
   load_send = recorded_send (load.the_field O k).row _ _ (load.the_type O k).to_one (struct_send (shape (load.the_type O k)) in_load_send)
 
--- what a closure has captured, six values of types that may go to another thread
-pub six_send : (name : List ℕ) (A B C D E F : RattleType) → IsSend A → IsSend B → IsSend C → IsSend D → IsSend E → IsSend F → IsSend (TupleAt name (A ∷ B ∷ C ∷ D ∷ E ∷ F ∷ []))
-six_send name A B C D E F a b c d e f =
-    let T = type_at name (A ∷ B ∷ C ∷ D ∷ E ∷ F ∷ []) in
-    recorded_send (Struct (shape T)) T.D T.to T.to_one (struct_send (shape T) (a, (b, (c, (d, (e, (f, tt)))))))
+-- what a closure has captured, seven values of types that may go to another thread
+pub seven_send : (name : List ℕ) (A B C D E F G : RattleType) → IsSend A → IsSend B → IsSend C → IsSend D → IsSend E → IsSend F → IsSend G → IsSend (TupleAt name (A ∷ B ∷ C ∷ D ∷ E ∷ F ∷ G ∷ []))
+seven_send name A B C D E F G a b c d e f g =
+    let T = type_at name (A ∷ B ∷ C ∷ D ∷ E ∷ F ∷ G ∷ []) in
+    recorded_send (Struct (shape T)) T.D T.to T.to_one (struct_send (shape T) (a, (b, (c, (d, (e, (f, (g, tt))))))))

@@ -9,3 +9,4 @@ pub mod Told
 pub mod Rounds
 pub mod Laws
 pub mod Crews
+pub mod Parts

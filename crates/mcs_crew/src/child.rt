@@ -1,15 +1,21 @@
 //! Loads that are out with threads, and those that stay with the caller.
 
 ghost use Rattle.std.specs.Prelude.{◌≡◌};
+ghost use Rattle.std.specs.Thread.{IsSend, IsSync};
 ghost use Rattle.mcs_crew.specs.Calls.{load_of};
 ghost use Rattle.mcs_crew.specs.Children.{ComesBack, HasWorked, IsGiven};
-ghost use Rattle.mcs_crew.specs.Loads.{Worked};
+ghost use Rattle.mcs_crew.specs.Loads.{CanWork, Worked};
+ghost use Rattle.mcs_crew.specs.Parts.{IsAsked, IsErrand};
 
+use crate::asker::CrewAsker;
 use crate::load::Load;
+use crate::parts::ask_with_help;
+use crate::workforce::Workforce;
+use mcs_base::Active;
 use mcs_draw::Draw;
-use mcs_node::InTurn;
+use mcs_node::Asked;
 use mcs_ports::Gate;
-use mcs_states::Oracle;
+use mcs_states::{Fork, Oracle};
 use std::alloc::Global;
 use std::snapshot::Snapshot;
 use std::sync::Wait;
@@ -36,12 +42,51 @@ pub(crate) enum Child<O: Oracle> {
     Here(Load<O>),
 }
 
-/// Works the load, unless its flag is set: then it comes back as it is.
-fn work_unless<O: Oracle, G: Gate, R: Wait>(
+/// How much of a load is worked by a call.
+#[derive(Clone, Copy)]
+pub(crate) enum Extent {
+    /// All of it: then the call may wait for a letter.
+    Whole,
+    /// A part that needs no waiting.
+    Part,
+}
+
+/// Works the load as a whole, or a part of it. Returns whether anything was done.
+fn work_load<O: Fork + Send, G: Gate + Sync, R: Threads + Wait + Sync>(
     rt: &R,
     alloc: Global,
     draw: &Draw,
     gate: &G,
+    workforce: &Workforce,
+    load: &mut Load<O>,
+    extent: Extent,
+) -> bool
+    requires word { load.old.team.seat.word ≡ draw.now.word }
+    requires work { CanWork (load_of load.old) }
+    ensures { Worked (load_of load.old) (load_of load.new) }
+{
+    let ask = |context: u32, oracle: O, questions: &[Active]| -> Asked<O>
+        requires shared { IsSync R.row × IsSync G.row × IsSend O.row }
+        requires errand { IsErrand context (O.stands oracle) questions.now }
+        ensures { IsAsked context (O.stands oracle) (O.stands result.oracle) questions.now result.answers }
+    { ask_with_help(rt, alloc, gate, workforce, context, oracle, questions) };
+    let asker = CrewAsker::new(&ask);
+    match extent {
+        Extent::Whole => {
+            load.work(rt, alloc, draw, workforce, &asker);
+            true
+        }
+        Extent::Part => load.work_on(rt, alloc, draw, &asker),
+    }
+}
+
+/// Works the load, unless its flag is set: then it comes back as it is.
+fn work_unless<O: Fork + Send, G: Gate + Sync, R: Threads + Wait + Sync>(
+    rt: &R,
+    alloc: Global,
+    draw: &Draw,
+    gate: &G,
+    workforce: &Workforce,
     flag: &AtomicBool,
     load: Load<O>,
 ) -> Load<O>
@@ -50,18 +95,19 @@ fn work_unless<O: Oracle, G: Gate, R: Wait>(
 {
     let mut load = load;
     if !flag.load(Ordering::SeqCst) {
-        load.work(rt, alloc, draw, &InTurn::new(gate));
+        work_load(rt, alloc, draw, gate, workforce, &mut load, Extent::Whole);
     }
     load
 }
 
 /// Starts a thread for the load. Where none can be made, sets the flag, and the load stays here as it is.
-pub(crate) fn start<'s, E, O: Oracle + Send + 's, G: Gate + Sync, R: Threads + Wait + Sync>(
+pub(crate) fn start<'s, E, O: Fork + Send + 's, G: Gate + Sync, R: Threads + Wait + Sync>(
     scope: &Scope<'s, E>,
     rt: &'s R,
     alloc: Global,
     draw: &'s Draw,
     gate: &'s G,
+    workforce: &'s Workforce,
     flag: &'s AtomicBool,
     load: Load<O>,
 ) -> Child<O>
@@ -74,7 +120,7 @@ pub(crate) fn start<'s, E, O: Oracle + Send + 's, G: Gate + Sync, R: Threads + W
         move || -> Load<O>
             requires { IsGiven draw.now.word load }
             ensures { Worked (load_of load) (load_of result) }
-        { work_unless(rt, alloc, draw, gate, flag, load) },
+        { work_unless(rt, alloc, draw, gate, workforce, flag, load) },
     ) {
         Ok(thread) => Child::Away(thread),
         Err(refused) => {
@@ -103,12 +149,14 @@ pub(crate) struct Look {
     pub worked: bool,
 }
 
-/// Does a part of the work of a load that is here, without waiting for a letter.
-pub(crate) fn look_at<O: Oracle, G: Gate, R: Wait>(
+/// Works a load that is here, as a whole or a part of it.
+pub(crate) fn look_at<O: Fork + Send, G: Gate + Sync, R: Threads + Wait + Sync>(
     rt: &R,
     alloc: Global,
     draw: &Draw,
     gate: &G,
+    workforce: &Workforce,
+    extent: Extent,
     child: &mut Child<O>,
 ) -> Look
     requires { (was : _) × IsGiven draw.now.word was × ComesBack was child.old }
@@ -120,7 +168,7 @@ pub(crate) fn look_at<O: Oracle, G: Gate, R: Wait>(
             worked: false,
         },
         Child::Here(load) => {
-            let worked = load.work_on(rt, alloc, draw, &InTurn::new(gate));
+            let worked = work_load(rt, alloc, draw, gate, workforce, load, extent);
             Look {
                 busy: load.is_busy(),
                 worked,

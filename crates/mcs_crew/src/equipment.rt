@@ -11,6 +11,7 @@ ghost use Rattle.mcs_crew.specs.Teams.{seat_room};
 use crate::child::Child;
 use crate::load::{Load, Team};
 use crate::wires::{Wires, awaited, split_each, wires_of};
+use crate::workforce::Workforce;
 use mcs_base::Memory;
 use mcs_draw::{Draw, Seat};
 use mcs_import::Plan;
@@ -38,10 +39,11 @@ pub(crate) struct Equipment<O: Oracle> {
     pub loads: Vec<Load<O>>,
 }
 
-/// A flag for each group, and room for the loads that are out and for those that are back.
+/// A flag and a worker for each group, and room for the loads that are out and for those that are back.
 #[derive(Drop)]
 pub(crate) struct Hall<O: Oracle> {
     pub flags: Vec<AtomicBool>,
+    pub workforce: Workforce,
     pub children: Vec<Child<O>>,
     pub back: Vec<Load<O>>,
 }
@@ -55,8 +57,12 @@ fn flags_of(alloc: Global, groups: u32) -> Result<Vec<AtomicBool>, Memory> {
     Ok(flags)
 }
 
-/// The hall for so many groups.
-pub(crate) fn hall_of<O: Oracle>(alloc: Global, groups: u32) -> Result<Hall<O>, Memory>
+/// The hall for so many groups, with so many workers.
+pub(crate) fn hall_of<O: Oracle>(
+    alloc: Global,
+    groups: u32,
+    workers: u32,
+) -> Result<Hall<O>, Memory>
     ensures children { IfOk result (λ hall. (vec_len hall.children ≡ 0) × (groups ≤ vec_capacity hall.children)) }
     ensures back { IfOk result (λ hall. (vec_len hall.back ≡ 0) × (groups ≤ vec_capacity hall.back)) }
 {
@@ -65,6 +71,7 @@ pub(crate) fn hall_of<O: Oracle>(alloc: Global, groups: u32) -> Result<Hall<O>, 
     let back = Vec::with_capacity(alloc, groups as usize)?;
     Ok(Hall {
         flags,
+        workforce: Workforce::new(workers as usize, groups as usize),
         children,
         back,
     })

@@ -21,7 +21,7 @@ use mcs_import::Plan;
 use mcs_mesh::{Nodes, Played, Player, Round, TurnPlayer, begin_all};
 use mcs_node::Node;
 use mcs_ports::Gate;
-use mcs_states::{Halt, Oracle};
+use mcs_states::{Fork, Halt, Oracle};
 use mcs_wire::Settled;
 use std::alloc::Global;
 use std::sync::{Arc, Wait};
@@ -32,11 +32,14 @@ use std::thread::Threads;
 /// which no thread can be made: the caller works these. Each letter goes through the inbox of its addressee's group,
 /// and each total is drawn from one word. The gate is called before each question.
 ///
+/// Workers that have no group, wait for a letter, or have done their part, help the others: the questions of a context
+/// are asked in parts then, by forks of its oracle. That changes no answer and no journal.
+///
 /// With fewer than two workers used, the round is played in turn, and the call waits for nobody. Otherwise it may wait.
 ///
 /// All nodes come back in every case, and of their oracles nothing but the journals ever changes. `Spent` and `Missing`
 /// are those of the lowest node that stopped by itself. `Memory` may come back in place of any other answer.
-pub fn play_in_threads<O: Oracle + Send, G: Gate + Sync, R: Threads + Wait + Sync>(
+pub fn play_in_threads<O: Fork + Send, G: Gate + Sync, R: Threads + Wait + Sync>(
     rt: &R,
     alloc: Global,
     gate: &G,
@@ -60,7 +63,9 @@ pub fn play_in_threads<O: Oracle + Send, G: Gate + Sync, R: Threads + Wait + Syn
         ..
     } = round;
     let Nodes { mut list } = nodes;
-    match play_groups(rt, alloc, gate, &plan, level, asked, groups, &mut list) {
+    match play_groups(
+        rt, alloc, gate, &plan, level, asked, workers, groups, &mut list,
+    ) {
         Ok(ended) => told(alloc, list, ended),
         Err(Memory) => Played {
             nodes: Nodes { list },
@@ -96,15 +101,16 @@ fn play_alone<O: Oracle, G: Gate>(
     }
 }
 
-/// Plays the round of the level by so many groups, after so many questions were asked. All that takes memory is made,
-/// and all nodes have begun, before a letter is sent.
-fn play_groups<O: Oracle + Send, G: Gate + Sync, R: Threads + Wait + Sync>(
+/// Plays the round of the level by so many groups, after so many questions were asked; the workers that have no group
+/// help. All that takes memory is made, and all nodes have begun, before a letter is sent.
+fn play_groups<O: Fork + Send, G: Gate + Sync, R: Threads + Wait + Sync>(
     rt: &R,
     alloc: Global,
     gate: &G,
     plan: &Arc<Plan>,
     level: u32,
     asked: u64,
+    workers: u32,
     groups: u32,
     nodes: &mut Vec<Node<O>>,
 ) -> Result<Ended, Memory>
@@ -115,7 +121,7 @@ fn play_groups<O: Oracle + Send, G: Gate + Sync, R: Threads + Wait + Sync>(
     ensures played { IfOk result (λ ended. (budget : ℕ) (ready : IsReadyRound (arc_value plan.now) level budget asked nodes.old.items)
         → HaveBeenPlayed (arc_value plan.now) level budget asked ready.before groups nodes.new.items ended.wires.items ended.word) }
 {
-    let hall = hall_of(alloc, groups)?;
+    let hall = hall_of(alloc, groups, workers)?;
     begin_all(alloc, level, nodes)?;
     let equipment = equipment_of(alloc, plan, asked, groups)?;
     let Equipment {

@@ -22,6 +22,7 @@ fn grant_need<A: Asker>(
     node: &mut Node<A::Of>,
 )
     requires word { seat.old.word ≡ draw.now.word }
+    requires asks { A.asks asker.now }
     requires room { (need : ℕ) → IsNeed node.old need → need ≤ seat.old.account.left }
     ensures word { seat.new.word ≡ seat.old.word }
     ensures served { IsServed node.old node.new seat.old.account seat.new.account }
@@ -45,6 +46,7 @@ impl<O: Oracle> Team<O> {
     )
         requires place { place < vec_len self.old.nodes }
         requires word { self.old.seat.word ≡ draw.now.word }
+        requires asks { A.asks asker.now }
         requires team { CanServe (team_of self.old) }
         ensures goes_on { GoesOn (team_of self.old) (team_of self.new) }
         ensures had { HasHadNone (team_of self.old) (team_of self.new) }
@@ -64,6 +66,7 @@ impl<O: Oracle> Team<O> {
         asker: &A,
     )
         requires word { self.old.seat.word ≡ draw.now.word }
+        requires asks { A.asks asker.now }
         requires team { CanServe (team_of self.old) }
         ensures goes_on { GoesOn (team_of self.old) (team_of self.new) }
         ensures had { HasHadNone (team_of self.old) (team_of self.new) }

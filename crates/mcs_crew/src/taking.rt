@@ -7,6 +7,7 @@ ghost use Rattle.mcs_crew.specs.Teams.{CanServe, GoesOn, HasHadNone, HasHadOne};
 
 use crate::load::{Load, Team};
 use crate::sending::send_out;
+use crate::workforce::Workforce;
 use mcs_draw::Draw;
 use mcs_node::{Asker, Letter};
 use mcs_states::Oracle;
@@ -34,6 +35,7 @@ impl<O: Oracle> Team<O> {
         letter: Letter,
     )
         requires word { self.old.seat.word ≡ draw.now.word }
+        requires asks { A.asks asker.now }
         requires team { CanServe (team_of self.old) }
         ensures goes_on { GoesOn (team_of self.old) (team_of self.new) }
         ensures had { HasHadOne letter (team_of self.old) (team_of self.new) ⊎ HasHadNone (team_of self.old) (team_of self.new) }
@@ -61,24 +63,36 @@ impl<O: Oracle> Team<O> {
 
 impl<O: Oracle> Load<O> {
     /// Works the load: grants the nodes that need no letter, then takes as many letters as the nodes await, and hands
-    /// each to its node. It may wait for a letter.
-    pub fn work<A: Asker<Of = O>, R: Wait>(&mut self, rt: &R, alloc: Global, draw: &Draw, asker: &A)
+    /// each to its node. It may wait for a letter; then, and once the load is worked off, its worker rests.
+    pub fn work<A: Asker<Of = O>, R: Wait>(
+        &mut self,
+        rt: &R,
+        alloc: Global,
+        draw: &Draw,
+        workforce: &Workforce,
+        asker: &A,
+    )
         requires word { self.old.team.seat.word ≡ draw.now.word }
+        requires asks { A.asks asker.now }
         requires work { CanWork (load_of self.old) }
         ensures worked { Worked (load_of self.old) (load_of self.new) }
         ensures left { self.new.left ≡ 0 }
     {
         self.begin(rt, alloc, draw, asker);
         while self.left > 0 {
+            workforce.rest();
             let letter = self.inbox.take(rt);
+            workforce.go_on();
             self.left -= 1;
             self.team.take_in(rt, alloc, draw, asker, letter);
         }
+        workforce.rest();
     }
 
     /// Grants the nodes that need no letter, and sends what they put out.
     fn begin<A: Asker<Of = O>, R: Wait>(&mut self, rt: &R, alloc: Global, draw: &Draw, asker: &A)
         requires word { self.old.team.seat.word ≡ draw.now.word }
+        requires asks { A.asks asker.now }
         requires work { CanWork (load_of self.old) }
         ensures worked { Worked (load_of self.old) (load_of self.new) }
         ensures left { self.new.left ≡ self.old.left }
@@ -97,6 +111,7 @@ impl<O: Oracle> Load<O> {
         asker: &A,
     ) -> bool
         requires word { self.old.team.seat.word ≡ draw.now.word }
+        requires asks { A.asks asker.now }
         requires work { CanWork (load_of self.old) }
         ensures worked { Worked (load_of self.old) (load_of self.new) }
     {

@@ -65,7 +65,7 @@ workers_of (make number budget workers) = workers
 abbrev pub JobUsesFew : Request → List File → Type 0
 JobUsesFew (equilibria file budget workers) files = OfOneFile (OfSystem (UsesFew workers)) files
 JobUsesFew (solve file budget workers proof) files = OfOneFile (OfSystem (UsesFew workers)) files
-JobUsesFew (check file report) files = 1 < 2
+JobUsesFew (check file report) files = Unit {0}
 JobUsesFew (make number budget workers) files = UsesFew workers (generated_system number)
 
 -- it was done

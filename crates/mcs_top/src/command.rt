@@ -33,7 +33,7 @@ use std::thread::Threads;
 /// of the job, or a prefix of it. What each status implies is stated by the record `KeepsPromise`. If the words ask for
 /// no job that names a file, the shelf is not called.
 ///
-/// The trail shows the last round that several workers played: how the record `KeepsTrail` states. It is empty with fewer
+/// The trail shows the last round that several workers played, as the record `KeepsTrail` states. It is empty with fewer
 /// than two workers used, and where no system was evaluated.
 pub fn run<H: Shelf, K: Sink, G: Gate + Sync, R: Threads + Wait + Sync>(
     rt: &R,

@@ -12,7 +12,7 @@ use mcs_crew::{CrewPlayer, Trail, play_in_threads};
 use mcs_listing::{Beginning, work_by};
 use mcs_mesh::{Nodes, Parts, Played, Round};
 use mcs_ports::{Gate, Sink};
-use mcs_states::Oracle;
+use mcs_states::{Fork, Oracle};
 use mcs_system::System;
 use mcs_work::{Task, WorkStop};
 use std::alloc::Global;
@@ -30,7 +30,7 @@ pub(crate) struct Worked<O: Oracle> {
 
 /// Does the task with so many workers, but at most one for each context, of which each may be a thread of its own. It
 /// may wait for them.
-pub(crate) fn work_in_threads<O: Oracle + Send, K: Sink, G: Gate + Sync, R: Threads + Wait + Sync>(
+pub(crate) fn work_in_threads<O: Fork + Send, K: Sink, G: Gate + Sync, R: Threads + Wait + Sync>(
     rt: &R,
     alloc: Global,
     workers: u32,

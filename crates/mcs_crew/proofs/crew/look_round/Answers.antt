@@ -14,7 +14,7 @@ look_at-look-requires g c =
     let child = get_or c.loop-child.children k c.child-item.result in
     let at = read_at c.loop-child.children k c.child-item.result (let t = c.loop-child-test.true in let l = c.loop-child.auto.children in omega (arith, t, l)) in
     let (was, there, came) = zip_back ComesBack work.loads c.loop-child.children now k child at in
-    (was, all_get (IsGiven c.args.draw.now.word) work.loads k was parts.0 there, came)
+    (c.type_bounds.send-O, (c.type_bounds.sync-G, (c.type_bounds.sync-R, (was, all_get (IsGiven c.args.draw.now.word) work.loads k was parts.0 there, came))))
 
 pub loop-child-preserved : goal.loop-child-preserved
 loop-child-preserved g c = λ was given first.

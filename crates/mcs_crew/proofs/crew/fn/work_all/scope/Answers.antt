@@ -1,4 +1,4 @@
-use Rattle.std.proofs.Common.{◌∙◌, sym, subst, arith}
+use Rattle.std.proofs.Common.{◌∙◌, sym, subst, arith, rules}
 use Rattle.std.proofs.lemmas.List.{with_items_is}
 use Rattle.std.specs.List.{AllZip}
 use Rattle.mcs_base.proofs.Lists.{length_zip}
@@ -10,7 +10,7 @@ pub go_round-requires : goal.go_round-requires
 go_round-requires g c =
     let loads = c.captures.loads.items in
     let back = subst (λ cs. AllZip ComesBack loads cs) (sym c.deref_mut.ensures.value) c.send_all_off-children.ensures in
-    record { loads = loads; given = zip_whole ComesBack (IsGiven c.captures.draw.now.word) loads c.deref_mut.result.now c.requires.given back }
+    (search rules, (search rules, (search rules, record { loads = loads; given = zip_whole ComesBack (IsGiven c.captures.draw.now.word) loads c.deref_mut.result.now c.requires.given back })))
 
 pub finish_all-requires : goal.finish_all-requires
 finish_all-requires g c = record {
