@@ -4,4 +4,4 @@
 
 mod program;
 
-pub use program::program_views;
+pub use program::{are_ascending, program_views, rules_hold, view_of};

@@ -65,16 +65,17 @@ fn rule_holds(atoms: &[Name], places: Vars, rule: &ProgRule) -> bool
     some_true(atoms, places, &rule.head)
 }
 
-/// Whether each of the rules holds if exactly the atoms at these places are true.
-fn rules_hold(atoms: &[Name], places: Vars, rules: &[ProgRule]) -> bool
+/// Whether each of the rules holds if exactly the atoms at these places are true. There are at most 64 atoms.
+pub fn rules_hold(atoms: &[Name], places: Vars, rules: &[ProgRule]) -> bool
     requires few { length atoms.now ≤ 64 }
     ensures { result ≡ holds_all (true_names 0 atoms.now places) (map rule_formula (map rule_of rules.now)) }
 {
     rules.iter().all(|rule| rule_holds(atoms, places, rule))
 }
 
-/// The indices of the beliefs that are true if exactly the atoms at these places are.
-fn view_of(atoms: &[Name], places: Vars, beliefs: &[&Name]) -> Vars
+/// The indices of the beliefs that are true if exactly the atoms at these places are. There are at most 64 atoms and at
+/// most 64 beliefs.
+pub fn view_of(atoms: &[Name], places: Vars, beliefs: &[&Name]) -> Vars
     requires few { length atoms.now ≤ 64 }
     requires few_beliefs { length beliefs.now ≤ 64 }
     ensures { Shows (Atoms (true_names 0 atoms.now places)) (map Atom (map (λ b. b.now) beliefs.now)) result }
@@ -137,8 +138,8 @@ fn model_views(
     Ok(Some(views))
 }
 
-/// Whether the states are strictly ascending.
-fn are_ascending(states: &[Vars]) -> bool
+/// Whether the states are strictly ascending, in the order of states.
+pub fn are_ascending(states: &[Vars]) -> bool
     ensures { IsTrue result ↔ IsAscending StateBefore states.now }
 {
     for index in 1..states.len() {

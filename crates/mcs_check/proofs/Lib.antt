@@ -5,6 +5,9 @@ pub mod AnswerLines
 pub mod OwnAnswers
 pub mod SortedAnswers
 pub mod Counting
+pub mod JudgedAnswers
+pub mod JudgedPrograms
+pub mod JudgedTheories
 pub mod RelistingLemmas
 pub mod FindingLemmas
 pub mod OneFinding

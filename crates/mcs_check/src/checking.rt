@@ -36,8 +36,7 @@ pub fn check_report(alloc: Global, system: Arc<System>, bytes: &[u8]) -> Result<
     found_in(alloc, system, bytes)
 }
 
-/// The finding on the bytes. Each answer is judged as soon as it was read, so that at most one certificate is held at a
-/// time.
+/// The finding on the bytes. Each answer is judged while it is read, so that at most one certificate is held at a time.
 fn found_in(alloc: Global, system: Arc<System>, bytes: &[u8]) -> Result<Finding, Memory>
     ensures { IfOk result (IsReportFinding (arc_value system) bytes.now) }
 {

@@ -117,7 +117,7 @@ empty_tells b s none is zeroth tells = (
 
 -- ---- one prerequisite after the other
 module _ (names : List Name) (items : List Item) (ds : List Default) (same : ds ≡ defaults_of items) where
-  grounded_split : (fs : List Formula) (n : ℕ) (d : Default) (e : Entailment) (ns : List ℕ) (es : List Entailment) → at_number ds n ≡ Some d
+  pub grounded_split : (fs : List Formula) (n : ℕ) (d : Default) (e : Entailment) (ns : List ℕ) (es : List Entailment) → at_number ds n ≡ Some d
       → AreGrounded names items fs (n ∷ ns) (e ∷ es) ↔ (IsEntailmentShown names fs d.pre e × AreGrounded names items (fs ++ d.conclusion ∷ []) ns es)
   grounded_split fs n d e ns es at = (
     λ (d', at', shown, rest). (let one : d' ≡ d = (let x : Some d' ≡ Some d = sym at' ∙ numbered_same items ds n same ∙ at in cc) in

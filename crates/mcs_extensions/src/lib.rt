@@ -9,3 +9,6 @@ mod theory;
 mod verdict;
 
 pub use default::default_views;
+pub use order::is_member;
+pub use theory::{chosen, consequents, facts_with, negated, negations, prerequisites};
+pub use verdict::{Judged, judged_as, judged_by};

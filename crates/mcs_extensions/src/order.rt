@@ -19,7 +19,7 @@ use mcs_trace::{Cnf, Entail};
 use std::alloc::Global;
 
 /// Whether the number, counted from 1, is that of a member of the set.
-pub(crate) fn is_member(set: Vars, number: u32) -> bool
+pub fn is_member(set: Vars, number: u32) -> bool
     ensures exact { IsTrue result ↔ IsNumberIn set number }
     ensures low { IsTrue result → number ≤ 64 }
 {

@@ -24,7 +24,7 @@ fn facts_of(alloc: Global, items: &[TheoryItem]) -> Result<Vec<&Formula>, Memory
 }
 
 /// The facts of the items, followed by those that are added.
-pub(crate) fn facts_with<'f>(
+pub fn facts_with<'f>(
     alloc: Global,
     items: &'f [TheoryItem],
     added: &[&'f Formula],
@@ -37,7 +37,7 @@ pub(crate) fn facts_with<'f>(
 }
 
 /// The defaults of the set, ascending.
-pub(crate) fn chosen<'f>(
+pub fn chosen<'f>(
     alloc: Global,
     defaults: &[&'f Default],
     set: Vars,
@@ -55,7 +55,7 @@ pub(crate) fn chosen<'f>(
 }
 
 /// The prerequisites of the defaults.
-pub(crate) fn prerequisites<'f>(
+pub fn prerequisites<'f>(
     alloc: Global,
     defaults: &[&'f Default],
 ) -> Result<Vec<&'f Formula>, Memory>
@@ -69,10 +69,7 @@ pub(crate) fn prerequisites<'f>(
 }
 
 /// The consequents of the defaults.
-pub(crate) fn consequents<'f>(
-    alloc: Global,
-    defaults: &[&'f Default],
-) -> Result<Vec<&'f Formula>, Memory>
+pub fn consequents<'f>(alloc: Global, defaults: &[&'f Default]) -> Result<Vec<&'f Formula>, Memory>
     ensures { IfOk result (λ fs. map (λ f. formula_of f.now) fs.items ≡ map (λ (d : plain.Default). d.conclusion) (map (λ d. default_of d.now) defaults.now)) }
 {
     let mut formulas = Vec::new(alloc);
@@ -83,7 +80,7 @@ pub(crate) fn consequents<'f>(
 }
 
 /// The negation of the formula.
-pub(crate) fn negated(alloc: Global, formula: &Formula) -> Result<Formula, Memory>
+pub fn negated(alloc: Global, formula: &Formula) -> Result<Formula, Memory>
     ensures { IfOk result (λ f. formula_of f ≡ Not (formula_of formula.now)) }
 {
     let copy = formula.copy(alloc)?;
@@ -105,7 +102,7 @@ fn push_negations(
 }
 
 /// The negations of the justifications of the defaults, in order.
-pub(crate) fn negations(alloc: Global, defaults: &[&Default]) -> Result<Vec<Formula>, Memory>
+pub fn negations(alloc: Global, defaults: &[&Default]) -> Result<Vec<Formula>, Memory>
     ensures { IfOk result (λ fs. map formula_of fs.items ≡ negated_justs (map (λ d. default_of d.now) defaults.now)) }
 {
     let mut negations = Vec::new(alloc);

@@ -21,7 +21,7 @@ use std::alloc::Global;
 
 /// The result of checking a verdict on a set of defaults.
 #[derive(Clone, Copy)]
-pub(crate) enum Judged {
+pub enum Judged {
     /// The verdict is not accepted.
     Refused,
     /// The verdict is accepted, and the set generates no extension.
@@ -31,7 +31,7 @@ pub(crate) enum Judged {
 }
 
 /// The result for a verdict that the set generates no extension.
-fn judged_by(accepted: bool) -> Judged
+pub fn judged_by(accepted: bool) -> Judged
     ensures { result ≡ judged_by accepted }
 {
     if accepted {
@@ -43,7 +43,7 @@ fn judged_by(accepted: bool) -> Judged
 
 /// The result for a verdict that the set generates an extension. The view is the one that is shown; if there is none,
 /// the verdict is not accepted.
-fn judged_as(view: Option<Vars>) -> Judged
+pub fn judged_as(view: Option<Vars>) -> Judged
     ensures { result ≡ judged_as view }
 {
     match view {

@@ -7,7 +7,6 @@ use Rattle.mcs_system.specs.Naming.{IsSystemNamed}
 use Rattle.mcs_system.specs.Faults.{IsValid}
 use Rattle.mcs_proof_text.specs.Answers.{Answer, answer_lines}
 use Rattle.mcs_proof_text.specs.Reports.{SpellsReport, report_lines}
-use Rattle.mcs_proof_text.specs.Shapes.{IsInShape}
 use Rattle.mcs_proof_lines.specs.declared.fault.ReportFault.{ReportFault}
 use Rattle.mcs_proof_lines.specs.declared.fault.ReportFault.TheVariants as faults
 use Rattle.mcs_proof_lines.specs.Walks.{At, is_next, after_front}
@@ -28,10 +27,6 @@ pub record IsKeptSoFar {K : Type 0} (keeps : System → Answer → ℕ → K →
   pub taken : at.taken ≡ start.taken + length (flat_map (answer_lines m) answers)
   pub read : (n : ℕ) → length start.rest ≤ n → after_front answers (answers_at m (n - length answers) last at) ≡ answers_at m n None start
   pub kept : EachIsKept keeps m (start.taken + 1) answers held
-
--- an answer that is read is in shape
-pub read_in_shape : (m : System) → IsValid m → IsSystemNamed m → (last : Option (ℕ × ℕ)) (at now : At) (a : Answer) → answer_at m last at ≡ Ok (a, now) → IsInShape m a
-read_in_shape m valid named last at now a e = ((reads_answer m valid named last).sound at now a e).is.0
 
 module _ {K : Type 0} (keeps : System → Answer → ℕ → K → Type 0) (m : System) where
   abbrev all_lines : List Answer → List (List ℕ)

@@ -1,16 +1,22 @@
 -- An answer, read part by part as the code reads it.
-use Rattle.std.proofs.Common.{◌≡◌, ℕ, ◌+◌, codes, slice_get, Option, Some, None, Result, Ok, Err, sym, ap, ◌∙◌, subst, arith, ◌<◌, length, length-append}
+use Rattle.std.proofs.Common.{◌≡◌, ℕ, ◌+◌, codes, slice_get, List, Option, Some, None, Result, Ok, Err, MatchResult, sym, ap, ◌∙◌, subst, arith, ◌<◌, length, length-append}
+use Rattle.std.specs.Option.{option_and_then}
 use Rattle.std.specs.Result.{IsErrAnd}
+use Rattle.mcs_sets.specs.Sets.{Within}
+use Rattle.mcs_base.proofs.Lists.{slice_get_below}
 use Rattle.mcs_system.specs.Plain.{Context, System}
 use Rattle.mcs_system.specs.Naming.{IsSystemNamed}
 use Rattle.mcs_system.specs.Faults.{IsValid}
+use Rattle.mcs_system.specs.Imports.{rules_into}
 use Rattle.mcs_proof_text.specs.Answers.{Answer, answer_lines}
 use Rattle.mcs_proof_lines.specs.declared.fault.ReportFault.{ReportFault}
 use Rattle.mcs_proof_lines.specs.declared.fault.ReportFault.TheVariants as faults
-use Rattle.mcs_proof_lines.specs.Walks.{At, Reading, ◌>>=◌, ReturnsReading, Gives, advanced, line_at, taken_at, expect_at}
+use Rattle.mcs_proof_lines.specs.Walks.{At, Reading, ◌>>=◌, ReturnsReading, advanced, next_line, line_at, taken_at, expect_at}
 use Rattle.mcs_proof_reader.specs.Questions.{next_question}
 use Rattle.mcs_proof_reader.specs.Answers.{Shown, shown_at, shown_of, answer_at}
+use Rattle.mcs_proof_reader.specs.Keeping.{TakesAndKeeps}
 use Rattle.mcs_proof_reader.proofs.AnswerReadings.{reads_answer}
+use Rattle.mcs_proof_reader.proofs.QuestionReadings.{next_line as question_line}
 
 module _ (m : System) (last : Option (ℕ × ℕ)) (at : At) where
   -- no question is next
@@ -46,10 +52,39 @@ module _ (m : System) (last : Option (ℕ × ℕ)) (at : At) where
       answered now told = to_shown ∙ (ap (λ (r : Reading Shown). r >>= finish) read
           ∙ ap (λ (r : Result At ℕ). r >>= λ next. (let s : Reading Answer = Ok (record { context = q.0; active = q.1; outputs = shown.0; cert = shown.1 }, next) in s)) told)
 
--- a fault that is handed on
-pub handed : {X A : Type 0} (view : X → A) (r : Result X ReportFault) (now : At) (read : Reading A) (e : ReportFault) → IsErrAnd r (λ d. d ≡ e) → ReturnsReading e read → Gives view r now read
-handed view (Ok x) now read e h told = absurd h
-handed view (Err d) now read e h told = subst (λ (f : ReportFault). ReturnsReading f read) (sym h) told
+-- ---- a fault that is handed on
+pub taken_err : {K : Type 0} (keeps : System → Answer → ℕ → K → Type 0) (m : System) (q : ℕ × ℕ) (line : ℕ) (r : Result K ReportFault) (now : At) (read : Reading Shown) (e : ReportFault) → IsErrAnd r (λ d. d ≡ e) → ReturnsReading e read
+    → TakesAndKeeps keeps m q line r now read
+taken_err keeps m q line (Ok k) now read e h told = absurd h
+taken_err keeps m q line (Err d) now read e h told = subst (λ (f : ReportFault). ReturnsReading f read) (sym h) told
+
+-- of what the context of the question shows
+pub shown_err : {K : Type 0} (keeps : System → Answer → ℕ → K → Type 0) (m : System) (q : ℕ × ℕ) (line : ℕ) (c : Context) → slice_get m.contexts q.0 ≡ Some c → (r : Result K ReportFault) (now at : At) (e : ReportFault) → IsErrAnd r (λ d. d ≡ e)
+    → ReturnsReading e (shown_at m q.0 c.kb at) → TakesAndKeeps keeps m q line r now (shown_of m q.0 (slice_get m.contexts q.0) at)
+shown_err keeps m q line c is r now at e h told = taken_err keeps m q line r now (shown_of m q.0 (slice_get m.contexts q.0) at) e h (subst (λ (o : Option Context). ReturnsReading e (shown_of m q.0 o at)) (sym is) told)
+
+pub next_err : {X A : Type 0} (P : X → Type 0) (r : Result X ReportFault) (read : Reading A) (e : ReportFault) → IsErrAnd r (λ d. d ≡ e) → ReturnsReading e read → MatchResult r P (λ fault. ReturnsReading fault read)
+next_err P (Ok x) read e h told = absurd h
+next_err P (Err d) read e h told = subst (λ (f : ReportFault). ReturnsReading f read) (sym h) told
+
+-- what is read where the context is known
+pub kept_fault : (m : System) (i : ℕ) (c : Context) → slice_get m.contexts i ≡ Some c → (at : At) (e : ReportFault) → ReturnsReading e (shown_of m i (slice_get m.contexts i) at) → ReturnsReading e (shown_at m i c.kb at)
+kept_fault m i c is at e told = subst (λ (o : Option Context). ReturnsReading e (shown_of m i o at)) is told
+
+pub kept_reading : (m : System) (i : ℕ) (c : Context) → slice_get m.contexts i ≡ Some c → (at now : At) (s : Shown) → shown_of m i (slice_get m.contexts i) at ≡ Ok (s, now) → shown_at m i c.kb at ≡ Ok (s, now)
+kept_reading m i c is at now s told = sym (ap (λ (o : Option Context). shown_of m i o at) is) ∙ told
+
+-- ---- questions
+pub shown_there : (m : System) (i : ℕ) → i < length m.contexts → (c : Context) × (slice_get m.contexts i ≡ Some c)
+shown_there m i less = slice_get_below m.contexts i less
+
+-- the rules that a question names go into its context
+pub asked_within : (m : System) → IsValid m → IsSystemNamed m → (last : Option (ℕ × ℕ)) (at : At) (q : ℕ × ℕ) → line_at (next_question m last) at ≡ Some q → Within q.1 (rules_into m q.0)
+asked_within m valid named last at q e = by (next_line at) e
+  where
+    by : (o : Option (List ℕ)) → option_and_then (next_question m last) o ≡ Some q → Within q.1 (rules_into m q.0)
+    by None e = absurd (cc)
+    by (Some line) e = ((question_line m valid named last).sound line q e).0.0.1
 
 -- an answer takes a line or more
 pub answer_shorter : (m : System) → IsValid m → IsSystemNamed m → (last : Option (ℕ × ℕ)) (at now : At) (a : Answer) → answer_at m last at ≡ Ok (a, now) → length now.rest < length at.rest

@@ -23,9 +23,13 @@ terms_for m i items = record { atoms = atoms_of m i; numbers = ten; justs = map 
 abbrev pub states_there : System → ℕ → At → (List ℕ × At)
 states_there m i at = states_at m (variables_of m i) None at
 
+-- the one state of a classical context
+abbrev pub state_at : System → ℕ → At → Reading ℕ
+state_at m i at = taken_at at (line_at (state_in_words m (variables_of m i) None) at)
+
 unfoldable pub classical_at : System → ℕ → At → Reading Shown
 classical_at m i at = do
-  state ← taken_at at (line_at (state_in_words m (variables_of m i) None) at)
+  state ← state_at m i at
   entailments ← many_at (entailment_at (atoms_of m i)) (size (variables_of m i)) state.1
   Ok ((state.0 ∷ [], OfFormulas entailments.0), entailments.1)
 

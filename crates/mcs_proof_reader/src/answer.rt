@@ -1,21 +1,22 @@
 //! The answers of a report, read one at a time.
 
-ghost use Rattle.std.specs.Prelude.{◌≡◌, ◌≤◌, ◌<◌, ◌+◌, ◌∷◌, [], map, length, IfOk, Some};
+ghost use Rattle.std.specs.Prelude.{◌≡◌, ◌≤◌, ◌<◌, ◌∷◌, [], map, length, slice_get, IfOk};
 ghost use Rattle.mcs_system.specs.Faults.{default_count};
 ghost use Rattle.mcs_system.specs.Seen.{item_of, kb_of};
 ghost use Rattle.mcs_cnf.specs.Entailments.{entailment_of};
 ghost use Rattle.mcs_evidence.specs.Defaults.{defaults_of};
 ghost use Rattle.mcs_asking.specs.Certificates.{OfFormulas};
 ghost use Rattle.mcs_proof_lines.specs.Walks.{Gives};
-ghost use Rattle.mcs_proof_reader.specs.Answers.{classical_at, default_at, models_at, shown_at, answer_at};
-ghost use Rattle.mcs_proof_reader.specs.Readers.{answer_in_report, shown_of_code, AreTexts};
+ghost use Rattle.mcs_proof_reader.specs.Answers.{state_at, classical_at, default_at, models_at, shown_at, shown_of};
+ghost use Rattle.mcs_proof_reader.specs.Keeping.{IsWholeAnswer, TakesAndKeeps};
+ghost use Rattle.mcs_proof_reader.specs.Readers.{shown_of_code, AreTexts};
 
-use crate::question::{next_question, next_state, take_states};
+use crate::question::{next_state, take_states};
 use crate::texts::{Texts, just_counts, name_texts};
 use mcs_asking::AnswerCert;
 use mcs_base::{Active, Memory, Vars};
 use mcs_proof_lines::{
-    Lines, ReportFault, Theory, expect, out_of_place, take_entailments, take_program, take_verdicts,
+    Lines, ReportFault, Theory, out_of_place, take_entailments, take_program, take_verdicts,
 };
 use mcs_system::{Kb, System, TheoryItem};
 use mcs_trace::{ClassicalCert, DefaultCert, Entail};
@@ -56,6 +57,26 @@ fn one_output(alloc: Global, state: Vars, entails: Vec<Entail>) -> Result<Shown,
     }
 }
 
+/// Takes the state of a classical context. The texts are those of the system.
+pub fn take_state(
+    system: &System,
+    texts: &Texts,
+    context: u32,
+    lines: &mut Lines<'_>,
+) -> Result<Vars, ReportFault>
+    requires context { context < length system.now.contexts }
+    requires texts { AreTexts system.now texts.now }
+    ensures { Gives (λ s. s) result lines.new (state_at system.now context lines.old) }
+{
+    match next_state(system, texts, system.vars_of(context), None, lines) {
+        Some(state) => {
+            lines.advance();
+            Ok(state)
+        }
+        None => Err(out_of_place(lines)),
+    }
+}
+
 /// Takes the state and the certificate of a classical context.
 #[tactic(auto, unfolding(crate::specs::Answers::classical_at))]
 fn take_classical(
@@ -69,13 +90,10 @@ fn take_classical(
     requires texts { AreTexts system.now texts.now }
     ensures { Gives shown_of_code result lines.new (classical_at system.now context lines.old) }
 {
-    let allowed = system.vars_of(context);
-    let Some(state) = next_state(system, texts, allowed, None, lines) else {
-        return Err(out_of_place(lines));
-    };
-    lines.advance();
+    let state = take_state(system, texts, context, lines)?;
     let atoms = name_texts(alloc, system.atoms_of(context))?;
-    let entails = take_entailments(alloc, &atoms, allowed.count() as usize, lines)?;
+    let count = system.vars_of(context).count() as usize;
+    let entails = take_entailments(alloc, &atoms, count, lines)?;
     Ok(one_output(alloc, state, entails)?)
 }
 
@@ -159,40 +177,28 @@ fn take_shown(
     }
 }
 
-/// Takes an answer, whose question has to come after the last one, by context and then by rule set. The texts are those
-/// of the system.
-#[tactic(auto, unfolding(crate::specs::Answers::answer_at))]
+/// Takes the states and the certificate of the answer to this question, a context of the system and rules. `line` is
+/// the number of its first line. The texts are those of the system.
 pub fn take_answer(
     alloc: Global,
     system: &System,
     texts: &Texts,
-    last: Option<(u32, Active)>,
+    question: (u32, Active),
+    line: u64,
     lines: &mut Lines<'_>,
 ) -> Result<ReportAnswer, ReportFault>
-    requires { AreTexts system.now texts.now }
-    ensures read { Gives answer_in_report result lines.new (answer_at system.now last lines.old) }
-    ensures line { IfOk result (λ a. a.line ≡ lines.old.taken + 1) }
-    ensures shorter { IfOk result (λ a. length lines.new.rest < length lines.old.rest) }
+    requires texts { AreTexts system.now texts.now }
+    requires context { question.0 < length system.now.contexts }
+    ensures { TakesAndKeeps (λ m. IsWholeAnswer) system.now question line result lines.new (shown_of system.now question.0 (slice_get system.now.contexts question.0) lines.old) }
 {
-    let line = lines.number();
-    let Some(question) = next_question(system, texts, last, lines) else {
-        return Err(out_of_place(lines));
-    };
     let context = question.0;
-    lines.advance();
     let kb = &system.contexts()[context as usize].kb;
     let Shown { outputs, cert } = take_shown(alloc, system, texts, context, kb, lines)?;
-    match expect(lines, b"done") {
-        Ok(()) => Ok(ReportAnswer {
-            line,
-            context,
-            active: question.1,
-            outputs,
-            cert,
-        }),
-        Err(fault) => {
-            drop((outputs, cert));
-            Err(fault)
-        }
-    }
+    Ok(ReportAnswer {
+        line,
+        context,
+        active: question.1,
+        outputs,
+        cert,
+    })
 }

@@ -8,7 +8,8 @@ mod question;
 mod report;
 mod texts;
 
-pub use answer::{ReportAnswer, take_answer};
+pub use answer::{ReportAnswer, take_answer, take_state};
 pub use keep::Keep;
+pub use question::take_states;
 pub use report::{KeptReport, Report, read_kept, read_report};
-pub use texts::Texts;
+pub use texts::{Texts, just_counts, name_texts};

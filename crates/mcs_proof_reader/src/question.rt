@@ -126,9 +126,10 @@ pub(crate) fn next_state(
     }
 }
 
-/// Takes states from the next lines, as long as they are in order.
+/// Takes states from the next lines, as long as they are in order: sets of allowed variables. The texts are those of the
+/// system.
 #[tactic(auto, unfolding(crate::specs::Questions::states_at))]
-pub(crate) fn take_states(
+pub fn take_states(
     alloc: Global,
     system: &System,
     texts: &Texts,

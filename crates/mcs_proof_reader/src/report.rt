@@ -1,17 +1,19 @@
 //! A whole report.
 
-ghost use Rattle.std.specs.Prelude.{◌≡◌, ◌≤◌, ℕ, [], None, length, IfOk, MatchResult};
+ghost use Rattle.std.specs.Prelude.{◌≡◌, ◌≤◌, ◌<◌, ℕ, [], None, length, IfOk, MatchResult};
 ghost use Rattle.mcs_spelling.specs.Lines.{complete_lines, incomplete};
 ghost use Rattle.mcs_proof_lines.specs.Walks.{ReturnsReading, Passes};
-ghost use Rattle.mcs_proof_reader.specs.Answers.{answers_at};
-ghost use Rattle.mcs_proof_reader.specs.Keeping.{AreReadAndKept, IsKeptReport, IsReportFault};
+ghost use Rattle.mcs_proof_reader.specs.Answers.{answer_at, answers_at};
+ghost use Rattle.mcs_proof_reader.specs.Keeping.{IsNextKept, AreReadAndKept, IsKeptReport, IsReportFault};
 ghost use Rattle.mcs_proof_reader.specs.Readers.{AreTexts};
 ghost use Rattle.mcs_proof_reader.specs.Whole.{IsReportRead, end_at};
 
-use crate::answer::{ReportAnswer, take_answer};
+use crate::answer::ReportAnswer;
 use crate::keep::{Keep, Whole};
 use crate::listing::{copies_of, take_listing};
+use crate::question::next_question;
 use crate::texts::Texts;
+use mcs_base::Active;
 use mcs_proof_lines::{Lines, ReportFault, expect, is_next, out_of_place};
 use mcs_system::System;
 use std::alloc::Global;
@@ -33,6 +35,38 @@ pub struct KeptReport<'b, T> {
     pub last_line: u64,
 }
 
+/// Takes the next answer, whose question has to come after the last one, by context and then by rule set. Returns the
+/// question, and what `keep` keeps of the answer.
+fn keep_next<K: Keep>(
+    alloc: Global,
+    system: &System,
+    texts: &Texts,
+    keep: &K,
+    last: Option<(u32, Active)>,
+    lines: &mut Lines<'_>,
+) -> Result<((u32, Active), K::Kept), ReportFault>
+    requires { AreTexts system.now texts.now }
+    ensures read { MatchResult result
+        (λ a. IsNextKept K.Keeps system.now last lines.old lines.new a.0 a.1)
+        (λ fault. ReturnsReading fault (answer_at system.now last lines.old)) }
+    ensures shorter { IfOk result (λ a. length lines.new.rest < length lines.old.rest) }
+{
+    let line = lines.number();
+    let Some(question) = next_question(system, texts, last, lines) else {
+        return Err(out_of_place(lines));
+    };
+    let asked = (question.0, question.1);
+    lines.advance();
+    let kept = keep.take(alloc, system, texts, question, line, lines)?;
+    match expect(lines, b"done") {
+        Ok(()) => Ok((asked, kept)),
+        Err(fault) => {
+            drop(kept);
+            Err(fault)
+        }
+    }
+}
+
 /// Takes the next answers, up to the line that ends them, and keeps of each what `keep` returns.
 fn keep_answers<K: Keep>(
     alloc: Global,
@@ -49,10 +83,10 @@ fn keep_answers<K: Keep>(
     let mut kept = Vec::new(alloc);
     let mut last = None;
     while !is_next(lines, b"end of proof") {
-        match take_answer(alloc, system, texts, last, lines) {
-            Ok(answer) => {
-                last = Some((answer.context, answer.active));
-                kept.push(keep.keep(alloc, system, answer)?)?;
+        match keep_next(alloc, system, texts, keep, last, lines) {
+            Ok((question, item)) => {
+                last = Some(question);
+                kept.push(item)?;
             }
             Err(fault) => return Err(fault),
         }
@@ -60,9 +94,9 @@ fn keep_answers<K: Keep>(
     Ok(kept)
 }
 
-/// What is kept of the report on the system that the bytes spell, by the grammar of `read_report`. Each answer is
-/// passed to `keep` as soon as it was read. Before the next one is read, all but what `keep` returns is dropped.
-/// `Grammar` is returned in the same cases as by `read_report`, even if answers before that line were passed to `keep`.
+/// What is kept of the report on the system that the bytes spell, by the grammar of `read_report`. `keep` reads what
+/// each answer shows, one answer after the other, and of each only what it returns is held. `Grammar` is returned in the
+/// same cases as by `read_report`, even if `keep` has read answers before that line.
 pub fn read_kept<'b, K: Keep>(
     alloc: Global,
     system: &System,

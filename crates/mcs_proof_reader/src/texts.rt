@@ -36,7 +36,7 @@ fn variable_texts(alloc: Global, system: &System, reads: &[Read]) -> Result<Vec<
 }
 
 /// The names as texts.
-pub(crate) fn name_texts(alloc: Global, names: &[Name]) -> Result<Vec<Text>, Memory>
+pub fn name_texts(alloc: Global, names: &[Name]) -> Result<Vec<Text>, Memory>
     ensures { IfOk result (λ texts. texts.items ≡ names.now) }
 {
     let mut texts = Vec::new(alloc);
@@ -76,7 +76,7 @@ fn number_texts(alloc: Global) -> Result<Vec<Text>, Memory>
 }
 
 /// How many justifications each default of the theory has.
-pub(crate) fn just_counts(alloc: Global, items: &[TheoryItem]) -> Result<Vec<usize>, Memory>
+pub fn just_counts(alloc: Global, items: &[TheoryItem]) -> Result<Vec<usize>, Memory>
     ensures { IfOk result (λ counts. counts.items ≡ map (λ d. length d.justs) (defaults_of (map item_of items.now))) }
 {
     let mut counts = Vec::new(alloc);
@@ -103,5 +103,12 @@ impl Texts {
             }),
             Err(want) => Err(want),
         }
+    }
+
+    /// The numbers of defaults, from 1, as texts.
+    pub fn numbers(&self) -> &[Text]
+        ensures { result.now ≡ self.now.numbers.items }
+    {
+        &self.numbers
     }
 }

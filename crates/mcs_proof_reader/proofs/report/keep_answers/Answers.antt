@@ -1,15 +1,14 @@
-use Rattle.std.proofs.Common.{◌-◌, length, sym, arith}
-use Rattle.mcs_proof_reader.specs.Readers.{answer_in_report}
-use Rattle.mcs_proof_reader.proofs.AnswerPlaces.{read_in_shape, kept_first, kept_next}
+use Rattle.std.proofs.Common.{◌+◌, ◌-◌, ℕ, Some, length, refl, sym, subst, arith}
+use Rattle.mcs_proof_reader.proofs.AnswerPlaces.{IsKeptSoFar, kept_first, kept_next}
 use Rattle.mcs_proof_reader.proofs.StepLemmas.{answers_end, answers_failed}
 use Rattle.mcs_proof_reader.proofs.report.keep_answers.Goals as goal
 
-pub keep-requires : goal.keep-requires
-keep-requires g c = read_in_shape c.args.system.now c.requires.valid c.requires.named c.loop-alloc.last c.loop-alloc.lines c.take_answer.new.lines (answer_in_report c.in-Ok.answer) c.in-Ok.ensures.read
-
 pub loop-alloc-preserved : goal.loop-alloc-preserved
-loop-alloc-preserved g c = kept_next g.K.Keep.Keeps c.args.system.now c.requires.valid c.requires.named c.args.lines.now c.loop-alloc.lines c.take_answer.new.lines c.loop-alloc.kept.items c.push.new.self.items c.in_ok-keep-in-Ok.field-0 c.loop-alloc.last (answer_in_report c.in-Ok.answer)
-    c.in-Ok.answer.line c.loop-alloc.invariant (sym c.loop-alloc-test.ensures) c.in-Ok.ensures.read c.in-Ok.ensures.shorter c.in_ok-push-in-Ok.ensures.items c.in-Ok.ensures.line c.in_ok-keep-in-Ok.ensures
+loop-alloc-preserved g c =
+    let next = c.in-Ok.ensures.read in
+    subst (λ (q : ℕ × ℕ). IsKeptSoFar g.K.Keep.Keeps c.args.system.now c.args.lines.now c.push.new.self.items (Some q) c.keep_next.new.lines) next.asked
+    (kept_next g.K.Keep.Keeps c.args.system.now c.requires.valid c.requires.named c.args.lines.now c.loop-alloc.lines c.keep_next.new.lines c.loop-alloc.kept.items c.push.new.self.items c.in-Ok.item c.loop-alloc.last next.answer
+    (c.loop-alloc.lines.taken + 1) c.loop-alloc.invariant (sym c.loop-alloc-test.ensures) next.read c.in-Ok.ensures.shorter c.in_ok-push-in-Ok.ensures.items refl next.keeps_it)
 
 pub returns-in-Err : goal.returns-in-Err
 returns-in-Err g c = λ n enough.

@@ -1,0 +1,16 @@
+use Rattle.std.proofs.Common.{◌≡◌, ◌+◌, ◌^◌, map, length}
+use Rattle.mcs_system.specs.Seen.{formula_of}
+use Rattle.mcs_proof_lines.specs.Verdicts.{terms_of}
+use Rattle.mcs_judging.specs.Theories.{theory_of}
+use Rattle.mcs_judging.proofs.VerdictLemmas.{AreSetsJudged}
+use Rattle.mcs_judging.proofs.verdicts.judge_sets.Given as goal
+
+abbrev pub invariant-loop-left : goal.invariant-loop-left
+invariant-loop-left l = record {
+  kept : l.known ≡ l.fn.known;
+  all : l.set + l.left ≡ 2 ^ length l.asked.terms.now.justs.now;
+  judged : AreSetsJudged l.asked.atoms.now (theory_of l.asked) (map (λ f. formula_of f.now) l.asked.beliefs.now) (terms_of l.asked.terms.now) l.fn.lines l.lines l.set l.left l.are_right l.views.items;
+}
+
+abbrev pub decreases-loop-left : goal.decreases-loop-left
+decreases-loop-left l = l.left

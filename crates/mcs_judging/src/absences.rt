@@ -1,0 +1,249 @@
+//! Certificates that defaults do not apply, judged as they are read.
+
+ghost use Rattle.std.specs.Prelude.{◌≡◌, ◌≤◌, ◌<◌, ◌↔◌, List, length, map, IsTrue, IfSome, None, Some};
+ghost use Rattle.std.specs.List.{AllByRecursion, AllZip};
+ghost use Rattle.mcs_system.specs.Plain as plain;
+ghost use Rattle.mcs_system.specs.Seen.{formula_of};
+ghost use Rattle.mcs_cnf.specs.ClauseLists.{clause_list, IsOver};
+ghost use Rattle.mcs_evidence.specs.Defaults.{Unsupported, Blocked, IsEntailmentShown};
+ghost use Rattle.mcs_extensions.specs.Checks.{AreAbsent};
+ghost use Rattle.mcs_proof_lines.specs.Walks.{may_be_named, may_block, is_just, unsupported_of, blocked_of, absence_at, absence_of_place, each_at, line_at, yes_at, no_at};
+ghost use Rattle.mcs_steps.specs.Judging.{Judges};
+ghost use Rattle.mcs_judging.specs.Judging.{Tells};
+ghost use Rattle.mcs_judging.specs.Theories.{theory_of, IsPrepared, IsNumberOf, IsJustOf, TellsAbsence, told_if};
+
+use crate::entailments::{both, judge_no, judge_yes};
+use crate::theory::{Asked, default_numbered};
+use mcs_base::Members;
+use mcs_extensions::negated;
+use mcs_proof_lines::{Lines, ReportFault, number_after, out_of_place};
+use mcs_spelling::{find, read_number, strip};
+use mcs_system::{Formula, Name};
+use mcs_trace::Cnf;
+use std::alloc::Global;
+
+/// Whether the default may be named: only `only` may be, if it is given.
+fn may_be(only: Option<u32>, number: u32) -> bool
+    ensures { result ≡ may_be_named only number }
+{
+    match only {
+        Some(one) => number == one,
+        None => true,
+    }
+}
+
+/// The default that the line names as unsupported.
+#[tactic(auto, unfolding(mcs_proof_lines::specs::Walks::unsupported_of))]
+fn read_unsupported(justs: &[usize], only: Option<u32>, line: &[u8]) -> Option<u32>
+    requires { length justs.now ≤ 10 }
+    ensures value { result ≡ unsupported_of justs.now only line.now }
+    ensures within { IfSome result (IsNumberOf justs.now) }
+{
+    let number = number_after(b"unsupported ", justs.len() as u32, line)?;
+    if may_be(only, number) {
+        Some(number)
+    } else {
+        None
+    }
+}
+
+/// Whether the default has a justification with this number.
+fn is_just(justs: &[usize], number: u64, just: u64) -> bool
+    requires { 0 < number }
+    ensures { result ≡ is_just justs.now number just }
+{
+    match justs.get((number - 1) as usize) {
+        Some(count) => just <= *count as u64 && just < 4_294_967_296,
+        None => false,
+    }
+}
+
+/// The default and its justification, if they may be named.
+fn may_block(justs: &[usize], only: Option<u32>, number: u64, just: u64) -> Option<(u32, u32)>
+    requires few { length justs.now ≤ 10 }
+    requires some { 0 < number }
+    requires some_just { 0 < just }
+    ensures value { result ≡ may_block justs.now only number just }
+    ensures within { IfSome result (IsJustOf justs.now) }
+{
+    if is_just(justs, number, just) && may_be(only, number as u32) {
+        Some((number as u32, just as u32))
+    } else {
+        None
+    }
+}
+
+/// The default that the line names as blocked, with its justification.
+#[tactic(auto, unfolding(mcs_proof_lines::specs::Walks::blocked_of))]
+fn read_blocked(justs: &[usize], only: Option<u32>, line: &[u8]) -> Option<(u32, u32)>
+    requires { length justs.now ≤ 10 }
+    ensures value { result ≡ blocked_of justs.now only line.now }
+    ensures within { IfSome result (IsJustOf justs.now) }
+{
+    let rest = strip(line, b"blocked ")?;
+    let space = find(rest, b' ')?;
+    let number = read_number(&rest[..space])?;
+    let just = read_number(&rest[space + 1..])?;
+    may_block(justs, only, number, just)
+}
+
+/// The default that the next line names as unsupported.
+fn next_unsupported(justs: &[usize], only: Option<u32>, lines: &Lines<'_>) -> Option<u32>
+    requires { length justs.now ≤ 10 }
+    ensures value { result ≡ line_at (unsupported_of justs.now only) lines.now }
+    ensures within { IfSome result (IsNumberOf justs.now) }
+{
+    read_unsupported(justs, only, lines.current()?)
+}
+
+/// The default that the next line names as blocked, with its justification.
+fn next_blocked(justs: &[usize], only: Option<u32>, lines: &Lines<'_>) -> Option<(u32, u32)>
+    requires { length justs.now ≤ 10 }
+    ensures value { result ≡ line_at (blocked_of justs.now only) lines.now }
+    ensures within { IfSome result (IsJustOf justs.now) }
+{
+    read_blocked(justs, only, lines.current()?)
+}
+
+/// The number, if what is said of it is shown.
+fn told_if(shown: bool, number: u32) -> Option<u32>
+    ensures { result ≡ told_if shown number }
+{
+    if shown { Some(number) } else { None }
+}
+
+/// Whether this number is told.
+fn is_told(told: Option<u32>, number: u32) -> bool
+    ensures { IsTrue result ↔ (told ≡ Some number) }
+{
+    match told {
+        Some(other) => other == number,
+        None => false,
+    }
+}
+
+/// Reads a certificate that the prerequisite of the default with this number does not follow. Returns the number, if it
+/// shows that it does not follow from the formulas.
+fn judge_unsupported(
+    asked: &Asked<'_>,
+    premises: &[&Formula],
+    number: u32,
+    lines: &mut Lines<'_>,
+) -> Result<Option<u32>, ReportFault>
+    requires prepared { IsPrepared asked.now }
+    requires number { IsNumberOf asked.now.terms.now.justs.now number }
+    ensures { Tells (λ told e. TellsAbsence asked.now.atoms.now (theory_of asked.now) (map (λ f. formula_of f.now) premises.now) told (Unsupported number e)) result lines.new (no_at asked.now.terms.now.atoms.now lines.old) }
+{
+    let default = default_numbered(asked, number);
+    let mut model = None;
+    let denied = judge_no(
+        asked.atoms,
+        asked.terms.atoms,
+        premises,
+        &default.pre,
+        &mut model,
+        lines,
+    )?;
+    Ok(told_if(denied, number))
+}
+
+/// Reads a certificate that the negation of the formula follows, and returns whether it shows that it follows from the
+/// formulas whose clauses are `known`.
+fn judge_negation(
+    alloc: Global,
+    known: &mut Cnf,
+    formula: &Formula,
+    atoms: &[Name],
+    lines: &mut Lines<'_>,
+) -> Result<bool, ReportFault>
+    requires over { IsOver atoms.now (formula_of formula.now) }
+    requires room { length atoms.now ≤ known.old.vars }
+    ensures kept { known.new ≡ known.old }
+    ensures exact { (fs : List plain.Formula) → known.old ≡ clause_list atoms.now fs
+        → Judges (IsEntailmentShown atoms.now fs (plain.Not (formula_of formula.now))) result lines.new (yes_at lines.old) }
+{
+    let goal = negated(alloc, formula)?;
+    let shown = judge_yes(alloc, known, &goal, atoms, lines);
+    drop(goal);
+    shown
+}
+
+/// Reads a certificate that the negation of a justification of the default with this number follows. Returns the number
+/// of the default, if it shows that it follows from the formulas whose clauses are `known`.
+fn judge_blocked(
+    alloc: Global,
+    known: &mut Cnf,
+    asked: &Asked<'_>,
+    number: u32,
+    just: u32,
+    lines: &mut Lines<'_>,
+) -> Result<Option<u32>, ReportFault>
+    requires prepared { IsPrepared asked.now }
+    requires within { IsJustOf asked.now.terms.now.justs.now (number, just) }
+    requires room { length asked.now.atoms.now ≤ known.old.vars }
+    ensures kept { known.new ≡ known.old }
+    ensures exact { (fs : List plain.Formula) → known.old ≡ clause_list asked.now.atoms.now fs
+        → Tells (λ told e. TellsAbsence asked.now.atoms.now (theory_of asked.now) fs told (Blocked number just e)) result lines.new (yes_at lines.old) }
+{
+    let default = default_numbered(asked, number);
+    let formula = &default.justs[(just - 1) as usize];
+    let shown = judge_negation(alloc, known, formula, asked.atoms, lines)?;
+    Ok(told_if(shown, number))
+}
+
+/// Reads a certificate that a default is unsupported or blocked, as `take_absence` does; if `only` is given, that this
+/// one is. Returns the number of the default, if it shows that the default does not apply to the formulas, whose
+/// clauses are `known`.
+#[tactic(auto, unfolding(mcs_proof_lines::specs::Walks::absence_at))]
+pub(crate) fn judge_absence(
+    alloc: Global,
+    known: &mut Cnf,
+    asked: &Asked<'_>,
+    premises: &[&Formula],
+    only: Option<u32>,
+    lines: &mut Lines<'_>,
+) -> Result<Option<u32>, ReportFault>
+    requires prepared { IsPrepared asked.now }
+    requires made { known.old ≡ clause_list asked.now.atoms.now (map (λ f. formula_of f.now) premises.now) }
+    ensures kept { known.new ≡ known.old }
+    ensures exact { Tells (TellsAbsence asked.now.atoms.now (theory_of asked.now) (map (λ f. formula_of f.now) premises.now)) result lines.new
+        (absence_at asked.now.terms.now.atoms.now asked.now.terms.now.justs.now only lines.old) }
+{
+    if let Some(number) = next_unsupported(asked.terms.justs, only, lines) {
+        lines.advance();
+        return judge_unsupported(asked, premises, number, lines);
+    }
+    let Some((number, just)) = next_blocked(asked.terms.justs, only, lines) else {
+        return Err(out_of_place(lines));
+    };
+    lines.advance();
+    judge_blocked(alloc, known, asked, number, just, lines)
+}
+
+/// Reads, for each default at these places, a certificate that it is unsupported or blocked, as `take_absences` does.
+/// Returns whether they show that none of these defaults applies to the formulas, whose clauses are `known`.
+pub(crate) fn judge_absences(
+    alloc: Global,
+    known: &mut Cnf,
+    asked: &Asked<'_>,
+    premises: &[&Formula],
+    places: Members,
+    lines: &mut Lines<'_>,
+) -> Result<bool, ReportFault>
+    requires prepared { IsPrepared asked.now }
+    requires made { known.old ≡ clause_list asked.now.atoms.now (map (λ f. formula_of f.now) premises.now) }
+    requires places { AllByRecursion (λ k. k < 64) places }
+    ensures kept { known.new ≡ known.old }
+    ensures exact { Judges (AreAbsent asked.now.atoms.now (theory_of asked.now) (map (λ f. formula_of f.now) premises.now) places) result lines.new
+        (each_at (absence_of_place asked.now.terms.now.atoms.now asked.now.terms.now.justs.now) places lines.old) }
+{
+    let mut are_right = true;
+    for place in places {
+        let number = place + 1;
+        match judge_absence(alloc, known, asked, premises, Some(number), lines) {
+            Ok(told) => are_right = both(are_right, is_told(told, number)),
+            Err(fault) => return Err(fault),
+        }
+    }
+    Ok(are_right)
+}

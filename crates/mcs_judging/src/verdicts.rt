@@ -1,0 +1,449 @@
+//! Certificates of default theories: the verdicts on sets of defaults, judged one at a time as they are read.
+
+ghost use Rattle.std.specs.Prelude.{◌≡◌, ◌≤◌, ◌<◌, ◌^◌, ◌++◌, ◌∷◌, ◌↔◌, [], ℕ, List, length, map, codes, IsTrue, IfOk, IfSome, OnOk};
+ghost use Rattle.mcs_sets.specs.Sets.{Within};
+ghost use Rattle.mcs_system.specs.Plain.{Fact};
+ghost use Rattle.mcs_system.specs.Seen.{default_of, formula_of, item_of};
+ghost use Rattle.mcs_cnf.specs.ClauseLists.{clause_list, AreOver};
+ghost use Rattle.mcs_evidence.specs.Defaults.{AreOverItems, AreDenied, IsAcceptedDefault, defaults_of, facts_of, generated, negated_justs};
+ghost use Rattle.mcs_extensions.specs.Checks.{IsNumberIn};
+ghost use Rattle.mcs_proof_lines.specs.Walks.{line_at, many_at, no_at, number_after};
+ghost use Rattle.mcs_proof_lines.specs.Verdicts.{terms_of, defaults_of_line, extension_at, applied_at, ungrounded_at, or_absence, verdict_at, names_set, set_at, verdicts_at};
+ghost use Rattle.mcs_steps.specs.Judging.{Judges};
+ghost use Rattle.mcs_judging.specs.Judging.{Tells, AreViewsOf};
+ghost use Rattle.mcs_judging.specs.Theories.{theory_of, IsPrepared, IsNumberOf, numbers_in, AreNumbers, complete_at, TellsCompletion, shown_if, TellsVerdict, IsNoted};
+ghost use Rattle.mcs_system.specs.Plain as plain;
+
+use crate::absences::{judge_absence, judge_absences};
+use crate::entailments::{judge_all_no, judge_places, judge_yes};
+use crate::order::{judge_grounded, next_order};
+use crate::theory::{Asked, default_numbered, generated, push_added};
+use mcs_base::{Memory, Vars, list_states};
+use mcs_entailment::{clauses_of, lend};
+use mcs_evidence::defaults_of;
+use mcs_extensions::{
+    Judged, chosen, facts_with, is_member, judged_as, judged_by, negations, prerequisites,
+};
+use mcs_proof_lines::{Lines, ReportFault, Theory, number_after, out_of_place};
+use mcs_spelling::{read_set, strip};
+use mcs_system::{Default, Formula, Name, TheoryItem};
+use mcs_trace::Cnf;
+use std::alloc::Global;
+
+/// Reads a certificate for each of the goals, and returns whether they show that none of them follows from the
+/// formulas.
+fn judge_denials(
+    alloc: Global,
+    asked: &Asked<'_>,
+    premises: &[&Formula],
+    goals: &[Formula],
+    lines: &mut Lines<'_>,
+) -> Result<bool, ReportFault>
+    requires { IsPrepared asked.now }
+    ensures { Judges (AreDenied asked.now.atoms.now (map (λ f. formula_of f.now) premises.now) (map formula_of goals.now)) result lines.new
+        (many_at (no_at asked.now.terms.now.atoms.now) (length goals.now) lines.old) }
+{
+    let lent = lend(alloc, goals)?;
+    judge_all_no(asked.atoms, asked.terms.atoms, premises, &lent, lines)
+}
+
+/// Reads a certificate for each justification of the defaults, in order, and returns whether they show that the
+/// negation of none of them follows from the formulas.
+fn judge_justs(
+    alloc: Global,
+    asked: &Asked<'_>,
+    premises: &[&Formula],
+    defaults: &[&Default],
+    lines: &mut Lines<'_>,
+) -> Result<bool, ReportFault>
+    requires { IsPrepared asked.now }
+    ensures { Judges (AreDenied asked.now.atoms.now (map (λ f. formula_of f.now) premises.now) (negated_justs (map (λ d. default_of d.now) defaults.now))) result lines.new
+        (many_at (no_at asked.now.terms.now.atoms.now) (length (negated_justs (map (λ d. default_of d.now) defaults.now))) lines.old) }
+{
+    let goals = negations(alloc, defaults)?;
+    let denied = judge_denials(alloc, asked, premises, &goals, lines);
+    drop(goals);
+    denied
+}
+
+/// The view, if the rest is shown too.
+fn shown_if(is_shown: bool, view: Option<Vars>) -> Option<Vars>
+    ensures { result ≡ shown_if is_shown view }
+{
+    if is_shown { view } else { None }
+}
+
+/// Reads what is to be shown of a set that generates an extension after the order of its defaults. Returns the view of
+/// the extension, if all is shown. `premises` are what the set generates, and `known` has their clauses.
+#[tactic(auto, unfolding(crate::specs::Theories::complete_at))]
+fn judge_completion(
+    alloc: Global,
+    known: &mut Cnf,
+    asked: &Asked<'_>,
+    premises: &[&Formula],
+    set: Vars,
+    lines: &mut Lines<'_>,
+) -> Result<Option<Vars>, ReportFault>
+    requires prepared { IsPrepared asked.now }
+    requires inside { set < 2 ^ length asked.now.terms.now.justs.now }
+    requires made { known.old ≡ clause_list asked.now.atoms.now (map (λ f. formula_of f.now) premises.now) }
+    ensures kept { known.new ≡ known.old }
+    ensures exact { Tells (TellsCompletion asked.now.atoms.now (theory_of asked.now) (map (λ f. formula_of f.now) premises.now) (map (λ f. formula_of f.now) asked.now.beliefs.now) set)
+        result lines.new (complete_at (terms_of asked.now.terms.now) set lines.old) }
+{
+    let inside = chosen(alloc, asked.defaults, set)?;
+    let allowed = judge_justs(alloc, asked, premises, &inside, lines)?;
+    let others = asked.terms.places().minus(set).members();
+    let absent = judge_absences(alloc, known, asked, premises, others, lines)?;
+    let view = judge_places(
+        alloc,
+        known,
+        premises,
+        asked.beliefs,
+        asked.atoms,
+        asked.terms.atoms,
+        lines,
+    )?;
+    Ok(shown_if(allowed, shown_if(absent, view)))
+}
+
+/// Judges the rest of a verdict that the set generates an extension, with its defaults in the order of the numbers that
+/// the bytes spell. `known` has the clauses of the facts.
+#[tactic(auto, unfolding(mcs_proof_lines::specs::Verdicts::extension_at))]
+fn judge_extension(
+    alloc: Global,
+    known: &mut Cnf,
+    asked: &Asked<'_>,
+    set: Vars,
+    numbers: &[u8],
+    lines: &mut Lines<'_>,
+) -> Result<Judged, ReportFault>
+    requires prepared { IsPrepared asked.now }
+    requires inside { set < 2 ^ length asked.now.terms.now.justs.now }
+    requires numbers { AreNumbers numbers.now }
+    requires made { known.old ≡ clause_list asked.now.atoms.now (facts_of (theory_of asked.now)) }
+    ensures kept { OnOk result (known.new ≡ known.old) }
+    ensures exact { Tells (TellsVerdict asked.now.atoms.now (theory_of asked.now) (map (λ f. formula_of f.now) asked.now.beliefs.now) set)
+        result lines.new (extension_at (terms_of asked.now.terms.now) set (numbers_in numbers.now) lines.old) }
+{
+    let grounded = judge_grounded(alloc, known, asked, set, numbers, lines)?;
+    let premises = generated(alloc, asked, set)?;
+    let vars = known.vars();
+    let count = known.clauses().len();
+    push_added(alloc, known, asked, set)?;
+    let view = judge_completion(alloc, known, asked, &premises, set, lines)?;
+    known.cut(vars, count);
+    Ok(judged_as(shown_if(grounded, view)))
+}
+
+/// Whether a default that is outside the set applies: its prerequisite is shown, and its justifications are allowed.
+fn applies(inside: bool, shown: bool, allowed: bool) -> bool
+    ensures { IsTrue result ↔ ((¬ IsTrue inside) × IsTrue shown × IsTrue allowed) }
+{
+    !inside && shown && allowed
+}
+
+/// Reads what is to be shown of a default that is outside the set and applies. `premises` are what the set generates,
+/// and `known` has their clauses.
+#[tactic(auto, unfolding(mcs_proof_lines::specs::Verdicts::applied_at))]
+fn judge_applying(
+    alloc: Global,
+    known: &mut Cnf,
+    asked: &Asked<'_>,
+    premises: &[&Formula],
+    set: Vars,
+    number: u32,
+    lines: &mut Lines<'_>,
+) -> Result<Judged, ReportFault>
+    requires prepared { IsPrepared asked.now }
+    requires number { IsNumberOf asked.now.terms.now.justs.now number }
+    requires premises { map (λ f. formula_of f.now) premises.now ≡ generated (theory_of asked.now) set }
+    requires made { known.old ≡ clause_list asked.now.atoms.now (generated (theory_of asked.now) set) }
+    ensures kept { known.new ≡ known.old }
+    ensures exact { Tells (TellsVerdict asked.now.atoms.now (theory_of asked.now) (map (λ f. formula_of f.now) asked.now.beliefs.now) set)
+        result lines.new (applied_at (terms_of asked.now.terms.now) number lines.old) }
+{
+    let default = default_numbered(asked, number);
+    let shown = judge_yes(alloc, known, &default.pre, asked.atoms, lines)?;
+    let allowed = judge_justs(alloc, asked, premises, &[default], lines)?;
+    Ok(judged_by(applies(is_member(set, number), shown, allowed)))
+}
+
+/// Judges the rest of a verdict that the default with this number is outside the set and applies. `known` has the
+/// clauses of the facts.
+fn judge_applied(
+    alloc: Global,
+    known: &mut Cnf,
+    asked: &Asked<'_>,
+    set: Vars,
+    number: u32,
+    lines: &mut Lines<'_>,
+) -> Result<Judged, ReportFault>
+    requires prepared { IsPrepared asked.now }
+    requires number { IsNumberOf asked.now.terms.now.justs.now number }
+    requires made { known.old ≡ clause_list asked.now.atoms.now (facts_of (theory_of asked.now)) }
+    ensures kept { OnOk result (known.new ≡ known.old) }
+    ensures exact { Tells (TellsVerdict asked.now.atoms.now (theory_of asked.now) (map (λ f. formula_of f.now) asked.now.beliefs.now) set)
+        result lines.new (applied_at (terms_of asked.now.terms.now) number lines.old) }
+{
+    let premises = generated(alloc, asked, set)?;
+    let vars = known.vars();
+    let count = known.clauses().len();
+    push_added(alloc, known, asked, set)?;
+    let judged = judge_applying(alloc, known, asked, &premises, set, number, lines)?;
+    known.cut(vars, count);
+    Ok(judged)
+}
+
+/// Whether the default that is told is one of the set.
+fn is_inside(set: Vars, told: Option<u32>) -> bool
+    ensures { IsTrue result ↔ ((n : ℕ) × (told ≡ Some n) × IsNumberIn set n) }
+{
+    match told {
+        Some(number) => is_member(set, number),
+        None => false,
+    }
+}
+
+/// Judges a verdict that a default of the set does not apply. `known` has the clauses of the facts.
+fn judge_fails(
+    alloc: Global,
+    known: &mut Cnf,
+    asked: &Asked<'_>,
+    set: Vars,
+    lines: &mut Lines<'_>,
+) -> Result<Judged, ReportFault>
+    requires prepared { IsPrepared asked.now }
+    requires made { known.old ≡ clause_list asked.now.atoms.now (facts_of (theory_of asked.now)) }
+    ensures kept { OnOk result (known.new ≡ known.old) }
+    ensures exact { Tells (TellsVerdict asked.now.atoms.now (theory_of asked.now) (map (λ f. formula_of f.now) asked.now.beliefs.now) set)
+        result lines.new (or_absence (terms_of asked.now.terms.now) lines.old) }
+{
+    let premises = generated(alloc, asked, set)?;
+    let vars = known.vars();
+    let count = known.clauses().len();
+    push_added(alloc, known, asked, set)?;
+    let told = judge_absence(alloc, known, asked, &premises, None, lines)?;
+    known.cut(vars, count);
+    Ok(judged_by(is_inside(set, told)))
+}
+
+/// Whether the part is a proper one of the set, and none of the others is supported.
+fn is_stuck(part: Vars, set: Vars, none_supported: bool) -> bool
+    ensures { IsTrue result ↔ (Within part set × (¬ (part ≡ set)) × IsTrue none_supported) }
+{
+    part.within(set) && part != set && none_supported
+}
+
+/// Judges the rest of a verdict that the defaults of a part support none of the other defaults of the set.
+#[tactic(auto, unfolding(mcs_proof_lines::specs::Verdicts::ungrounded_at))]
+fn judge_ungrounded(
+    alloc: Global,
+    asked: &Asked<'_>,
+    set: Vars,
+    part: Vars,
+    lines: &mut Lines<'_>,
+) -> Result<Judged, ReportFault>
+    requires prepared { IsPrepared asked.now }
+    requires inside { set < 2 ^ length asked.now.terms.now.justs.now }
+    ensures { Tells (TellsVerdict asked.now.atoms.now (theory_of asked.now) (map (λ f. formula_of f.now) asked.now.beliefs.now) set)
+        result lines.new (ungrounded_at (terms_of asked.now.terms.now) set part lines.old) }
+{
+    let premises = generated(alloc, asked, part)?;
+    let others = chosen(alloc, asked.defaults, set.minus(part))?;
+    let goals = prerequisites(alloc, &others)?;
+    let denied = judge_all_no(asked.atoms, asked.terms.atoms, &premises, &goals, lines)?;
+    Ok(judged_by(is_stuck(part, set, denied)))
+}
+
+/// The set of defaults after the word in the line.
+#[tactic(auto, unfolding(mcs_proof_lines::specs::Verdicts::defaults_of_line))]
+fn read_defaults(word: &[u8], theory: &Theory<'_>, line: &[u8]) -> Option<Vars>
+    requires defaults { length theory.now.justs.now ≤ 10 }
+    requires numbers { length theory.now.numbers.now ≤ 64 }
+    ensures { result ≡ defaults_of_line word.now (terms_of theory.now) line.now }
+{
+    let set = read_set(theory.numbers, theory.places(), strip(line, word)?)?;
+    if set.number() < 4_294_967_296 {
+        Some(set)
+    } else {
+        None
+    }
+}
+
+/// The set of defaults after the word in the next line.
+fn next_defaults(word: &[u8], asked: &Asked<'_>, lines: &Lines<'_>) -> Option<Vars>
+    requires { IsPrepared asked.now }
+    ensures { result ≡ line_at (defaults_of_line word.now (terms_of asked.now.terms.now)) lines.now }
+{
+    read_defaults(word, asked.terms, lines.current()?)
+}
+
+/// The default that the next line names as one that applies.
+fn next_applied(asked: &Asked<'_>, lines: &Lines<'_>) -> Option<u32>
+    requires { IsPrepared asked.now }
+    ensures value { result ≡ line_at (number_after (codes "applied ") (length asked.now.terms.now.justs.now)) lines.now }
+    ensures within { IfSome result (IsNumberOf asked.now.terms.now.justs.now) }
+{
+    number_after(
+        b"applied ",
+        asked.terms.justs.len() as u32,
+        lines.current()?,
+    )
+}
+
+/// Judges the verdict on the set. `known` has the clauses of the facts.
+#[tactic(auto, unfolding(mcs_proof_lines::specs::Verdicts::verdict_at))]
+fn judge_verdict(
+    alloc: Global,
+    known: &mut Cnf,
+    asked: &Asked<'_>,
+    set: Vars,
+    lines: &mut Lines<'_>,
+) -> Result<Judged, ReportFault>
+    requires prepared { IsPrepared asked.now }
+    requires inside { set < 2 ^ length asked.now.terms.now.justs.now }
+    requires made { known.old ≡ clause_list asked.now.atoms.now (facts_of (theory_of asked.now)) }
+    ensures kept { OnOk result (known.new ≡ known.old) }
+    ensures exact { Tells (TellsVerdict asked.now.atoms.now (theory_of asked.now) (map (λ f. formula_of f.now) asked.now.beliefs.now) set)
+        result lines.new (verdict_at (terms_of asked.now.terms.now) set lines.old) }
+{
+    if let Some(number) = next_applied(asked, lines) {
+        lines.advance();
+        return judge_applied(alloc, known, asked, set, number, lines);
+    }
+    if let Some(part) = next_defaults(b"ungrounded ", asked, lines) {
+        lines.advance();
+        return judge_ungrounded(alloc, asked, set, part, lines);
+    }
+    if let Some(numbers) = next_order(asked, lines) {
+        lines.advance();
+        return judge_extension(alloc, known, asked, set, numbers, lines);
+    }
+    judge_fails(alloc, known, asked, set, lines)
+}
+
+/// Whether the next line names the set.
+fn names_set(asked: &Asked<'_>, set: Vars, lines: &Lines<'_>) -> bool
+    requires { IsPrepared asked.now }
+    ensures { result ≡ names_set (terms_of asked.now.terms.now) set lines.now }
+{
+    match next_defaults(b"set ", asked, lines) {
+        Some(named) => set == named,
+        None => false,
+    }
+}
+
+/// Reads the line of the set, and judges the verdict on it. `known` has the clauses of the facts.
+#[tactic(auto, unfolding(mcs_proof_lines::specs::Verdicts::set_at))]
+fn judge_set(
+    alloc: Global,
+    known: &mut Cnf,
+    asked: &Asked<'_>,
+    set: Vars,
+    lines: &mut Lines<'_>,
+) -> Result<Judged, ReportFault>
+    requires prepared { IsPrepared asked.now }
+    requires inside { set < 2 ^ length asked.now.terms.now.justs.now }
+    requires made { known.old ≡ clause_list asked.now.atoms.now (facts_of (theory_of asked.now)) }
+    ensures kept { OnOk result (known.new ≡ known.old) }
+    ensures exact { Tells (TellsVerdict asked.now.atoms.now (theory_of asked.now) (map (λ f. formula_of f.now) asked.now.beliefs.now) set)
+        result lines.new (set_at (terms_of asked.now.terms.now) set lines.old) }
+{
+    if !names_set(asked, set, lines) {
+        return Err(out_of_place(lines));
+    }
+    lines.advance();
+    judge_verdict(alloc, known, asked, set, lines)
+}
+
+/// Appends the view that a verdict shows, if it shows one. Returns whether all verdicts are accepted, this one and
+/// those before it.
+fn note(judged: Judged, are_right: bool, views: &mut Vec<Vars>) -> Result<bool, Memory>
+    ensures { IfOk result (λ yes. IsNoted judged are_right views.old.items yes views.new.items) }
+{
+    match judged {
+        Judged::Refused => Ok(false),
+        Judged::Passed => Ok(are_right),
+        Judged::Shows(view) => {
+            views.push(view)?;
+            Ok(are_right)
+        }
+    }
+}
+
+/// Reads the verdicts on all sets of defaults. Returns the views that they show, if each verdict is accepted. `known`
+/// has the clauses of the facts.
+#[tactic(auto, unfolding(mcs_proof_lines::specs::Verdicts::verdicts_at))]
+fn judge_sets(
+    alloc: Global,
+    known: &mut Cnf,
+    asked: &Asked<'_>,
+    lines: &mut Lines<'_>,
+) -> Result<Option<Vec<Vars>>, ReportFault>
+    requires prepared { IsPrepared asked.now }
+    requires made { known.old ≡ clause_list asked.now.atoms.now (facts_of (theory_of asked.now)) }
+    ensures { Tells (AreViewsOf (IsAcceptedDefault asked.now.atoms.now (theory_of asked.now) (map (λ f. formula_of f.now) asked.now.beliefs.now)))
+        result lines.new (verdicts_at (terms_of asked.now.terms.now) lines.old) }
+{
+    let mut views = Vec::new(alloc);
+    let mut are_right = true;
+    let mut left = asked.terms.places().number() + 1;
+    let mut set: u64 = 0;
+    while left > 0 {
+        match judge_set(alloc, known, asked, Vars::numbered(set), lines) {
+            Ok(judged) => are_right = note(judged, are_right, &mut views)?,
+            Err(fault) => return Err(fault),
+        }
+        set += 1;
+        left -= 1;
+    }
+    if !are_right {
+        return Ok(None);
+    }
+    list_states(&mut views);
+    Ok(Some(views))
+}
+
+/// Reads the certificate of a default theory, as `take_verdicts` does, and returns the views that it shows for the
+/// theory with the heads as facts, if it is accepted. `theory` says what the lines may name: the names of the atoms, the
+/// numbers of the defaults, of each default how many justifications it has, and how many beliefs there are.
+///
+/// The verdicts are judged one at a time as they are read, and each of their lines at once. What is not accepted is read
+/// to its end all the same.
+pub fn judge_verdicts(
+    alloc: Global,
+    items: &[TheoryItem],
+    heads: &[&Formula],
+    beliefs: &[&Formula],
+    atoms: &[Name],
+    theory: &Theory<'_>,
+    lines: &mut Lines<'_>,
+) -> Result<Option<Vec<Vars>>, ReportFault>
+    requires few { length atoms.now ≤ 64 }
+    requires few_texts { length theory.now.atoms.now ≤ 64 }
+    requires few_numbers { length theory.now.numbers.now ≤ 64 }
+    requires few_beliefs { length beliefs.now ≤ 64 }
+    requires few_defaults { length (defaults_of (map item_of items.now)) ≤ 10 }
+    requires justs { theory.now.justs.now ≡ map (λ (d : plain.Default). length d.justs) (defaults_of (map item_of items.now)) }
+    requires told_beliefs { theory.now.beliefs ≡ length beliefs.now }
+    requires items { AreOverItems atoms.now (map item_of items.now) }
+    requires heads { AreOver atoms.now (map (λ f. formula_of f.now) heads.now) }
+    requires beliefs { AreOver atoms.now (map (λ f. formula_of f.now) beliefs.now) }
+    ensures { Tells (AreViewsOf (IsAcceptedDefault atoms.now (map item_of items.now ++ map Fact (map (λ f. formula_of f.now) heads.now)) (map (λ f. formula_of f.now) beliefs.now))) result lines.new
+        (verdicts_at (terms_of theory.now) lines.old) }
+{
+    let defaults = defaults_of(alloc, items)?;
+    let facts = facts_with(alloc, items, heads)?;
+    let mut known = clauses_of(alloc, &facts, atoms)?;
+    drop(facts);
+    let asked = Asked {
+        items,
+        heads,
+        defaults: &defaults,
+        beliefs,
+        atoms,
+        terms: theory,
+    };
+    judge_sets(alloc, &mut known, &asked, lines)
+}

@@ -1,0 +1,4 @@
+pub mod WordLemmas
+pub mod StepLemmas
+pub mod ChainLemmas
+pub mod TraceLemmas
