@@ -1,6 +1,6 @@
 //! Texts that are cut at each byte.
 
-use crate::runs::{End, SOUND, ends};
+use crate::runs::{SOUND, ends};
 use mcs_base::Memory;
 use std::alloc::Global;
 use std::sync::Wait;
@@ -16,105 +16,94 @@ bridge r2: c2:q if not c1:b.
 /// The length of the text.
 const LENGTH: usize = 115;
 
-/// From which length up to which, and what is listed of the text that is cut to such a length: before the first context,
-/// after one, after the other, or after a rule.
-const LISTED: [(usize, usize, &str); 5] = [
+/// What is told of a text that is cut.
+#[derive(Clone, Copy)]
+enum Outcome {
+    /// What is listed: of a text that is cut before the first context, after one, after the other, or after a rule.
+    Listed(&'static str),
+    /// The number of a fault, and its offset.
+    Fault(u8, usize),
+}
+
+/// From which length up to which the text is cut, and what is told of it, where that is not that its end is a fault. A
+/// fault before the end is of the name that is left of a word, where no name may stand; of the `:` that is left of a `:-`;
+/// and of the name of a context that is cut, or of what is left of a `not`, where no context has the name.
+const CUTS: [(usize, usize, Outcome); 20] = [
     (
         0,
         0,
-        "mcs 1: 0 contexts, 0 rules, 0 variables\nequilibrium 1: {} applicable {}\nconsistent\nend: 1 equilibria, need 0\n",
+        Outcome::Listed(
+            "mcs 1: 0 contexts, 0 rules, 0 variables\nequilibrium 1: {} applicable {}\nconsistent\nend: 1 equilibria, need 0\n",
+        ),
     ),
+    (1, 6, Outcome::Fault(1, 0)),
+    (12, 17, Outcome::Fault(1, 11)),
     (
         25,
         26,
-        "mcs 1: 1 contexts, 0 rules, 0 variables\nequilibrium 1: {} applicable {}\nconsistent\nend: 1 equilibria, need 1\n",
+        Outcome::Listed(
+            "mcs 1: 1 contexts, 0 rules, 0 variables\nequilibrium 1: {} applicable {}\nconsistent\nend: 1 equilibria, need 1\n",
+        ),
     ),
+    (27, 32, Outcome::Fault(1, 26)),
+    (38, 43, Outcome::Fault(1, 37)),
+    (48, 48, Outcome::Fault(1, 47)),
+    (54, 54, Outcome::Fault(1, 53)),
     (
         60,
         61,
-        "mcs 1: 2 contexts, 0 rules, 0 variables\nequilibrium 1: {} applicable {}\nconsistent\nend: 1 equilibria, need 2\n",
+        Outcome::Listed(
+            "mcs 1: 2 contexts, 0 rules, 0 variables\nequilibrium 1: {} applicable {}\nconsistent\nend: 1 equilibria, need 2\n",
+        ),
     ),
+    (62, 66, Outcome::Fault(1, 61)),
+    (73, 73, Outcome::Fault(2, 72)),
+    (78, 78, Outcome::Fault(1, 77)),
+    (81, 81, Outcome::Fault(2, 80)),
     (
         85,
         86,
-        "mcs 1: 2 contexts, 1 rules, 1 variables\ninconsistent\nend: 0 equilibria, need 2\n",
+        Outcome::Listed(
+            "mcs 1: 2 contexts, 1 rules, 1 variables\ninconsistent\nend: 0 equilibria, need 2\n",
+        ),
     ),
+    (87, 91, Outcome::Fault(1, 86)),
+    (98, 98, Outcome::Fault(2, 97)),
+    (103, 103, Outcome::Fault(1, 102)),
+    (106, 107, Outcome::Fault(2, 105)),
+    (110, 110, Outcome::Fault(2, 109)),
     (
         114,
         115,
-        "mcs 1: 2 contexts, 2 rules, 2 variables\ninconsistent\nend: 0 equilibria, need 2\n",
+        Outcome::Listed(
+            "mcs 1: 2 contexts, 2 rules, 2 variables\ninconsistent\nend: 0 equilibria, need 2\n",
+        ),
     ),
 ];
 
-/// From which length up to which, the number of a fault before the end, and its offset: of the name that is left of a
-/// word, where no name may stand; of the `:` that is left of a `:-`; and of the name of a context that is cut, or of what
-/// is left of a `not`, where no context has the name.
-const FAULTS: [(usize, usize, u8, usize); 15] = [
-    (1, 6, 1, 0),
-    (12, 17, 1, 11),
-    (27, 32, 1, 26),
-    (38, 43, 1, 37),
-    (48, 48, 1, 47),
-    (54, 54, 1, 53),
-    (62, 66, 1, 61),
-    (73, 73, 2, 72),
-    (78, 78, 1, 77),
-    (81, 81, 2, 80),
-    (87, 91, 1, 86),
-    (98, 98, 2, 97),
-    (103, 103, 1, 102),
-    (106, 107, 2, 105),
-    (110, 110, 2, 109),
-];
-
-/// What is listed of the text that is cut to this length.
-fn listed(length: usize) -> Option<&'static str> {
-    for (first, last, listing) in &LISTED {
+/// What is told of the text that is cut to this length.
+fn told(length: usize) -> Outcome {
+    for (first, last, outcome) in &CUTS {
         if *first <= length && length <= *last {
-            return Some(listing);
+            return *outcome;
         }
     }
-    None
+    Outcome::Fault(1, length)
 }
 
-/// The fault of the text that is cut to this length, where it is not listed. Where none stands before, the end of the
-/// text is one.
-fn fault(length: usize) -> (u8, usize) {
-    for (first, last, number, offset) in &FAULTS {
-        if *first <= length && length <= *last {
-            return (*number, *offset);
-        }
-    }
-    (1, length)
-}
-
-/// Whether the equilibria of the text that is cut to this length end so.
-fn is_so<R: Threads + Wait + Sync>(
-    rt: &R,
-    alloc: Global,
-    length: usize,
-    end: End<'_>,
-) -> Result<bool, Memory> {
-    let front = TEXT.as_bytes().get(..length).unwrap_or(b"");
-    ends(rt, alloc, "equilibria f", &[("f", front)], SOUND, end)
-}
-
-/// Whether they are refused so.
-fn is_refused<R: Threads + Wait + Sync>(
-    rt: &R,
-    alloc: Global,
-    length: usize,
-) -> Result<bool, Memory> {
-    let (number, offset) = fault(length);
-    let noted: String = format!(in alloc; "mcs: refused: F{number} at {offset}\n")?;
-    is_so(rt, alloc, length, (3, b"", noted.as_str()))
-}
-
-/// Whether they end as told.
+/// Whether the equilibria of the text that is cut to this length end as told.
 fn is_told<R: Threads + Wait + Sync>(rt: &R, alloc: Global, length: usize) -> Result<bool, Memory> {
-    match listed(length) {
-        Some(listing) => is_so(rt, alloc, length, (0, listing.as_bytes(), "")),
-        None => is_refused(rt, alloc, length),
+    let front = TEXT.as_bytes().get(..length).unwrap_or(b"");
+    let (job, files) = ("equilibria f", [("f", front)]);
+    match told(length) {
+        Outcome::Listed(listing) => {
+            let end = (0, listing.as_bytes(), "");
+            ends(rt, alloc, job, &files, SOUND, end)
+        }
+        Outcome::Fault(number, offset) => {
+            let noted: String = format!(in alloc; "mcs: refused: F{number} at {offset}\n")?;
+            ends(rt, alloc, job, &files, SOUND, (3, b"", noted.as_str()))
+        }
     }
 }
 

@@ -1,7 +1,7 @@
 //! Devices that fail.
 
 use crate::reports::{CONTRADICTION, TOLD, TOLD_REPORT};
-use crate::runs::{Devices, End, SOUND, ends, lines};
+use crate::runs::{Devices, End, ends, ends_over, lines};
 use crate::wards::{WARDS, WARDS_LISTING};
 use mcs_base::Memory;
 use std::alloc::Global;
@@ -33,255 +33,235 @@ const MADE: &str =
 
 const USAGE: &str = "mcs: usage: mcs JOB FILE [REPORT] [--budget N] [--workers N] [--proof]\n";
 
-/// How a run ends whose shelf fails.
-const READ_FAULT: End<'static> = (5, b"", "mcs: read fault\n");
-
-/// Words over a file `f` and a file `r`; what is written where no device fails, a line by each write; and how many
-/// lines that are.
-struct Printed {
+/// Words over two files `f` and `r`, the first of which begins with so many line feeds, or over no file; how many calls
+/// the run makes on the shelf, and how many writes, of at most so many bytes each; and how it ends where no device fails.
+struct Job {
     words: &'static str,
-    text: &'static str,
-    report: &'static str,
-    written: &'static str,
-    count: usize,
-}
-
-impl Printed {
-    /// Whether the lines before this write are there where it fails, with the fault told.
-    fn is_cut<R: Threads + Wait + Sync>(
-        &self,
-        rt: &R,
-        alloc: Global,
-        write: usize,
-    ) -> Result<bool, Memory> {
-        let devices = Devices {
-            failing_write: write as u64,
-            ..SOUND
-        };
-        let files = [("f", self.text.as_bytes()), ("r", self.report.as_bytes())];
-        let front = lines(self.written, write.saturating_sub(1));
-        let end = if write <= self.count {
-            (6, front, "mcs: write fault\n")
-        } else {
-            (0, self.written.as_bytes(), "")
-        };
-        ends(rt, alloc, self.words, &files, devices, end)
-    }
-
-    /// Whether this is so of each write, and of one that no longer comes.
-    fn are_cut<R: Threads + Wait + Sync>(&self, rt: &R, alloc: Global) -> Result<bool, Memory> {
-        for write in 1..self.count.saturating_add(2) {
-            if !self.is_cut(rt, alloc, write)? {
-                return Ok(false);
-            }
-        }
-        Ok(true)
-    }
-}
-
-const PRINTED: [Printed; 6] = [
-    Printed {
-        words: "equilibria f",
-        text: SELF_SUPPORT,
-        report: "",
-        written: SELF_SUPPORT_EQUILIBRIA,
-        count: 5,
-    },
-    Printed {
-        words: "solve f",
-        text: SELF_DENIAL,
-        report: "",
-        written: SELF_DENIAL_LISTING,
-        count: 6,
-    },
-    Printed {
-        words: "solve f",
-        text: WARDS,
-        report: "",
-        written: WARDS_LISTING,
-        count: 21,
-    },
-    Printed {
-        words: "solve f --proof",
-        text: CONTRADICTION,
-        report: "",
-        written: CONTRADICTION_PROVED,
-        count: 15,
-    },
-    Printed {
-        words: "check f r",
-        text: TOLD,
-        report: TOLD_REPORT,
-        written: "valid\n",
-        count: 1,
-    },
-    Printed {
-        words: "make 0",
-        text: "",
-        report: "",
-        written: MADE,
-        count: 3,
-    },
-];
-
-#[test]
-fn a_failed_write_leaves_the_lines_before_it(rt: HostRuntime) {
-    for printed in &PRINTED {
-        assert!(rt; printed.are_cut(&rt, rt.alloc()) == Ok(true));
-    }
-}
-
-/// Whether the listing of a text without contexts is written up to before this write, where each takes a byte and this
-/// one fails; all of it where no such write comes.
-fn is_cut_within_a_line<R: Threads + Wait + Sync>(
-    rt: &R,
-    alloc: Global,
-    write: usize,
-) -> Result<bool, Memory> {
-    let devices = Devices {
-        failing_write: write as u64,
-        most: 1,
-        ..SOUND
-    };
-    let end = match EMPTY_LISTING.as_bytes().get(..write.saturating_sub(1)) {
-        Some(front) if write <= EMPTY_LISTING.len() => (6, front, "mcs: write fault\n"),
-        _ => (0, EMPTY_LISTING.as_bytes(), ""),
-    };
-    ends(rt, alloc, "solve f", &[("f", b"")], devices, end)
-}
-
-#[test]
-fn each_write_of_a_byte_may_fail(rt: HostRuntime) {
-    for write in 1..EMPTY_LISTING.len().saturating_add(2) {
-        assert!(rt; is_cut_within_a_line(&rt, rt.alloc(), write) == Ok(true));
-    }
-}
-
-/// Whether the run over a file `f` and a file `r` ends so where this call of the shelf fails.
-fn fails_so<R: Threads + Wait + Sync>(
-    rt: &R,
-    alloc: Global,
-    words: &str,
-    text: &[u8],
-    report: &str,
-    failing_call: u64,
-    end: End<'_>,
-) -> Result<bool, Memory> {
-    let devices = Devices {
-        failing_call,
-        ..SOUND
-    };
-    let files = [("f", text), ("r", report.as_bytes())];
-    ends(rt, alloc, words, &files, devices, end)
-}
-
-/// Words over a file `f` of so many line feeds and a text, and a file `r`; the number of calls on the shelf; and what is
-/// written where none fails.
-struct Read {
-    words: &'static str,
+    has_files: bool,
     line_feeds: usize,
     text: &'static str,
     report: &'static str,
-    calls: u64,
+    calls: usize,
+    writes: usize,
+    most: usize,
+    status: u8,
     written: &'static str,
+    noted: &'static str,
 }
 
-impl Read {
-    /// Whether the fault is told where this call fails.
-    fn is_told<R: Threads + Wait + Sync>(
-        &self,
-        rt: &R,
-        alloc: Global,
-        call: u64,
-    ) -> Result<bool, Memory> {
-        let mut text = vec![in alloc; b'\n'; self.line_feeds]?;
-        text.extend_from_slice(self.text.as_bytes())?;
-        let end = if call <= self.calls {
-            READ_FAULT
-        } else {
-            (0, self.written.as_bytes(), "")
-        };
-        fails_so(rt, alloc, self.words, &text, self.report, call, end)
-    }
-
-    /// Whether this is so of each call, and of one that no longer comes.
-    fn are_told<R: Threads + Wait + Sync>(&self, rt: &R, alloc: Global) -> Result<bool, Memory> {
-        for call in 1..self.calls.saturating_add(2) {
-            if !self.is_told(rt, alloc, call)? {
-                return Ok(false);
-            }
-        }
-        Ok(true)
-    }
-}
-
-const READS: [Read; 3] = [
-    // It is opened, all of it is read, and nothing is left.
-    Read {
-        words: "solve f",
-        line_feeds: 0,
-        text: SELF_DENIAL,
-        report: "",
-        calls: 3,
-        written: SELF_DENIAL_LISTING,
-    },
-    // 4096 bytes are read, then what is left of 5046.
-    Read {
+const JOBS: [Job; 11] = [
+    // A file of 5047 bytes is opened; 4096 bytes of it are read, then what is left, and then nothing. One that is
+    // shorter is read at once, and an empty one has nothing to read.
+    Job {
         words: "equilibria f",
+        has_files: true,
         line_feeds: 5000,
         text: SELF_SUPPORT,
         report: "",
         calls: 4,
+        writes: 5,
+        most: 4096,
+        status: 0,
         written: SELF_SUPPORT_EQUILIBRIA,
+        noted: "",
     },
-    Read {
+    Job {
+        words: "equilibria f",
+        has_files: true,
+        line_feeds: 0,
+        text: SELF_SUPPORT,
+        report: "",
+        calls: 3,
+        writes: 5,
+        most: 4096,
+        status: 0,
+        written: SELF_SUPPORT_EQUILIBRIA,
+        noted: "",
+    },
+    Job {
+        words: "solve f",
+        has_files: true,
+        line_feeds: 0,
+        text: SELF_DENIAL,
+        report: "",
+        calls: 3,
+        writes: 6,
+        most: 4096,
+        status: 0,
+        written: SELF_DENIAL_LISTING,
+        noted: "",
+    },
+    Job {
+        words: "solve f",
+        has_files: true,
+        line_feeds: 0,
+        text: WARDS,
+        report: "",
+        calls: 3,
+        writes: 21,
+        most: 4096,
+        status: 0,
+        written: WARDS_LISTING,
+        noted: "",
+    },
+    Job {
+        words: "solve f --proof",
+        has_files: true,
+        line_feeds: 0,
+        text: CONTRADICTION,
+        report: "",
+        calls: 3,
+        writes: 15,
+        most: 4096,
+        status: 0,
+        written: CONTRADICTION_PROVED,
+        noted: "",
+    },
+    Job {
         words: "check f r",
+        has_files: true,
         line_feeds: 0,
         text: TOLD,
         report: TOLD_REPORT,
         calls: 6,
+        writes: 1,
+        most: 4096,
+        status: 0,
         written: "valid\n",
+        noted: "",
+    },
+    // Each write is of one byte.
+    Job {
+        words: "solve f",
+        has_files: true,
+        line_feeds: 0,
+        text: "",
+        report: "",
+        calls: 2,
+        writes: EMPTY_LISTING.len(),
+        most: 1,
+        status: 0,
+        written: EMPTY_LISTING,
+        noted: "",
+    },
+    // What names no file opens none.
+    Job {
+        words: "make 0",
+        has_files: true,
+        line_feeds: 0,
+        text: "",
+        report: "",
+        calls: 0,
+        writes: 3,
+        most: 4096,
+        status: 0,
+        written: MADE,
+        noted: "",
+    },
+    Job {
+        words: "make 0",
+        has_files: false,
+        line_feeds: 0,
+        text: "",
+        report: "",
+        calls: 0,
+        writes: 3,
+        most: 4096,
+        status: 0,
+        written: MADE,
+        noted: "",
+    },
+    Job {
+        words: "make",
+        has_files: false,
+        line_feeds: 0,
+        text: "",
+        report: "",
+        calls: 0,
+        writes: 0,
+        most: 4096,
+        status: 2,
+        written: "",
+        noted: USAGE,
+    },
+    // A file that is not there is told as one that can't be read.
+    Job {
+        words: "solve f",
+        has_files: false,
+        line_feeds: 0,
+        text: "",
+        report: "",
+        calls: 0,
+        writes: 0,
+        most: 4096,
+        status: 5,
+        written: "",
+        noted: "mcs: read fault\n",
     },
 ];
 
-#[test]
-fn a_failed_read_is_told(rt: HostRuntime) {
-    for read in &READS {
-        assert!(rt; read.are_told(&rt, rt.alloc()) == Ok(true));
+impl Job {
+    /// What is written before this write.
+    fn before(&self, write: usize) -> &'static [u8] {
+        let count = write.saturating_sub(1);
+        if self.most == 1 {
+            self.written.as_bytes().get(..count).unwrap_or(b"")
+        } else {
+            lines(self.written, count)
+        }
+    }
+
+    /// How the run ends where the call and the write with these numbers fail. There is none with the number 0, nor one
+    /// past the last.
+    fn end(&self, call: usize, write: usize) -> End<'static> {
+        if 0 < call && call <= self.calls {
+            (5, b"", "mcs: read fault\n")
+        } else if 0 < write && write <= self.writes {
+            (6, self.before(write), "mcs: write fault\n")
+        } else {
+            (self.status, self.written.as_bytes(), self.noted)
+        }
+    }
+
+    /// Whether the run ends so where a call or a write fails: the call with this number, up to one past the last, and
+    /// then the writes.
+    fn is_told<R: Threads + Wait + Sync>(
+        &self,
+        rt: &R,
+        alloc: Global,
+        number: usize,
+    ) -> Result<bool, Memory> {
+        let past = number.saturating_sub(self.calls.saturating_add(1));
+        let call = if past == 0 { number } else { 0 };
+        let devices = Devices {
+            failing_call: call as u64,
+            failing_write: past as u64,
+            most: self.most,
+        };
+        let mut text = vec![in alloc; b'\n'; self.line_feeds]?;
+        text.extend_from_slice(self.text.as_bytes())?;
+        let (report, end) = (self.report.as_bytes(), self.end(call, past));
+        if self.has_files {
+            ends_over(rt, alloc, self.words, &text, report, devices, end)
+        } else {
+            ends(rt, alloc, self.words, &[], devices, end)
+        }
+    }
+
+    /// Whether it ends so where none fails, and for each that may.
+    fn are_told<R: Threads + Wait + Sync>(&self, rt: &R, alloc: Global) -> Result<bool, Memory> {
+        for number in 0..self.calls.saturating_add(self.writes).saturating_add(3) {
+            if !self.is_told(rt, alloc, number)? {
+                return Ok(false);
+            }
+        }
+        Ok(true)
     }
 }
 
-/// Words over a shelf without files, of which the first call fails, and how the run ends.
-const BARE: [(&str, u8, &str, &str); 3] = [
-    ("make 0", 0, MADE, ""),
-    ("make", 2, "", USAGE),
-    ("solve f", 5, "", "mcs: read fault\n"),
-];
-
-/// Whether a run over a shelf without files, of which this call fails, ends so.
-fn is_bare<R: Threads + Wait + Sync>(
-    rt: &R,
-    alloc: Global,
-    words: &str,
-    failing_call: u64,
-    end: End<'_>,
-) -> Result<bool, Memory> {
-    let devices = Devices {
-        failing_call,
-        ..SOUND
-    };
-    ends(rt, alloc, words, &[], devices, end)
-}
-
 #[test]
-fn what_names_no_file_opens_none(rt: HostRuntime) {
-    for (words, status, written, noted) in &BARE {
-        let end = (*status, written.as_bytes(), *noted);
-        assert!(rt; is_bare(&rt, rt.alloc(), words, 1, end) == Ok(true));
+fn each_call_and_each_write_may_fail(rt: HostRuntime) {
+    for job in &JOBS {
+        assert!(rt; job.are_told(&rt, rt.alloc()) == Ok(true));
     }
-}
-
-#[test]
-fn a_file_that_is_not_there_is_told(rt: HostRuntime) {
-    assert!(rt; is_bare(&rt, rt.alloc(), "solve f", 0, READ_FAULT) == Ok(true));
 }

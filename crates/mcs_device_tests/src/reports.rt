@@ -1,35 +1,20 @@
 //! Reports and what is found of them, in runs of `check` and of `solve` with its proof.
 
-use crate::runs::{SOUND, ends, lines, sink_of, status_of};
+use crate::runs::{End, SOUND, ends_over, lines, sink_of, status_of};
 use mcs_base::{Memory, Text};
 use std::alloc::Global;
 use std::sync::Wait;
 use std::thread::Threads;
 
-/// What is found of a report that is valid.
-const VALID: &str = "valid\n";
-
-/// Whether `check` of the report on the system of this text writes this and ends with its status, and nothing is noted.
-fn is_found<R: Threads + Wait + Sync>(
-    rt: &R,
-    alloc: Global,
-    text: &str,
-    report: &[u8],
-    found: &str,
-) -> Result<bool, Memory> {
-    let files = [("f", text.as_bytes()), ("r", report)];
-    let status = if found == VALID { 0 } else { 1 };
-    let end = (status, found.as_bytes(), "");
-    ends(rt, alloc, "check f r", &files, SOUND, end)
-}
+/// How `check` of a valid report ends.
+const VALID: End<'static> = (0, b"valid\n", "");
 
 /// Lines of a report, from the first number up to the second, counted from 1; what is put in their place, before the
-/// first of them where there are none; and what is found then.
-struct Change {
-    lines: (usize, usize),
-    with: &'static str,
-    found: &'static str,
-}
+/// first of them where there are none; and the line and the test at which the report then fails. It is valid where there
+/// are none.
+type Change = (usize, usize, &'static str, Option<(usize, &'static str)>);
+
+const UNCHANGED: Change = (1, 0, "", None);
 
 /// The text of a system, a valid report on it, the number of the last line of the listing in the report, and changes.
 struct Case {
@@ -40,84 +25,68 @@ struct Case {
 }
 
 impl Case {
+    /// The change with this number, counted from 0; after these none; and then those that put another line in the place
+    /// of each. A line of the listing is told by its own number, one after it at the latest by that. It is so of the line
+    /// that ends the listing, which is not changed.
+    fn change_at(&self, number: usize) -> Change {
+        if let Some(change) = self.changes.get(number) {
+            return *change;
+        }
+        let line = number.saturating_sub(self.changes.len());
+        if line == 0 || line == self.listing {
+            UNCHANGED
+        } else if line < self.listing {
+            (line, line, "no line\n", Some((line, "listing")))
+        } else {
+            (line, line, "no line\n", Some((line, "grammar")))
+        }
+    }
+
     /// The report with this in place of its lines from the first number up to the second.
     fn changed(
         &self,
         alloc: Global,
-        (first, last): (usize, usize),
+        first: usize,
+        last: usize,
         with: &str,
     ) -> Result<Text, Memory> {
-        let before = lines(self.report, first.saturating_sub(1));
         let after = self.report.as_bytes().get(lines(self.report, last).len()..);
         let mut text = Text::new(alloc);
-        text.push(before)?;
+        text.push(lines(self.report, first.saturating_sub(1)))?;
         text.push(with.as_bytes())?;
         text.push(after.unwrap_or(b""))?;
         Ok(text)
     }
 
-    /// Whether this is found of the changed report.
+    /// Whether it is found of the report with this change what the change says.
     fn is_told<R: Threads + Wait + Sync>(
         &self,
         rt: &R,
         alloc: Global,
-        lines: (usize, usize),
-        with: &str,
-        found: &str,
+        (first, last, with, fault): Change,
     ) -> Result<bool, Memory> {
-        let changed = self.changed(alloc, lines, with)?;
-        is_found(rt, alloc, self.system, changed.bytes(), found)
+        let report = self.changed(alloc, first, last, with)?;
+        let (words, text) = ("check f r", self.system.as_bytes());
+        match fault {
+            None => ends_over(rt, alloc, words, text, report.bytes(), SOUND, VALID),
+            Some((line, test)) => {
+                let found: String = format!(in alloc; "not valid: line {line}: {test}\n")?;
+                let end = (1, found.as_str().as_bytes(), "");
+                ends_over(rt, alloc, words, text, report.bytes(), SOUND, end)
+            }
+        }
     }
 
-    /// Whether of each change it is found what the change says.
+    /// Whether this is so of each change.
     fn are_told<R: Threads + Wait + Sync>(&self, rt: &R, alloc: Global) -> Result<bool, Memory> {
-        for change in self.changes {
-            if !self.is_told(rt, alloc, change.lines, change.with, change.found)? {
+        let count = self.report.split_terminator('\n').count();
+        for number in 0..self.changes.len().saturating_add(count).saturating_add(1) {
+            if !self.is_told(rt, alloc, self.change_at(number))? {
                 return Ok(false);
             }
         }
         Ok(true)
     }
-
-    /// Whether this line of the report, when another stands in its place, is told: one of the listing by its own
-    /// number, one after it at the latest by that. It is so of the line that ends the listing.
-    fn line_counts<R: Threads + Wait + Sync>(
-        &self,
-        rt: &R,
-        alloc: Global,
-        line: usize,
-    ) -> Result<bool, Memory> {
-        if line == self.listing {
-            return Ok(true);
-        }
-        let part = if line < self.listing {
-            "listing"
-        } else {
-            "grammar"
-        };
-        let found: String = format!(in alloc; "not valid: line {line}: {part}\n")?;
-        self.is_told(rt, alloc, (line, line), "no line\n", found.as_str())
-    }
-
-    /// Whether each line of the report counts.
-    fn each_line_counts<R: Threads + Wait + Sync>(
-        &self,
-        rt: &R,
-        alloc: Global,
-    ) -> Result<bool, Memory> {
-        for line in 1..self.report.split_terminator('\n').count().saturating_add(1) {
-            if !self.line_counts(rt, alloc, line)? {
-                return Ok(false);
-            }
-        }
-        Ok(true)
-    }
-}
-
-/// Whether the report is valid, what each change says is found of it, and each of its lines counts.
-fn is_judged<R: Threads + Wait + Sync>(rt: &R, alloc: Global, case: &Case) -> Result<bool, Memory> {
-    let is_valid = is_found(rt, alloc, case.system, case.report.as_bytes(), VALID)?;
-    Ok(is_valid && case.are_told(rt, alloc)? && case.each_line_counts(rt, alloc)?)
 }
 
 /// A context that contradicts itself believes what a rule reads.
@@ -129,16 +98,8 @@ const CONTRADICTION_REPORT: &str =
 
 /// A trace that names no clause; and an answer more, of a set of rules that does not apply.
 const CONTRADICTION_CHANGES: [Change; 2] = [
-    Change {
-        lines: (10, 10),
-        with: "step by 4 2 5\n",
-        found: "not valid: line 7: certificate\n",
-    },
-    Change {
-        lines: (12, 11),
-        with: "answer c2 {}\nstate {}\ndone\n",
-        found: VALID,
-    },
+    (10, 10, "step by 4 2 5\n", Some((7, "certificate"))),
+    (12, 11, "answer c2 {}\nstate {}\ndone\n", None),
 ];
 
 /// A context that may not believe what a rule tells it.
@@ -151,118 +112,54 @@ pub const TOLD_REPORT: &str =
 /// Lines of that report, what is put in their place, and what is found then.
 const CHANGES: [Change; 21] = [
     // What is found first: in the listing, in an answer's certificate, of an answer that is needed, in the grammar.
-    Change {
-        lines: (4, 4),
-        with: "",
-        found: "not valid: line 4: listing\n",
-    },
-    Change {
-        lines: (3, 3),
-        with: "diagnosis 1: {+r1} state {c1:a} active {}\n",
-        found: "not valid: line 3: listing\n",
-    },
-    Change {
-        lines: (5, 5),
-        with: "end: 0 equilibria, 1 diagnoses, 1 explanations, need 4\n",
-        found: "not valid: line 5: listing\n",
-    },
+    (4, 4, "", Some((4, "listing"))),
+    (
+        3,
+        3,
+        "diagnosis 1: {+r1} state {c1:a} active {}\n",
+        Some((3, "listing")),
+    ),
+    (
+        5,
+        5,
+        "end: 0 equilibria, 1 diagnoses, 1 explanations, need 4\n",
+        Some((5, "listing")),
+    ),
     // A trace without its end, or a state that its trace does not show.
-    Change {
-        lines: (10, 10),
-        with: "step by 8 6 4 1\n",
-        found: "not valid: line 7: certificate\n",
-    },
-    Change {
-        lines: (12, 12),
-        with: "step by 8 6 4 1\n",
-        found: "not valid: line 7: certificate\n",
-    },
-    Change {
-        lines: (8, 8),
-        with: "state {}\n",
-        found: "not valid: line 7: certificate\n",
-    },
+    (10, 10, "step by 8 6 4 1\n", Some((7, "certificate"))),
+    (12, 12, "step by 8 6 4 1\n", Some((7, "certificate"))),
+    (8, 8, "state {}\n", Some((7, "certificate"))),
     // The last answer is left out.
-    Change {
-        lines: (21, 24),
-        with: "",
-        found: "not valid: line 21: missing\n",
-    },
+    (21, 24, "", Some((21, "missing"))),
     // The whole, the proof or the last line is left out; or the last line feed, or a line follows.
-    Change {
-        lines: (1, 25),
-        with: "",
-        found: "not valid: line 1: grammar\n",
-    },
-    Change {
-        lines: (6, 25),
-        with: "",
-        found: "not valid: line 6: grammar\n",
-    },
-    Change {
-        lines: (25, 25),
-        with: "",
-        found: "not valid: line 25: grammar\n",
-    },
-    Change {
-        lines: (25, 25),
-        with: "end of proof",
-        found: "not valid: line 25: grammar\n",
-    },
-    Change {
-        lines: (25, 25),
-        with: "end of proof\n\n",
-        found: "not valid: line 26: grammar\n",
-    },
-    Change {
-        lines: (25, 25),
-        with: "end of proof\nx\n",
-        found: "not valid: line 26: grammar\n",
-    },
+    (1, 25, "", Some((1, "grammar"))),
+    (6, 25, "", Some((6, "grammar"))),
+    (25, 25, "", Some((25, "grammar"))),
+    (25, 25, "end of proof", Some((25, "grammar"))),
+    (25, 25, "end of proof\n\n", Some((26, "grammar"))),
+    (25, 25, "end of proof\nx\n", Some((26, "grammar"))),
     // The listing ends with its first line.
-    Change {
-        lines: (1, 1),
-        with: "end: x\n",
-        found: "not valid: line 2: grammar\n",
-    },
+    (1, 1, "end: x\n", Some((2, "grammar"))),
     // A state that another context has, a state twice.
-    Change {
-        lines: (15, 15),
-        with: "state {c1:a}\n",
-        found: "not valid: line 15: grammar\n",
-    },
-    Change {
-        lines: (8, 8),
-        with: "state {c1:a}\nstate {c1:a}\n",
-        found: "not valid: line 9: grammar\n",
-    },
+    (15, 15, "state {c1:a}\n", Some((15, "grammar"))),
+    (8, 8, "state {c1:a}\nstate {c1:a}\n", Some((9, "grammar"))),
     // A set of rules stands after its next one: alone, or with its answer.
-    Change {
-        lines: (14, 14),
-        with: "answer c2 {r1}\n",
-        found: "not valid: line 21: grammar\n",
-    },
-    Change {
-        lines: (14, 24),
-        with: "answer c2 {r1}\nnone\nstep by 10 9 6 4 1 5\ndone\nanswer c2 {}\nstate {}\nmodel {}\nstep by 12 10 9\nnone\nstep by 9 7 6\ndone\n",
-        found: "not valid: line 18: grammar\n",
-    },
+    (14, 14, "answer c2 {r1}\n", Some((21, "grammar"))),
+    (
+        14,
+        24,
+        "answer c2 {r1}\nnone\nstep by 10 9 6 4 1 5\ndone\nanswer c2 {}\nstate {}\nmodel {}\nstep by 12 10 9\nnone\nstep by 9 7 6\ndone\n",
+        Some((18, "grammar")),
+    ),
     // A zero before a number, or a number that is too large.
-    Change {
-        lines: (10, 10),
-        with: "step by 08 6 4 1 5\n",
-        found: "not valid: line 10: grammar\n",
-    },
-    Change {
-        lines: (23, 23),
-        with: "step by 10 9 6 4 01 5\n",
-        found: "not valid: line 23: grammar\n",
-    },
-    Change {
-        lines: (10, 10),
-        with: "step by 9223372036854775808\n",
-        found: "not valid: line 10: grammar\n",
-    },
+    (10, 10, "step by 08 6 4 1 5\n", Some((10, "grammar"))),
+    (23, 23, "step by 10 9 6 4 01 5\n", Some((23, "grammar"))),
+    (
+        10,
+        10,
+        "step by 9223372036854775808\n",
+        Some((10, "grammar")),
+    ),
 ];
 
 /// A default theory without extensions: the one default applies where it is left out, and is blocked where it is taken.
@@ -274,31 +171,11 @@ const THEORY_REPORT: &str =
 /// Lines of that report, what is put in their place, and what is found then: an empty set of atoms, another trace, a
 /// set of defaults that is left out, or claimed to be ungrounded.
 const THEORY_CHANGES: [Change; 5] = [
-    Change {
-        lines: (11, 11),
-        with: "no {}\n",
-        found: "not valid: line 6: certificate\n",
-    },
-    Change {
-        lines: (15, 15),
-        with: "step by 8 6 5 1 4\n",
-        found: "not valid: line 6: certificate\n",
-    },
-    Change {
-        lines: (12, 15),
-        with: "",
-        found: "not valid: line 12: grammar\n",
-    },
-    Change {
-        lines: (13, 15),
-        with: "ungrounded {}\nno {}\n",
-        found: "not valid: line 6: certificate\n",
-    },
-    Change {
-        lines: (8, 8),
-        with: "applied 2\n",
-        found: "not valid: line 8: grammar\n",
-    },
+    (11, 11, "no {}\n", Some((6, "certificate"))),
+    (15, 15, "step by 8 6 5 1 4\n", Some((6, "certificate"))),
+    (12, 15, "", Some((12, "grammar"))),
+    (13, 15, "ungrounded {}\nno {}\n", Some((6, "certificate"))),
+    (8, 8, "applied 2\n", Some((8, "grammar"))),
 ];
 
 const CASES: [Case; 3] = [
@@ -325,7 +202,7 @@ const CASES: [Case; 3] = [
 #[test]
 fn the_first_test_that_fails_is_told(rt: HostRuntime) {
     for case in &CASES {
-        assert!(rt; is_judged(&rt, rt.alloc(), case) == Ok(true));
+        assert!(rt; case.are_told(&rt, rt.alloc()) == Ok(true));
     }
 }
 
@@ -338,8 +215,11 @@ fn is_proved<R: Threads + Wait + Sync>(
 ) -> Result<bool, Memory> {
     let mut sink = sink_of(alloc, SOUND)?;
     let status = status_of(rt, alloc, words, &[("f", text.as_bytes())], 0, &mut sink);
-    let is_valid = is_found(rt, alloc, text, sink.written(), VALID);
-    Ok(status == Ok(0) && sink.noted().is_empty() && is_valid == Ok(true))
+    let (words, text, report) = ("check f r", text.as_bytes(), sink.written());
+    let is_valid = ends_over(rt, alloc, words, text, report, SOUND, VALID);
+    let is_noted = !sink.noted().is_empty();
+    drop(sink);
+    Ok((status == Ok(0)) & !is_noted & (is_valid == Ok(true)))
 }
 
 /// Systems of all kinds, consistent and not: choices, a set of defaults of each verdict, an unsatisfiable context.

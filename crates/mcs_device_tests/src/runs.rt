@@ -81,13 +81,11 @@ pub fn status_of<R: Threads + Wait + Sync>(
     failing_call: u64,
     sink: &mut MemorySink,
 ) -> Result<u8, Memory> {
-    let mut shelf = shelf_of(alloc, files, failing_call)?;
     let words = words_of(alloc, words)?;
-    Ok(
-        run(rt, alloc, &words, &mut shelf, sink, &IdleGate)
-            .0
-            .number(),
-    )
+    let mut shelf = shelf_of(alloc, files, failing_call)?;
+    let (status, trail) = run(rt, alloc, &words, &mut shelf, sink, &IdleGate);
+    drop(trail);
+    Ok(status.number())
 }
 
 /// How a run ends: the status, what is written, and what is noted.
@@ -104,5 +102,27 @@ pub fn ends<R: Threads + Wait + Sync>(
 ) -> Result<bool, Memory> {
     let mut sink = sink_of(alloc, devices)?;
     let ended = status_of(rt, alloc, words, files, devices.failing_call, &mut sink);
-    Ok(ended == Ok(status) && sink.written() == written && sink.noted() == noted.as_bytes())
+    let (is_written, is_noted) = (sink.written() == written, sink.noted() == noted.as_bytes());
+    drop(sink);
+    Ok((ended == Ok(status)) & is_written & is_noted)
+}
+
+/// Whether the words end so over a file `f` of this text and a file `r` of this report.
+pub fn ends_over<R: Threads + Wait + Sync>(
+    rt: &R,
+    alloc: Global,
+    words: &str,
+    text: &[u8],
+    report: &[u8],
+    devices: Devices,
+    end: End<'_>,
+) -> Result<bool, Memory> {
+    ends(
+        rt,
+        alloc,
+        words,
+        &[("f", text), ("r", report)],
+        devices,
+        end,
+    )
 }

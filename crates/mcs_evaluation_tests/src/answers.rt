@@ -20,6 +20,13 @@ fn yes(alloc: Global) -> Result<Entail, Fail> {
     Ok(Entail::Yes(trace_of(alloc, "step by 1 2\n")?))
 }
 
+/// By one step that it follows, alone.
+fn only_yes(alloc: Global) -> Result<Vec<Entail>, Fail> {
+    let mut entails = Vec::new(alloc);
+    entails.push(yes(alloc)?)?;
+    Ok(entails)
+}
+
 /// By this set of atoms that it does not follow, alone.
 fn only_no(alloc: Global, set: u64) -> Result<Vec<Entail>, Memory> {
     let mut entails = Vec::new(alloc);
@@ -50,17 +57,26 @@ const VERDICTS: &[Verdict] = &[
     Verdict::Extension,
 ];
 
+/// That the first default is not supported, alone.
+fn only_unsupported(alloc: Global) -> Result<Vec<Outside>, Memory> {
+    let mut outside = Vec::new(alloc);
+    outside.push(Outside::Unsupported(1, Entail::No(1)))?;
+    Ok(outside)
+}
+
 /// That the set of both defaults generates an extension.
 fn extension(alloc: Global) -> Result<SetCert, Fail> {
-    let (mut pres, mut outside) = (Vec::new(alloc), Vec::new(alloc));
-    pres.push(yes(alloc)?)?;
-    outside.push(Outside::Unsupported(1, Entail::No(1)))?;
+    let order = [2, 1].to_vec(alloc)?;
+    let pres = only_yes(alloc)?;
+    let justs = only_no(alloc, 0)?;
+    let outside = only_unsupported(alloc)?;
+    let outputs = only_no(alloc, 3)?;
     Ok(SetCert::Extension {
-        order: [2, 1].to_vec(alloc)?,
+        order,
         pres,
-        justs: only_no(alloc, 0)?,
+        justs,
         outside,
-        outputs: only_no(alloc, 3)?,
+        outputs,
     })
 }
 
@@ -68,11 +84,15 @@ fn extension(alloc: Global) -> Result<SetCert, Fail> {
 fn shown(alloc: Global, verdict: &Verdict) -> Result<SetCert, Fail> {
     Ok(match verdict {
         Verdict::Blocked => SetCert::Fails(Outside::Blocked(1, 2, yes(alloc)?)),
-        Verdict::Applied => SetCert::Applied {
-            number: 2,
-            pre: yes(alloc)?,
-            justs: only_no(alloc, 1)?,
-        },
+        Verdict::Applied => {
+            let justs = only_no(alloc, 1)?;
+            let pre = yes(alloc)?;
+            SetCert::Applied {
+                number: 2,
+                pre,
+                justs,
+            }
+        }
         Verdict::Ungrounded => SetCert::Ungrounded {
             closed: 1,
             pres: only_no(alloc, 2)?,
@@ -95,10 +115,12 @@ fn of_program(alloc: Global) -> Result<AnswerCert, Fail> {
     let mut models = Vec::new(alloc);
     let minimal = trace_of(alloc, "step 1 -2 by 3\n")?;
     models.push(AnswerSetCert { model: 1, minimal })?;
+    let smaller = [0, 2].to_vec(alloc)?;
+    let none = trace_of(alloc, "step by 4\n")?;
     Ok(AnswerCert::Program(ProgramCert {
         models,
-        smaller: [0, 2].to_vec(alloc)?,
-        none: trace_of(alloc, "step by 4\n")?,
+        smaller,
+        none,
     }))
 }
 
@@ -164,9 +186,12 @@ fn answers_are_written(rt: HostRuntime) -> Result<(), Fail> {
     spelled_reports_have_no_fault();
     reports_have_one_fault();
     let system = system_of(rt.alloc(), TOLD)?;
+    let mut are_written = true;
     for (kind, lines) in ANSWERS {
         let shown = certificate(rt.alloc(), kind)?;
-        assert!(rt; is_written(rt.alloc(), &system, shown, lines) == Ok(true));
+        are_written &= is_written(rt.alloc(), &system, shown, lines) == Ok(true);
     }
+    drop(system);
+    assert!(rt; are_written);
     Ok(())
 }

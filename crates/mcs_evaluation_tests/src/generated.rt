@@ -66,7 +66,9 @@ fn systems_are_generated(rt: HostRuntime) -> Result<(), Fail> {
     generated_systems_are_valid();
     for (number, parts) in TEXTS {
         let text = generated_text(rt.alloc(), *number)?;
-        assert!(rt; has_parts(text.bytes(), parts));
+        let has_parts = has_parts(text.bytes(), parts);
+        drop(text);
+        assert!(rt; has_parts);
     }
     Ok(())
 }

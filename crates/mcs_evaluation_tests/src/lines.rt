@@ -25,10 +25,9 @@ fn lines_are_counted(rt: HostRuntime) {
         lines.advance();
         let is_none = lines.current().is_none();
         let is_third = out_of_place(&lines) == ReportFault::Grammar { line: 3 };
-        assert!(rt; [is_first, is_second, is_none, is_third] == [true; 4]);
-        assert!(rt;
-            [is_ended_by_one, is_ended_by_two, lines.is_at_end()] == [false, false, *is_whole]
-        );
+        let is_counted = is_first && is_second && is_none && is_third;
+        let is_ended = !is_ended_by_one && !is_ended_by_two && lines.is_at_end() == *is_whole;
+        assert!(rt; is_counted && is_ended);
     }
 }
 
@@ -159,9 +158,12 @@ fn is_taken(
 fn lines_are_taken(rt: HostRuntime) -> Result<(), Fail> {
     let alloc = rt.alloc();
     let (atoms, numbers) = (texts_of(alloc, &["a", "b"])?, texts_of(alloc, &["1", "2"])?);
+    let mut are_taken = true;
     for (part, text, wanted) in TAKEN {
-        assert!(rt; is_taken(alloc, &atoms, &numbers, part, text, *wanted));
+        are_taken &= is_taken(alloc, &atoms, &numbers, part, text, *wanted);
     }
+    drop((atoms, numbers));
+    assert!(rt; are_taken);
     Ok(())
 }
 

@@ -15,17 +15,6 @@ use std::test::Fail;
 /// More questions than any of these systems has.
 const ENOUGH: u64 = 100;
 
-/// Texts of systems, the marks of a pair, and the numbers of the states that the system has where the pair changes it.
-const CHANGES: &[(&str, &[u32], &[u64])] = &[
-    (FORBIDDEN, &[], &[]),
-    (FORBIDDEN, &[0], &[]),
-    (FORBIDDEN, &[0, 2], &[1]),
-    (SELF_ATTACK, &[0], &[0]),
-    (SELF_ATTACK, &[1], &[1]),
-    (CHOICE, &[], &[1, 2]),
-    (CHOICE, &[0], &[2]),
-];
-
 /// What one context is told is forbidden. Thirteen others choose whether to hold what they tell themselves; the sixth
 /// may only where the fifth does not.
 const FREE: &str =
@@ -39,15 +28,29 @@ bridge r3: k3:x if k3:y. bridge r4: k4:x if k4:y. bridge r5: k5:x if k5:y, not k
 bridge r7: k7:x if k7:y. bridge r8: k8:x if k8:y. bridge r9: k9:x if k9:y. bridge r10: k10:x if k10:y.
 bridge r11: k11:x if k11:y. bridge r12: k12:x if k12:y.";
 
-/// Texts of systems, the marks of a pair, and the number of the first state that the system has where the pair
-/// changes it.
-const FIRST_STATES: &[(&str, &[u32], Option<u64>)] = &[
-    (FORBIDDEN, &[], None),
-    (FORBIDDEN, &[0, 2], Some(1)),
-    (CHOICE, &[], Some(1)),
-    (CHOICE, &[0], Some(2)),
-    (FREE, &[], None),
-    (FREE, &[0], Some(32637)),
+/// What a changed system has.
+enum Wanted {
+    /// The states of these numbers.
+    States(&'static [u64]),
+    /// The first state of all, of this number; none where it has no state.
+    First(Option<u64>),
+}
+
+/// Texts of systems, the marks of a pair, and what the system has where the pair changes it.
+const CHANGES: &[(&str, &[u32], Wanted)] = &[
+    (FORBIDDEN, &[], Wanted::States(&[])),
+    (FORBIDDEN, &[0], Wanted::States(&[])),
+    (FORBIDDEN, &[0, 2], Wanted::States(&[1])),
+    (SELF_ATTACK, &[0], Wanted::States(&[0])),
+    (SELF_ATTACK, &[1], Wanted::States(&[1])),
+    (CHOICE, &[], Wanted::States(&[1, 2])),
+    (CHOICE, &[0], Wanted::States(&[2])),
+    (FORBIDDEN, &[], Wanted::First(None)),
+    (FORBIDDEN, &[0, 2], Wanted::First(Some(1))),
+    (CHOICE, &[], Wanted::First(Some(1))),
+    (CHOICE, &[0], Wanted::First(Some(2))),
+    (FREE, &[], Wanted::First(None)),
+    (FREE, &[0], Wanted::First(Some(32637))),
 ];
 
 /// The last context is told three things that it forbids together: by three contexts, which are told of them by one
@@ -75,60 +78,31 @@ fn marks_of(members: &[u32]) -> Marks {
     marks
 }
 
-/// Whether the system has these states where a pair of these marks changes it.
-fn has_states(
-    alloc: Global,
-    system: &Arc<System>,
-    marks: Marks,
-    states: &[u64],
-) -> Result<bool, Memory> {
+/// Whether the system has this where a pair of these marks changes it.
+fn has(alloc: Global, system: &Arc<System>, marks: Marks, wanted: &Wanted) -> Result<bool, Memory> {
     if !are_allowed(system, marks) {
         return Ok(false);
     }
     let mut evaluator = evaluator_of(alloc, system, ENOUGH, &IdleGate)?;
-    let is_right = match list_states(alloc, &mut evaluator, Pair::new(marks)) {
-        Ok(found) => are_numbered(&found, states),
-        Err(_) => false,
+    let is_right = match wanted {
+        Wanted::States(numbers) => match list_states(alloc, &mut evaluator, Pair::new(marks)) {
+            Ok(found) => are_numbered(&found, numbers),
+            Err(_) => false,
+        },
+        Wanted::First(number) => match least_state(alloc, &mut evaluator, Pair::new(marks)) {
+            Ok(found) => found.map(|state| state.number()) == *number,
+            Err(_) => false,
+        },
     };
     drop(evaluator);
     Ok(is_right)
 }
 
 #[test]
-fn changed_systems_have_states(rt: HostRuntime) -> Result<(), Fail> {
-    for (text, marks, states) in CHANGES {
+fn changed_systems_have_their_states(rt: HostRuntime) -> Result<(), Fail> {
+    for (text, marks, wanted) in CHANGES {
         let system = system_of(rt.alloc(), text)?;
-        let is_right = has_states(rt.alloc(), &system, marks_of(marks), states);
-        drop(system);
-        assert!(rt; is_right == Ok(true));
-    }
-    Ok(())
-}
-
-/// Whether this is the first state that the system has where a pair of these marks changes it.
-fn has_first_state(
-    alloc: Global,
-    system: &Arc<System>,
-    marks: Marks,
-    state: Option<u64>,
-) -> Result<bool, Memory> {
-    if !are_allowed(system, marks) {
-        return Ok(false);
-    }
-    let mut evaluator = evaluator_of(alloc, system, ENOUGH, &IdleGate)?;
-    let is_right = match least_state(alloc, &mut evaluator, Pair::new(marks)) {
-        Ok(found) => found.map(|first| first.number()) == state,
-        Err(_) => false,
-    };
-    drop(evaluator);
-    Ok(is_right)
-}
-
-#[test]
-fn changed_systems_have_first_states(rt: HostRuntime) -> Result<(), Fail> {
-    for (text, marks, state) in FIRST_STATES {
-        let system = system_of(rt.alloc(), text)?;
-        let is_right = has_first_state(rt.alloc(), &system, marks_of(marks), *state);
+        let is_right = has(rt.alloc(), &system, marks_of(marks), wanted);
         drop(system);
         assert!(rt; is_right == Ok(true));
     }
@@ -159,27 +133,23 @@ fn tells_first(alloc: Global, evaluator: &mut Solving<'_>, level: u32, count: us
     }
 }
 
-#[test]
-fn diagnoses_come_level_after_level(rt: HostRuntime) -> Result<(), Fail> {
-    let system = system_of(rt.alloc(), TOGETHER)?;
-    let mut evaluator = evaluator_of(rt.alloc(), &system, ENOUGH, &IdleGate)?;
+/// Whether an evaluator of the system tells so many of the minimal diagnoses at these levels, one after the other.
+fn tells(alloc: Global, system: &Arc<System>, levels: &[(u32, usize)]) -> Result<bool, Memory> {
+    let mut evaluator = evaluator_of(alloc, system, ENOUGH, &IdleGate)?;
     let mut are_right = true;
-    for (level, count) in LEVELS {
-        are_right &= tells_first(rt.alloc(), &mut evaluator, *level, *count);
+    for (level, count) in levels {
+        are_right &= tells_first(alloc, &mut evaluator, *level, *count);
     }
     drop(evaluator);
-    drop(system);
-    assert!(rt; are_right);
-    Ok(())
+    Ok(are_right)
 }
 
 #[test]
-fn diagnoses_come_at_once(rt: HostRuntime) -> Result<(), Fail> {
+fn diagnoses_come_level_after_level_and_at_once(rt: HostRuntime) -> Result<(), Fail> {
     let system = system_of(rt.alloc(), TOGETHER)?;
-    let mut evaluator = evaluator_of(rt.alloc(), &system, ENOUGH, &IdleGate)?;
-    let are_right = tells_first(rt.alloc(), &mut evaluator, 3, DIAGNOSES.len());
-    drop(evaluator);
+    let after_level = tells(rt.alloc(), &system, LEVELS);
+    let at_once = tells(rt.alloc(), &system, &[(3, DIAGNOSES.len())]);
     drop(system);
-    assert!(rt; are_right);
+    assert!(rt; after_level == Ok(true) && at_once == Ok(true));
     Ok(())
 }

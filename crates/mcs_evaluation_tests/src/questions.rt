@@ -77,8 +77,11 @@ static LEVELS: [(u32, &[u64]); 3] = [
 #[test]
 fn asks_by_what_is_supplied(rt: HostRuntime) -> Result<(), Fail> {
     let plan = Plan::of(rt.alloc(), system_of(rt.alloc(), FORBIDDEN)?)?;
+    let mut are_right = true;
     for (level, sets) in &LEVELS {
-        assert!(rt; are_questions(rt.alloc(), &plan, *level, sets) == Ok(true));
+        are_right &= are_questions(rt.alloc(), &plan, *level, sets) == Ok(true);
     }
+    drop(plan);
+    assert!(rt; are_right);
     Ok(())
 }

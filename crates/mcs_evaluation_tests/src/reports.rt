@@ -4,8 +4,9 @@ ghost use Rattle.std.specs.Prelude.{◌≡◌};
 
 use crate::numbered::are_numbered;
 use crate::systems::system_of;
-use mcs_base::{Active, Memory};
-use mcs_proof_reader::{Keep, Report, ReportAnswer, read_kept, read_report};
+use mcs_base::Active;
+use mcs_proof_lines::{Lines, ReportFault};
+use mcs_proof_reader::{Keep, Report, ReportAnswer, Texts, read_kept, read_report, take_answer};
 use mcs_system::System;
 use std::alloc::Global;
 use std::test::Fail;
@@ -65,8 +66,22 @@ impl Keep for FirstLines {
 
     ghost Keeps = { λ _ _ line kept. kept ≡ line };
 
-    fn keep(&self, _alloc: Global, _system: &System, answer: ReportAnswer) -> Result<u64, Memory> {
-        Ok(answer.line)
+    fn take(
+        &self,
+        alloc: Global,
+        system: &System,
+        texts: &Texts,
+        question: (u32, Active),
+        line: u64,
+        lines: &mut Lines<'_>,
+    ) -> Result<u64, ReportFault> {
+        match take_answer(alloc, system, texts, question, line, lines) {
+            Ok(answer) => {
+                drop(answer);
+                Ok(line)
+            }
+            Err(fault) => Err(fault),
+        }
     }
 }
 

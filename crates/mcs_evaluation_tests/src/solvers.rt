@@ -1,13 +1,16 @@
 //! What one context accepts, and its oracle.
 
-ghost use Rattle.std.specs.Prelude.{◌≡◌};
+ghost use Rattle.std.specs.Prelude.{◌≡◌, []};
+ghost use Rattle.mcs_sets.specs.Sets.{Within};
+ghost use Rattle.mcs_system.specs.Imports.{rules_into};
+ghost use Rattle.mcs_states.specs.Oracles.{with_journal};
 
 use crate::numbered::are_numbered;
 use crate::systems::{SELF_ATTACK, system_of};
 use mcs_base::{Active, Memory};
 use mcs_certificate::accepts;
 use mcs_solver::{LocalSolver, accepted_parts};
-use mcs_states::Oracle;
+use mcs_states::{Fork, Oracle};
 use mcs_system::System;
 use std::alloc::Global;
 use std::sync::Arc;
@@ -142,6 +145,55 @@ fn an_oracle_keeps_certificates_where_it_is_told_to(rt: HostRuntime) -> Result<(
         let shown = are_shown(rt.alloc(), &system);
         drop(system);
         assert!(rt; shown == Ok([Some(true), None, None]));
+    }
+    Ok(())
+}
+
+/// Whether another oracle of the same context answers the question, and this one takes that over.
+fn is_asked_beside(alloc: Global, solver: &mut LocalSolver, question: Active) -> bool
+    requires { Within question (rules_into solver.old.system solver.old.context) }
+    ensures { with_journal [] solver.new ≡ with_journal [] solver.old }
+{
+    let Ok(mut other) = solver.fork(alloc) else {
+        return false;
+    };
+    match other.ask(alloc, question) {
+        Ok(found) => {
+            drop(found);
+            solver.absorb(alloc, other).is_ok()
+        }
+        Err(_) => false,
+    }
+}
+
+/// Whether the first context's oracle has an accepted certificate of its answer with the first rule alone, after it
+/// took over another one that was asked this; nothing where it has none, or did not note the question.
+fn is_taken_over(alloc: Global, system: &Arc<System>) -> Result<Option<bool>, Memory> {
+    let rule = Active::one(0);
+    if system.contexts().is_empty() || !rule.within(system.rules_of(0)) {
+        return Ok(None);
+    }
+    let mut solver = LocalSolver::new(alloc, system.clone()?, 0, true);
+    let is_asked = is_asked_beside(alloc, &mut solver, rule);
+    let is_noted = solver.journal() == [rule].as_slice();
+    let shown = match solver.certificate(rule) {
+        Some((outputs, cert)) => Some(accepts(alloc, system, 0, rule, outputs, cert)),
+        None => None,
+    };
+    drop(solver);
+    if !is_asked || !is_noted {
+        return Ok(None);
+    }
+    shown.transpose()
+}
+
+#[test]
+fn an_oracle_takes_over_what_another_was_asked(rt: HostRuntime) -> Result<(), Fail> {
+    for text in &[TOLD_FORMULAS, TOLD_THEORY, TOLD_PROGRAM] {
+        let system = system_of(rt.alloc(), text)?;
+        let shown = is_taken_over(rt.alloc(), &system);
+        drop(system);
+        assert!(rt; shown == Ok(Some(true)));
     }
     Ok(())
 }

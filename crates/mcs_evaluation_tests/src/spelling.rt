@@ -43,8 +43,8 @@ fn spells(alloc: Global, text: &str, numbers: &Option<&[u64]>) -> Result<bool, M
 #[test]
 fn numbers_are_read(rt: HostRuntime) {
     for (text, numbers, number) in NUMBERS {
-        assert!(rt; spells(rt.alloc(), text, numbers) == Ok(true));
-        assert!(rt; read_number(text.as_bytes()) == *number);
+        let is_read = read_number(text.as_bytes()) == *number;
+        assert!(rt; is_read && spells(rt.alloc(), text, numbers) == Ok(true));
     }
 }
 
@@ -86,12 +86,13 @@ fn is_set(texts: &[Text], allowed: u64, bytes: &[u8], set: Option<u64>) -> bool 
 #[test]
 fn sets_are_read(rt: HostRuntime) -> Result<(), Fail> {
     let texts = texts_of(rt.alloc(), &["a", "ab", "b"])?;
+    let mut are_sets = true;
     for (text, of_all, of_the_last) in SETS {
-        assert!(rt;
-            is_set(&texts, 7, text.as_bytes(), *of_all)
-                && is_set(&texts, 6, text.as_bytes(), *of_the_last)
-        );
+        let bytes = text.as_bytes();
+        are_sets &= is_set(&texts, 7, bytes, *of_all) && is_set(&texts, 6, bytes, *of_the_last);
     }
+    drop(texts);
+    assert!(rt; are_sets);
     Ok(())
 }
 
@@ -171,7 +172,9 @@ fn push_each(text: &mut Text) -> Result<(), Memory> {
 #[test]
 fn sets_of_defaults_and_orders_are_written(rt: HostRuntime) -> Result<(), Fail> {
     let mut text = Text::new(rt.alloc());
-    push_each(&mut text)?;
-    assert!(rt; text.bytes() == b"{}{1}{2, 3} 3 9223372036854775807 2 10".as_slice());
+    let pushed = push_each(&mut text);
+    let is_right = text.bytes() == b"{}{1}{2, 3} 3 9223372036854775807 2 10".as_slice();
+    drop(text);
+    assert!(rt; pushed == Ok(()) && is_right);
     Ok(())
 }

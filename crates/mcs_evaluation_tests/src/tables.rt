@@ -78,6 +78,8 @@ fn supplied(alloc: Global, other: Vars) -> Result<Vec<Vars>, Memory> {
 #[test]
 fn answers_supply_their_parts(rt: HostRuntime) -> Result<(), Fail> {
     let supplied = supplied(rt.alloc(), Vars::one(0))?;
-    assert!(rt; are_numbered(&supplied, &[1, 0]));
+    let are_right = are_numbered(&supplied, &[1, 0]);
+    drop(supplied);
+    assert!(rt; are_right);
     Ok(())
 }

@@ -57,14 +57,16 @@ fn are_found_in_turn(
     requires few_defaults { length (defaults_of (map item_of items.now)) ≤ 10 }
 {
     let mut base = TheoryBase::new(alloc, items, atoms)?;
+    let mut are_right = true;
     for (number, wanted) in turns {
         let set = Active::numbered(*number);
-        let found = base.list_extensions(alloc, items, assumptions, set, beliefs, atoms)?;
-        if !are_numbered(&found, wanted) {
-            return Ok(false);
-        }
+        are_right &= match base.list_extensions(alloc, items, assumptions, set, beliefs, atoms) {
+            Ok(found) => are_numbered(&found, wanted),
+            Err(_) => false,
+        };
     }
-    Ok(true)
+    drop(base);
+    Ok(are_right)
 }
 
 /// Whether the first context, asked in turn for the first two formulas of the second one with some of the others, has

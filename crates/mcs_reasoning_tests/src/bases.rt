@@ -10,22 +10,24 @@ use std::alloc::Global;
 use std::test::Fail;
 
 /// Whether a search with a trace tells this of the base's clauses, which are those of the list. A trace is accepted.
-fn is_shown(
-    alloc: Global,
-    base: &mut ClauseBase,
-    whole: &Cnf,
-    has_model: bool,
-) -> Result<bool, Memory>
+fn is_shown(alloc: Global, base: &mut ClauseBase, whole: &Cnf, wanted: bool) -> Result<bool, Memory>
     ensures { base.new ≡ base.old }
 {
     match base.solve()? {
-        Outcome::Model(_values) => Ok(has_model),
+        Outcome::Model(_values) => Ok(wanted),
         Outcome::Refuted(trace) => {
             let is_right = check(alloc, whole, &trace);
             drop(trace);
-            Ok(is_right? && !has_model)
+            Ok(is_right? && !wanted)
         }
     }
+}
+
+/// Whether the base's clauses have an assignment.
+fn has_model(base: &mut ClauseBase) -> Result<bool, Memory>
+    ensures { base.new ≡ base.old }
+{
+    Ok(base.satisfy()?.is_some())
 }
 
 /// Whether a search with a trace and one without tell this of the base's clauses with some more, which are taken off
@@ -35,17 +37,17 @@ fn are_told(
     base: &mut ClauseBase,
     more: &Cnf,
     whole: &Cnf,
-    has_model: bool,
+    wanted: bool,
 ) -> Result<bool, Memory> {
     let (vars, count) = (base.vars(), base.count());
     if more.vars() < vars {
         return Ok(false);
     }
     base.append(more)?;
-    let is_shown = is_shown(alloc, base, whole, has_model);
-    let found = base.satisfy();
+    let is_shown = is_shown(alloc, base, whole, wanted);
+    let found = has_model(base);
     base.cut(vars, count);
-    Ok(found?.is_some() == has_model && is_shown?)
+    Ok(found? == wanted && is_shown?)
 }
 
 /// Clauses over the variables 1 to `vars`, and clauses that are added to them, with one variable more, and whether they
@@ -145,11 +147,11 @@ fn is_answered(
     base: &mut ClauseBase,
     asked: &Asked,
     more: &[&[i64]],
-    has_model: bool,
+    wanted: bool,
 ) -> Result<bool, Fail> {
     let own = list(alloc, u32::from(asked.vars) + 1, more)?;
     let whole = front_and(alloc, asked, more)?;
-    let is_right = are_told(alloc, base, &own, &whole, has_model);
+    let is_right = are_told(alloc, base, &own, &whole, wanted);
     drop((own, whole));
     Ok(is_right?)
 }
@@ -161,8 +163,8 @@ fn has(base: &ClauseBase, vars: u64, count: usize) -> bool {
 
 /// Whether the base of the first clauses answers each question, and then has these clauses alone.
 fn are_answered(alloc: Global, base: &mut ClauseBase, asked: &Asked) -> Result<bool, Fail> {
-    for (more, has_model) in asked.questions {
-        if !is_answered(alloc, base, asked, more, *has_model)? {
+    for (more, wanted) in asked.questions {
+        if !is_answered(alloc, base, asked, more, *wanted)? {
             return Ok(false);
         }
     }
@@ -194,9 +196,9 @@ fn is_right(alloc: Global, asked: &Asked) -> Result<bool, Fail> {
 
 #[test]
 fn each_question_is_answered_as_if_it_were_the_only_one(rt: HostRuntime) -> Result<(), Fail> {
-    assert!(rt; is_right(rt.alloc(), &ORDERED)?);
-    assert!(rt; is_right(rt.alloc(), &EITHER)?);
-    assert!(rt; is_right(rt.alloc(), &DEFINED)?);
+    for asked in [&ORDERED, &EITHER, &DEFINED] {
+        assert!(rt; is_right(rt.alloc(), asked)?);
+    }
     Ok(())
 }
 
@@ -248,19 +250,30 @@ fn disjunctions(alloc: Global, count: usize) -> Result<Cnf, Fail> {
     Ok(whole)
 }
 
-/// Whether a settled base of the clauses has an assignment exactly where it is said.
-fn is_settled_rightly(alloc: Global, whole: &Cnf, has_model: bool) -> Result<bool, Memory> {
-    let mut base = ClauseBase::of(alloc, whole)?;
+/// Whether the base, once it is settled, has an assignment exactly where it is said. Its clauses are those of the list.
+fn is_settled_rightly(
+    alloc: Global,
+    base: &mut ClauseBase,
+    whole: &Cnf,
+    wanted: bool,
+) -> Result<bool, Memory> {
     base.settle()?;
-    let is_shown = is_shown(alloc, &mut base, whole, has_model)?;
-    Ok(is_shown && base.satisfy()?.is_some() == has_model)
+    Ok(is_shown(alloc, base, whole, wanted)? && has_model(base)? == wanted)
+}
+
+/// Whether a settled base of the clauses has an assignment exactly where it is said.
+fn are_satisfied(alloc: Global, whole: &Cnf, wanted: bool) -> Result<bool, Memory> {
+    let mut base = ClauseBase::of(alloc, whole)?;
+    let is_right = is_settled_rightly(alloc, &mut base, whole, wanted);
+    drop(base);
+    is_right
 }
 
 #[test]
 fn disjunctions_have_a_model_until_all_are_there(rt: HostRuntime) -> Result<(), Fail> {
     for count in 0..=DISJUNCTIONS.len() {
         let whole = disjunctions(rt.alloc(), count)?;
-        let is_right = is_settled_rightly(rt.alloc(), &whole, count < DISJUNCTIONS.len());
+        let is_right = are_satisfied(rt.alloc(), &whole, count < DISJUNCTIONS.len());
         drop(whole);
         assert!(rt; is_right?);
     }
@@ -276,10 +289,9 @@ fn is_cut(base: &mut ClauseBase) -> Result<bool, Memory> {
     }
     base.cut(vars, 3);
     base.add(&[-3])?;
-    let denied = base.satisfy()?;
+    let is_denied = has_model(base)?;
     base.add(&[1])?;
-    let refuted = base.satisfy()?;
-    Ok(denied.is_some() && refuted.is_none() && has(base, 5, 5))
+    Ok(is_denied && !has_model(base)? && has(base, 5, 5))
 }
 
 #[test]
@@ -292,11 +304,10 @@ fn a_settled_base_is_cut(rt: HostRuntime) -> Result<(), Fail> {
 }
 
 /// Whether the base has one variable and so many clauses, which have an assignment exactly where it is said.
-fn is_told(base: &mut ClauseBase, count: usize, has_model: bool) -> Result<bool, Memory>
+fn is_told(base: &mut ClauseBase, count: usize, wanted: bool) -> Result<bool, Memory>
     ensures { base.new ≡ base.old }
 {
-    let found = base.satisfy()?;
-    Ok(found.is_some() == has_model && has(base, 1, count))
+    Ok(has_model(base)? == wanted && has(base, 1, count))
 }
 
 /// Whether a base without variables and clauses is told rightly as a variable, the clause that it is true and the one

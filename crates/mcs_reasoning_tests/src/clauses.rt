@@ -42,9 +42,10 @@ fn are_inserted(alloc: Global, literals: &[i64], expected: &[i64]) -> Result<boo
 
 #[test]
 fn literals_stand_in_order(rt: HostRuntime) {
-    assert!(rt; are_told(rt.alloc(), &ORDERED) == Ok(true));
-    assert!(rt; Clause::empty(rt.alloc()).is_empty());
-    assert!(rt; are_inserted(rt.alloc(), &[2, -1, 1, 2], &[1, -1, 2]) == Ok(true));
+    let are_told = are_told(rt.alloc(), &ORDERED) == Ok(true);
+    let is_empty = Clause::empty(rt.alloc()).is_empty();
+    let are_inserted = are_inserted(rt.alloc(), &[2, -1, 1, 2], &[1, -1, 2]) == Ok(true);
+    assert!(rt; are_told && is_empty && are_inserted);
 }
 
 static RESOLVENTS: [(&[i64], &[i64], Option<&[i64]>); 3] = [
@@ -87,6 +88,7 @@ fn clause_lists_grow_and_are_cut(rt: HostRuntime) {
     let is_pushed = cnf.push(Clause::empty(rt.alloc())).is_ok();
     let count = cnf.clauses().len();
     cnf.cut(0, 0);
-    assert!(rt; is_pushed && number == 1 && count == 1);
-    assert!(rt; cnf.vars() == 0 && cnf.clauses().is_empty());
+    let is_cut = cnf.vars() == 0 && cnf.clauses().is_empty();
+    drop(cnf);
+    assert!(rt; is_pushed && number == 1 && count == 1 && is_cut);
 }

@@ -73,7 +73,7 @@ fn are_answered(
     assumptions: &[Assumption<'_>],
     goals: &[&Formula],
     atoms: &[Name],
-) -> Result<bool, Memory>
+) -> bool
     requires few { length atoms.now ≤ 64 }
     requires few_goals { length goals.now ≤ 64 }
     requires different { has_twins atoms.now ≡ false }
@@ -84,7 +84,7 @@ fn are_answered(
     let mut found = Consequences::new(alloc);
     let mut are_right = true;
     for question in QUESTIONS {
-        let is_right = are_told(
+        let told = are_told(
             alloc,
             known,
             &mut found,
@@ -92,10 +92,11 @@ fn are_answered(
             goals,
             atoms,
             *question,
-        )?;
-        are_right = are_right && is_right;
+        );
+        are_right &= told == Ok(true);
     }
-    Ok(are_right)
+    drop(found);
+    are_right
 }
 
 /// The same, of the formulas of a text.
@@ -129,12 +130,14 @@ fn are_kept(alloc: Global, formulas: &[Formula], atoms: &[Name]) -> Result<bool,
     let mut known = known?;
     let answered = are_answered(alloc, &mut known, &assumptions, &[q, t, either], atoms);
     drop(known);
-    answered
+    Ok(answered)
 }
 
 #[test]
 fn what_was_found_is_told_again(rt: HostRuntime) -> Result<(), Fail> {
     let system = system_of(rt.alloc(), FORMULAS.as_bytes())?;
-    assert!(rt; are_kept(rt.alloc(), formulas_of(&system), atoms_of(&system)) == Ok(true));
+    let are_kept = are_kept(rt.alloc(), formulas_of(&system), atoms_of(&system));
+    drop(system);
+    assert!(rt; are_kept == Ok(true));
     Ok(())
 }

@@ -74,7 +74,9 @@ fn are_told(alloc: Global, formulas: &[Formula], atoms: &[Name]) -> Result<bool,
 #[test]
 fn goals_follow_or_are_refuted(rt: HostRuntime) -> Result<(), Fail> {
     let system = system_of(rt.alloc(), b"context c classical { a. a -> b. b. b -> c. }")?;
-    assert!(rt; are_told(rt.alloc(), formulas_of(&system), atoms_of(&system)) == Ok(true));
+    let told = are_told(rt.alloc(), formulas_of(&system), atoms_of(&system));
+    drop(system);
+    assert!(rt; told == Ok(true));
     Ok(())
 }
 

@@ -77,7 +77,9 @@ fn each_connective_has_its_clauses(rt: HostRuntime) -> Result<(), Fail> {
     let system = system_of(rt.alloc(), EACH)?;
     let (formulas, atoms) = (formulas_of(&system), atoms_of(&system));
     let told = have_clauses(rt.alloc(), formulas, atoms, 10, &CLAUSES_OF_EACH);
-    assert!(rt; told == Ok(true) && atoms.len() == 2 && !are_over(&atoms[1..], formulas));
+    let need_both = atoms.len() == 2 && !are_over(&atoms[1..], formulas);
+    drop(system);
+    assert!(rt; told == Ok(true) && need_both);
     Ok(())
 }
 
@@ -100,7 +102,9 @@ fn has_twins(system: &System) -> bool {
 #[test]
 fn names_that_are_the_same_are_told(rt: HostRuntime) -> Result<(), Fail> {
     let system = system_of(rt.alloc(), b"context c program { x | x. }")?;
-    assert!(rt; has_twins(&system));
+    let has_twins = has_twins(&system);
+    drop(system);
+    assert!(rt; has_twins);
     Ok(())
 }
 
@@ -151,12 +155,11 @@ fn what_contradicts_itself_entails_everything(rt: HostRuntime) -> Result<(), Fai
     let system = system_of(rt.alloc(), b"context c classical { p. q. }")?;
     let (formulas, atoms) = (formulas_of(&system), atoms_of(&system));
     let told = are_refuted(rt.alloc(), formulas, atoms);
-    assert!(rt;
-        told == Ok(true)
-            && formulas.len() == 2
-            && atoms.len() == 2
-            && !is_over(&atoms[1..], &formulas[0])
-    );
+    let needs_first = formulas.len() == 2
+        && atoms.len() == 2
+        && !is_over(&atoms[1..], &formulas[0]);
+    drop(system);
+    assert!(rt; told == Ok(true) && needs_first);
     Ok(())
 }
 
@@ -180,7 +183,9 @@ fn formulas_are_over_the_atoms_of_all_their_parts(rt: HostRuntime) -> Result<(),
         b"context c classical { p & q. p | ~q. p -> q. p <-> q. }",
     )?;
     let (formulas, atoms) = (formulas_of(&system), atoms_of(&system));
-    assert!(rt; formulas.len() == 4 && need_both(formulas, atoms));
+    let need_both = formulas.len() == 4 && need_both(formulas, atoms);
+    drop(system);
+    assert!(rt; need_both);
     Ok(())
 }
 
@@ -216,8 +221,15 @@ fn deep_formulas_have_clauses(rt: HostRuntime) -> Result<(), Fail> {
     let system = system_of(rt.alloc(), &text);
     drop(text);
     let system = system?;
-    let (formulas, atoms) = (formulas_of(&system), atoms_of(&system));
-    assert!(rt; has_size(rt.alloc(), formulas, atoms, 513, 1025) == Ok(true));
+    let told = has_size(
+        rt.alloc(),
+        formulas_of(&system),
+        atoms_of(&system),
+        513,
+        1025,
+    );
+    drop(system);
+    assert!(rt; told == Ok(true));
     Ok(())
 }
 

@@ -58,6 +58,8 @@ fn two_hold(alloc: Global, formulas: &[Formula], atoms: &[Name]) -> bool {
 #[test]
 fn formulas_are_satisfied_or_refuted(rt: HostRuntime) -> Result<(), Fail> {
     let system = system_of(rt.alloc(), b"context c classical { p | q. ~p. ~q. }")?;
-    assert!(rt; two_hold(rt.alloc(), formulas_of(&system), atoms_of(&system)));
+    let two_hold = two_hold(rt.alloc(), formulas_of(&system), atoms_of(&system));
+    drop(system);
+    assert!(rt; two_hold);
     Ok(())
 }

@@ -7,7 +7,7 @@ ghost use Rattle.mcs_sat.specs.Solvers.{HasNoValue, trues};
 use crate::searches::list;
 use mcs_base::Memory;
 use mcs_sat::Solver;
-use mcs_trace::{Step, is_literal};
+use mcs_trace::is_literal;
 use std::alloc::Global;
 use std::test::Fail;
 
@@ -149,8 +149,13 @@ struct Lesson {
     after: &'static [(i64, Option<bool>)],
 }
 
-/// What is learnt, and its number, where the decision of the literal leads to a conflict.
-fn learn(solver: &mut Solver, vars: u64, literal: i64) -> Result<Option<(u64, Step)>, Memory>
+/// Whether the lesson's clause is learnt, where the decision of the literal leads to a conflict.
+fn learn(
+    solver: &mut Solver,
+    vars: u64,
+    literal: i64,
+    lesson: &Lesson,
+) -> Result<Option<bool>, Memory>
     requires { vars ≡ solver.old.vars }
     ensures { solver.new.vars ≡ solver.old.vars }
 {
@@ -162,8 +167,10 @@ fn learn(solver: &mut Solver, vars: u64, literal: i64) -> Result<Option<(u64, St
         return Ok(None);
     };
     let step = solver.analyse(conflict)?;
-    let number = solver.learn(&step)?;
-    Ok(Some((number, step)))
+    let is_right = step.clause.literals() == lesson.learnt;
+    let number = solver.learn(&step);
+    drop(step);
+    Ok(Some(number? == lesson.number && is_right))
 }
 
 /// Whether just the last decision leads to a conflict, from which the lesson's clause is learnt.
@@ -172,11 +179,8 @@ fn is_learnt(solver: &mut Solver, vars: u64, lesson: &Lesson) -> Result<bool, Me
     ensures { solver.new.vars ≡ solver.old.vars }
 {
     for (index, literal) in lesson.decisions.iter().enumerate() {
-        if let Some((number, step)) = learn(solver, vars, *literal)? {
-            let is_last = index + 1 == lesson.decisions.len();
-            let is_right = number == lesson.number && step.clause.literals() == lesson.learnt;
-            drop(step);
-            return Ok(is_last && is_right);
+        if let Some(is_right) = learn(solver, vars, *literal, lesson)? {
+            return Ok(is_right && index + 1 == lesson.decisions.len());
         }
     }
     Ok(false)

@@ -172,8 +172,9 @@ fn fits_alone(alloc: Global, of: Listed, values: u64, marks: u8) -> Result<bool,
 
 #[test]
 fn a_row_fits_its_own_state(rt: HostRuntime) {
-    assert!(rt; fits_alone(rt.alloc(), MARKED, 0, 0b1) == Ok(true));
-    assert!(rt; fits_alone(rt.alloc(), MARKED, 1, 0) == Ok(true));
+    for (values, marks) in [(0, 0b1), (1, 0)] {
+        assert!(rt; fits_alone(rt.alloc(), MARKED, values, marks) == Ok(true));
+    }
 }
 
 /// Whether a table without the variables that are not of the other's scope is the other.
@@ -184,23 +185,61 @@ fn leaves(alloc: Global, of: Listed, wanted: Listed) -> Result<bool, Memory> {
     is_listed(alloc, &left?, wanted)
 }
 
+/// A table, and what is left of it without the variables that are not of the other's scope: the minimal rows.
+static LEFT_ROWS: [(Listed, Listed); 2] = [
+    (
+        (0b11, &[(0b01, 0b1), (0b11, 0b11), (0b11, 0b100), (0b10, 0)]),
+        (0b1, &[(1, 0b1), (1, 0b100), (0, 0)]),
+    ),
+    // Only fewer marks cover.
+    (
+        (
+            0b11,
+            &[
+                (0b10, 0b0011),
+                (0b10, 0b0101),
+                (0b10, 0b0110),
+                (0b10, 0b1000),
+                (0b10, 0b1001),
+                (0b10, 0b0111),
+                (0b10, 0b1110_0000),
+                (0b01, 0b0010),
+                (0b01, 0b0110),
+                (0b01, 0b1001),
+                (0b01, 0b0101),
+            ],
+        ),
+        (
+            0b11,
+            &[
+                (0b10, 0b1000),
+                (0b10, 0b0011),
+                (0b10, 0b0101),
+                (0b10, 0b0110),
+                (0b10, 0b1110_0000),
+                (0b01, 0b0010),
+                (0b01, 0b0101),
+                (0b01, 0b1001),
+            ],
+        ),
+    ),
+];
+
 #[test]
 fn forgetting_keeps_minimal_rows(rt: HostRuntime) {
-    let of: Listed = (0b11, &[(0b01, 0b1), (0b11, 0b11), (0b11, 0b100), (0b10, 0)]);
-    let wanted: Listed = (0b1, &[(1, 0b1), (1, 0b100), (0, 0)]);
-    assert!(rt; leaves(rt.alloc(), of, wanted) == Ok(true));
+    for (of, wanted) in &LEFT_ROWS {
+        assert!(rt; leaves(rt.alloc(), *of, *wanted) == Ok(true));
+    }
 }
 
 /// Whether, of some states, those are kept that agree with a row, on two variables of which the rows have one.
 fn are_kept(alloc: Global) -> Result<bool, Memory> {
     let rows = table(alloc, (0b011, &[(0b01, 0), (0b11, 0b1), (0b11, 0b10)]))?;
     let set = Vars::numbered(0b110);
-    let projections = projections_of(alloc, &rows, set)?;
-    let states = [
-        Vars::numbered(0b001),
-        Vars::numbered(0b010),
-        Vars::numbered(0b100),
-    ];
+    let projections = projections_of(alloc, &rows, set);
+    drop(rows);
+    let projections = projections?;
+    let states = [0b001, 0b010, 0b100].map(Vars::numbered);
     let kept = states_with(alloc, &states, &projections, set)?;
     Ok(projections.len() == 2 && are_states(&kept, &[0b001, 0b010]))
 }
@@ -216,38 +255,4 @@ fn marks_hold_the_sets_within_them(rt: HostRuntime) {
     let held = holds_one(sets[0].with(0), &sets) && holds_one(sets[1], &sets);
     let others = holds_one(Marks::one(0).with(1), &sets) || holds_one(Marks::empty(), &sets);
     assert!(rt; held && !others && !holds_one(sets[1], &[]));
-}
-
-#[test]
-fn only_fewer_marks_cover(rt: HostRuntime) {
-    let of: Listed = (
-        0b11,
-        &[
-            (0b10, 0b0011),
-            (0b10, 0b0101),
-            (0b10, 0b0110),
-            (0b10, 0b1000),
-            (0b10, 0b1001),
-            (0b10, 0b0111),
-            (0b10, 0b1110_0000),
-            (0b01, 0b0010),
-            (0b01, 0b0110),
-            (0b01, 0b1001),
-            (0b01, 0b0101),
-        ],
-    );
-    let wanted: Listed = (
-        0b11,
-        &[
-            (0b10, 0b1000),
-            (0b10, 0b0011),
-            (0b10, 0b0101),
-            (0b10, 0b0110),
-            (0b10, 0b1110_0000),
-            (0b01, 0b0010),
-            (0b01, 0b0101),
-            (0b01, 0b1001),
-        ],
-    );
-    assert!(rt; leaves(rt.alloc(), of, wanted) == Ok(true));
 }

@@ -55,11 +55,13 @@ fn step_comes_next(alloc: Global, cnf: &Cnf) -> Result<bool, Memory> {
 #[test]
 fn two_units_are_refuted_by_one_step(rt: HostRuntime) -> Result<(), Fail> {
     let cnf = list(rt.alloc(), 1, &[&[1], &[-1]])?;
-    assert!(rt; cnf.vars() == 1 && cnf.clauses().len() == 2);
-    assert!(rt; step_comes_next(rt.alloc(), &cnf) == Ok(true));
+    let mut are_right = cnf.vars() == 1 && cnf.clauses().len() == 2;
+    are_right &= step_comes_next(rt.alloc(), &cnf) == Ok(true);
     for (chains, accepted) in &TRACES {
-        assert!(rt; is_told(rt.alloc(), &cnf, chains, *accepted) == Ok(true));
+        are_right &= is_told(rt.alloc(), &cnf, chains, *accepted) == Ok(true);
     }
+    drop(cnf);
+    assert!(rt; are_right);
     accepted_traces_refute();
     Ok(())
 }

@@ -7,16 +7,6 @@ use std::alloc::Global;
 use std::sync::Wait;
 use std::thread::Threads;
 
-/// Whether this is the whole listing of the system of these rows, and nothing is noted.
-fn is_listed<R: Threads + Wait + Sync>(
-    rt: &R,
-    alloc: Global,
-    rows: &[Rows],
-    listing: &str,
-) -> Result<bool, Memory> {
-    made_ends(rt, alloc, rows, (0, listing.as_bytes(), ""))
-}
-
 /// Four times over, that each atom up to number 64 follows from the one before: 253 items with the first atom.
 const CHAIN: [Rows; 6] = [
     ("context c1 classical { a1.", 0, 1),
@@ -42,13 +32,9 @@ const PROGRAM: [Rows; 3] = [
     ),
 ];
 
-#[test]
-fn what_follows_in_64_steps_is_believed(rt: HostRuntime) {
-    let listing =
-        "mcs 1: 2 contexts, 1 rules, 1 variables\nequilibrium 1: {c1:a64} applicable {r1}\nconsistent\nend: 1 equilibria, need 2\n";
-    assert!(rt; is_listed(&rt, rt.alloc(), &CHAIN, listing) == Ok(true));
-    assert!(rt; is_listed(&rt, rt.alloc(), &PROGRAM, listing) == Ok(true));
-}
+/// What follows in 64 steps is believed.
+const LAST_ATOM: &str =
+    "mcs 1: 2 contexts, 1 rules, 1 variables\nequilibrium 1: {c1:a64} applicable {r1}\nconsistent\nend: 1 equilibria, need 2\n";
 
 /// That each of four pigeons sits in one of three holes and no two in one, and two rules that read whether the first
 /// one sits in the first.
@@ -96,17 +82,13 @@ const FIVE_IN_FIVE: [Rows; 17] = [
     ),
 ];
 
-#[test]
-fn pigeons_need_holes(rt: HostRuntime) {
-    // Nothing holds of four pigeons in three holes, so everything is believed.
-    let all =
-        "mcs 1: 2 contexts, 2 rules, 2 variables\nequilibrium 1: {c:p0_0, c:~p0_0} applicable {r, s}\nconsistent\nend: 1 equilibria, need 2\n";
-    assert!(rt; is_listed(&rt, rt.alloc(), &FOUR_IN_THREE, all) == Ok(true));
-    // Five pigeons fit in five holes, and the first may sit anywhere.
-    let none =
-        "mcs 1: 2 contexts, 2 rules, 2 variables\nequilibrium 1: {} applicable {}\nconsistent\nend: 1 equilibria, need 2\n";
-    assert!(rt; is_listed(&rt, rt.alloc(), &FIVE_IN_FIVE, none) == Ok(true));
-}
+/// Nothing holds of four pigeons in three holes, so everything is believed.
+const BOTH_SEATS: &str =
+    "mcs 1: 2 contexts, 2 rules, 2 variables\nequilibrium 1: {c:p0_0, c:~p0_0} applicable {r, s}\nconsistent\nend: 1 equilibria, need 2\n";
+
+/// Five pigeons fit in five holes, and the first may sit anywhere.
+const NO_SEAT: &str =
+    "mcs 1: 2 contexts, 2 rules, 2 variables\nequilibrium 1: {} applicable {}\nconsistent\nend: 1 equilibria, need 2\n";
 
 /// Each of the eight variables supports itself and nothing else, so every set of them is an equilibrium.
 const EIGHT_FREE: &str = "context c classical {}
@@ -144,9 +126,10 @@ fn are_all_sets(written: &[u8]) -> bool {
 
 fn are_all_sets_listed<R: Threads + Wait + Sync>(rt: &R, alloc: Global) -> Result<bool, Memory> {
     let mut sink = sink_of(alloc)?;
-    let status = status_of(rt, alloc, JOB, &[("f", EIGHT_FREE.as_bytes())], &mut sink)?;
+    let status = status_of(rt, alloc, JOB, &[("f", EIGHT_FREE.as_bytes())], &mut sink);
     let (is_noted, are_written) = (!sink.noted().is_empty(), are_all_sets(sink.written()));
-    Ok((status == 0) & !is_noted & are_written)
+    drop(sink);
+    Ok((status == Ok(0)) & !is_noted & are_written)
 }
 
 #[test]
@@ -165,9 +148,22 @@ const WIDE: [Rows; 3] = [
 const WIDE_LISTING: &str =
     "mcs 1: 64 contexts, 64 rules, 2 variables\nequilibrium 1: {n0:x11, n63:y} applicable {r0, r1, r2, r3, r4, r5, r6, r7, r8, r9, r10, r11, r12, r13, r14, r15, r16, r17, r18, r19, r20, r21, r22, r23, r24, r25, r26, r27, r28, r29, r30, r31, r32, r33, r34, r35, r36, r37, r38, r39, r40, r41, r42, r43, r44, r45, r46, r47, r48, r49, r50, r51, r52, r53, r54, r55, r56, r57, r58, r59, r60, r61, r62, r63}\nequilibrium 2: {} applicable {}\nconsistent\nend: 2 equilibria, need 117\n";
 
+/// Systems at the bounds, and their whole listings.
+const LISTINGS: &[(&[Rows], &str)] = &[
+    (&CHAIN, LAST_ATOM),
+    (&PROGRAM, LAST_ATOM),
+    (&FOUR_IN_THREE, BOTH_SEATS),
+    (&FIVE_IN_FIVE, NO_SEAT),
+    // As many contexts and rules as may be.
+    (&WIDE, WIDE_LISTING),
+];
+
 #[test]
-fn as_many_contexts_and_rules_as_may_be_are_listed(rt: HostRuntime) {
-    assert!(rt; is_listed(&rt, rt.alloc(), &WIDE, WIDE_LISTING) == Ok(true));
+fn systems_at_the_bounds_are_listed(rt: HostRuntime) {
+    for (rows, listing) in LISTINGS {
+        let end = (0, listing.as_bytes(), "");
+        assert!(rt; made_ends(&rt, rt.alloc(), rows, end) == Ok(true));
+    }
 }
 
 /// Contexts in a ring, each of which takes over what the one before it believes.
@@ -207,6 +203,7 @@ fn is_ring_listed<R: Threads + Wait + Sync>(
 
 #[test]
 fn rings_of_contexts_are_listed(rt: HostRuntime) {
-    assert!(rt; is_ring_listed(&rt, rt.alloc(), 3) == Ok(true));
-    assert!(rt; is_ring_listed(&rt, rt.alloc(), 64) == Ok(true));
+    for count in [3, 64] {
+        assert!(rt; is_ring_listed(&rt, rt.alloc(), count) == Ok(true));
+    }
 }

@@ -62,8 +62,9 @@ fn is_called<R: Threads + Wait + Sync>(
     let mut sink = sink_of(alloc)?;
     let gate = Counts::new();
     let files: [(&str, &[u8]); 1] = [("f", FORBIDDEN.as_bytes())];
-    let ended = status_with(rt, alloc, words, &files, &mut sink, &gate)?;
-    Ok(ended == status && gate.counted() == counted)
+    let ended = status_with(rt, alloc, words, &files, &mut sink, &gate);
+    drop(sink);
+    Ok(ended == Ok(status) && gate.counted() == counted)
 }
 
 /// Words, the status with which they end, and the questions. Where the budget does not suffice for a context, nothing

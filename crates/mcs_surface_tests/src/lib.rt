@@ -7,6 +7,8 @@ mod bounds;
 #[cfg(test)]
 mod budgets;
 #[cfg(test)]
+mod crowd;
+#[cfg(test)]
 mod equilibria;
 #[cfg(test)]
 mod gates;

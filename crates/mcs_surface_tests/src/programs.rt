@@ -2,36 +2,42 @@
 
 use crate::runs::{End, SELF_SUPPORT, SELF_SUPPORT_LISTING, shelf_of, sink_of, words_of};
 use mcs_base::Memory;
-use mcs_ports::IdleGate;
+use mcs_ports::{IdleGate, MemoryShelf, MemorySink};
 use mcs_top::run_program;
 use std::alloc::Global;
 use std::sync::Wait;
 use std::thread::Threads;
 use std::{env, io};
 
-/// Whether the program ends so on these words, over a file `f`.
+/// A shelf with a file `f`, and a sink.
+fn devices_of(alloc: Global) -> Result<(MemoryShelf, MemorySink), Memory> {
+    let shelf = shelf_of(alloc, &[("f", SELF_SUPPORT.as_bytes())])?;
+    Ok((shelf, sink_of(alloc)?))
+}
+
+/// Whether the program ends so on these words, over these devices.
 fn is_run<R: Threads + Wait + Sync>(
     rt: &R,
     alloc: Global,
     words: io::Result<env::Args>,
+    (mut shelf, mut sink): (MemoryShelf, MemorySink),
     (number, written, noted): End<'_>,
-) -> Result<bool, Memory> {
-    let mut shelf = shelf_of(alloc, &[("f", SELF_SUPPORT.as_bytes())])?;
-    let mut sink = sink_of(alloc)?;
+) -> bool {
     let ended = run_program(rt, alloc, words, &mut shelf, &mut sink, &IdleGate);
     let (is_written, is_noted) = (sink.written() == written, sink.noted() == noted.as_bytes());
-    Ok((ended == number) & is_written & is_noted)
+    (ended == number) & is_written & is_noted
 }
 
-/// Whether it ends so on the words of the line.
+/// Whether it ends so on the words of the line, over a file `f`.
 fn is_line_run<R: Threads + Wait + Sync>(
     rt: &R,
     alloc: Global,
     line: &str,
     end: End<'_>,
 ) -> Result<bool, Memory> {
+    let devices = devices_of(alloc)?;
     let words = words_of(alloc, line)?;
-    is_run(rt, alloc, Ok(words.into_iter()), end)
+    Ok(is_run(rt, alloc, Ok(words.into_iter()), devices, end))
 }
 
 const USAGE: &str = "mcs: usage: mcs JOB FILE [REPORT] [--budget N] [--workers N] [--proof]\n";
@@ -52,7 +58,8 @@ fn is_unheard<R: Threads + Wait + Sync>(
     kind: io::ErrorKind,
     end: End<'_>,
 ) -> Result<bool, Memory> {
-    is_run(rt, alloc, Err(io::Error::from(kind)), end)
+    let devices = devices_of(alloc)?;
+    Ok(is_run(rt, alloc, Err(io::Error::from(kind)), devices, end))
 }
 
 #[test]

@@ -70,12 +70,6 @@ const LARGE: [Rows; 3] = [
     ("p. }", 0, 1),
 ];
 
-#[test]
-fn a_large_formula_is_refused(rt: HostRuntime) {
-    let noted = "mcs: refused: F5 at 535: formula_size 512\n";
-    assert!(rt; made_ends(&rt, rt.alloc(), &LARGE, (3, b"", noted)) == Ok(true));
-}
-
 /// Thirteen rules into one context, numbered with two digits.
 const MANY_RULES: [Rows; 3] = [
     ("context c1 program {}", 0, 1),
@@ -83,8 +77,18 @@ const MANY_RULES: [Rows; 3] = [
     ("\nbridge r#: c1:a.", 10, 14),
 ];
 
+/// Texts beyond a limit, and what is noted of them.
+const BEYOND: &[(&[Rows], &str)] = &[
+    (&LARGE, "mcs: refused: F5 at 535: formula_size 512\n"),
+    (
+        &MANY_RULES,
+        "mcs: refused: F5 at 250: rules_per_context 12\n",
+    ),
+];
+
 #[test]
-fn too_many_rules_into_one_context_are_refused(rt: HostRuntime) {
-    let noted = "mcs: refused: F5 at 250: rules_per_context 12\n";
-    assert!(rt; made_ends(&rt, rt.alloc(), &MANY_RULES, (3, b"", noted)) == Ok(true));
+fn texts_beyond_a_limit_are_refused(rt: HostRuntime) {
+    for (rows, noted) in BEYOND {
+        assert!(rt; made_ends(&rt, rt.alloc(), rows, (3, b"", noted)) == Ok(true));
+    }
 }

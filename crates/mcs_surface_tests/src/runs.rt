@@ -67,8 +67,8 @@ pub fn run_with<G: Gate + Sync, R: Threads + Wait + Sync>(
     sink: &mut MemorySink,
     gate: &G,
 ) -> Result<(u8, Trail), Memory> {
-    let mut shelf = shelf_of(alloc, files)?;
     let words = words_of(alloc, words)?;
+    let mut shelf = shelf_of(alloc, files)?;
     let (status, trail) = run(rt, alloc, &words, &mut shelf, sink, gate);
     Ok((status.number(), trail))
 }
@@ -82,7 +82,9 @@ pub fn status_with<G: Gate + Sync, R: Threads + Wait + Sync>(
     sink: &mut MemorySink,
     gate: &G,
 ) -> Result<u8, Memory> {
-    Ok(run_with(rt, alloc, words, files, sink, gate)?.0)
+    let (status, trail) = run_with(rt, alloc, words, files, sink, gate)?;
+    drop(trail);
+    Ok(status)
 }
 
 /// What the words give over these files: the status by its number.
@@ -108,9 +110,10 @@ pub fn ends<R: Threads + Wait + Sync>(
     (status, written, noted): End<'_>,
 ) -> Result<bool, Memory> {
     let mut sink = sink_of(alloc)?;
-    let ended = status_of(rt, alloc, words, files, &mut sink)?;
+    let ended = status_of(rt, alloc, words, files, &mut sink);
     let (is_written, is_noted) = (sink.written() == written, sink.noted() == noted.as_bytes());
-    Ok((ended == status) & is_written & is_noted)
+    drop(sink);
+    Ok((ended == Ok(status)) & is_written & is_noted)
 }
 
 /// Whether the equilibria of a file of these rows end so.

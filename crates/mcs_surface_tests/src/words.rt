@@ -69,7 +69,11 @@ fn is_told(alloc: Global, job: &Job, wanted: &str) -> Result<bool, Memory> {
 fn asks_for(alloc: Global, line: &str, wanted: &str) -> Result<bool, Memory> {
     let words = words_of(alloc, line)?;
     match read_words(alloc, &words) {
-        Ok(job) => is_told(alloc, &job, wanted),
+        Ok(job) => {
+            let is_told = is_told(alloc, &job, wanted);
+            drop(job);
+            is_told
+        }
         Err(_) => Ok(false),
     }
 }

@@ -39,18 +39,20 @@ fn is_same<R: Threads + Wait + Sync>(
     text: &str,
     (status, written, noted): (u8, &[u8], &str),
 ) -> Result<bool, Memory> {
+    let words: String = format!(in alloc; "{words} --workers {workers}")?;
+    let mut sink = sink_of(alloc)?;
     let gate = Spins {
         seed: AtomicU64::new(workers as u64),
     };
-    let mut sink = sink_of(alloc)?;
-    let words: String = format!(in alloc; "{words} --workers {workers}")?;
     let files: [(&str, &[u8]); 1] = [("f", text.as_bytes())];
-    let ended = status_with(rt, alloc, words.as_str(), &files, &mut sink, &gate)?;
-    Ok(ended == status && sink.written() == written && sink.noted() == noted.as_bytes())
+    let ended = status_with(rt, alloc, words.as_str(), &files, &mut sink, &gate);
+    let (is_written, is_noted) = (sink.written() == written, sink.noted() == noted.as_bytes());
+    drop(sink);
+    Ok((ended == Ok(status)) & is_written & is_noted)
 }
 
 /// Whether they end so with each number of workers.
-fn are_same<R: Threads + Wait + Sync>(
+pub(crate) fn are_same<R: Threads + Wait + Sync>(
     rt: &R,
     alloc: Global,
     words: &str,
@@ -195,8 +197,9 @@ impl Traced {
         let mut sink = sink_of(alloc)?;
         let files: [(&str, &[u8]); 1] = [("f", self.text.as_bytes())];
         let (status, trail) = run_with(rt, alloc, self.words, &files, &mut sink, &IdleGate)?;
-        let is_total = total_of(&trail) == self.total;
-        Ok(status == self.status && have_got(&trail, self.got) && is_total)
+        let is_right = have_got(&trail, self.got) && total_of(&trail) == self.total;
+        drop((trail, sink));
+        Ok(status == self.status && is_right)
     }
 }
 
@@ -213,7 +216,9 @@ fn is_spent_shown<R: Threads + Wait + Sync>(rt: &R, alloc: Global) -> Result<boo
     let files: [(&str, &[u8]); 1] = [("f", TOLD.as_bytes())];
     let words = "solve f --budget 2 --workers 2";
     let (status, trail) = run_with(rt, alloc, words, &files, &mut sink, &IdleGate)?;
-    Ok(status == 4 && trail.wires.len() == 2 && total_of(&trail) == Some(3))
+    let is_right = trail.wires.len() == 2 && total_of(&trail) == Some(3);
+    drop((trail, sink));
+    Ok(status == 4 && is_right)
 }
 
 #[test]
@@ -274,11 +279,10 @@ fn met<R: Threads + Wait + Sync>(
     let gate = Meeting::new(turns);
     let mut sink = sink_of(alloc)?;
     let files: [(&str, &[u8]); 1] = [("f", TWO.as_bytes())];
-    let status = status_with(rt, alloc, words, &files, &mut sink, &gate)?;
-    if status != 0 || sink.written() != TWO_LISTING.as_bytes() {
-        return Ok(None);
-    }
-    Ok(Some(gate.met.load(Ordering::SeqCst)))
+    let status = status_with(rt, alloc, words, &files, &mut sink, &gate);
+    let is_listed = status == Ok(0) && sink.written() == TWO_LISTING.as_bytes();
+    drop(sink);
+    Ok(is_listed.then_some(gate.met.load(Ordering::SeqCst)))
 }
 
 #[test]

@@ -273,6 +273,7 @@ fn take_some<R: Wait>(rt: &R, taken: Taken, count: u32) -> Taken
     for _ in 0..count {
         let letter = inbox.take(rt);
         count_level(&mut counts, &letter);
+        drop(letter);
     }
     Taken { inbox, counts }
 }

@@ -77,6 +77,7 @@ fn send_two_take_one<R: Wait>(
     } = two_addresses(alloc, plan)?;
     send_last(rt, &mut address, &mut one);
     send_last(rt, &mut other, &mut two);
+    drop((one, two));
     drop(inbox.take(rt));
     address.join(other);
     Ok(Some(settle(rt, alloc, address, inbox)?))
