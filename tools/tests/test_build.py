@@ -96,17 +96,39 @@ class Build(Ground):
         for path in ("./crates/tests", "./crates/beside", "./crates/low/out", "./crates/low/must-fail"):
             self.assertNotIn(path, files)
 
-    def test_large_crates_come_first(self):
+    def test_large_crates_have_runs_beside_the_whole_one(self):
         for name in ("mcs_system", "mcs_sat"):
             self.file(self.made("crates", name, "src", "lib.rt"), "\n")
-        self.file(self.inside("crates.txt"), "mcs_system:\nmcs_sat: mcs_system\nmcs: mcs_sat\n")
-        kit = 'for name in ${2:-mcs_system mcs_sat mcs}; do echo "== $name"; echo "rt: $name proved"; done\n'
+        self.file(self.inside("crates.txt"), "low:\nmcs_system: low\nmcs_sat: low\nmcs: mcs_sat mcs_system\n")
+        # The whole run waits for the two beside it, and each of these says how it went only after it has said all else.
+        kit = """
+case "$2" in
+"") while [ ! -f "$room/mcs_system" ] || [ ! -f "$room/mcs_sat" ]; do sleep 0.1; done
+    for name in low mcs_system mcs_sat; do
+        echo "rt: $name: another run on this machine is proving the same; waiting for it"
+        echo "rt: $name is kept: an earlier run on this machine proved the same"
+    done
+    printf '== mcs\\nrt: mcs proved\\n';;
+*)  [ $2 = mcs_sat ] || echo "rt: low: another run on this machine is proving the same; waiting for it"
+    printf "== low\\n== $2\\nfn $2::of: proved\\nrt: $2 proved\\n"
+    echo "rt: $2 and the crates below passed"
+    touch "$room/$2"; exit;;
+esac
+"""
         status, _, noted = self.built(kit + MAKES)
         self.assertEqual(status, 0, noted)
         with open(os.path.join(self.room, "calls")) as file:
-            self.assertEqual(file.read(), "ci mcs_system\nci mcs_sat\nci\n")
-        told = re.findall(r"build: (\d) of 3 crates, .*: (\w+) is proved", noted)
-        self.assertEqual(told, [("1", "mcs_system"), ("2", "mcs_sat"), ("3", "mcs")])
+            self.assertEqual(sorted(file.read().splitlines()), ["ci", "ci mcs_sat", "ci mcs_system"])
+        told = re.findall(r"build: \d of 4 crates, .*: (\w+) (?:is|was) proved", noted)
+        self.assertEqual(sorted(told[:2]) + told[2:], ["mcs_sat", "mcs_system", "low", "mcs"])
+        self.assertNotIn("waiting", noted)
+        self.assertNothingIsLeft()
+
+    def test_waiting_for_the_run_of_somebody_else_is_told(self):
+        wait = "echo 'rt: low: another run on this machine is proving the same; waiting for it'"
+        status, _, noted = self.built(wait + SAYS + MAKES)
+        self.assertEqual(status, 0, noted)
+        self.assertIn("build: low: another run on this machine is proving the same; waiting for it\n", noted)
 
     def test_a_line_tells_of_each_crate(self):
         status, _, noted = self.built(SAYS + MAKES)
