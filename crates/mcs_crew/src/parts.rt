@@ -54,6 +54,7 @@ fn ask_in_parts<O: Fork + Send, G: Gate + Sync, R: Threads + Sync>(
     if parts < 2 {
         return ask_in_turn(alloc, gate, context, oracle, questions);
     }
+    let mut oracle = oracle;
     let Ok(other) = oracle.fork(alloc) else {
         return ask_in_turn(alloc, gate, context, oracle, questions);
     };

@@ -120,13 +120,17 @@ same_keeping true false same = cc
 same_keeping false true same = cc
 same_keeping false false same = refl
 
+-- what holds of the context of the other holds of the own
+pub of_own : (P : System → ℕ → Type 0) (keep keep' : Bool) (m m' : System) (i i' : ℕ) (journal journal' : List ℕ) → with_journal [] (solver_with keep' m' i' journal') ≡ with_journal [] (solver_with keep m i journal) → P m' i' → P m i
+of_own P keep keep' m m' i i' journal journal' same holds =
+    subst (λ (k : ℕ). P m k) (ap (λ (o : OracleState). o.context) same) (subst (λ (n : System). P n i') (ap (λ (o : OracleState). o.system) same) holds)
+
 -- what the other has kept is kept of the own context too
 pub kept_alike : (keep keep' : Bool) (m m' : System) (i i' : ℕ) (journal journal' : List ℕ) (kept : BTreeMap ℕ Kept) → with_journal [] (solver_with keep' m' i' journal') ≡ with_journal [] (solver_with keep m i journal)
     → AreAnswersKept m' i' keep' journal' kept → AreAnswersKept m i keep journal' kept
 kept_alike keep keep' m m' i i' journal journal' kept same are =
     subst (λ (b : Bool). AreAnswersKept m i b journal' kept) (same_keeping keep' keep (ap (λ (o : OracleState). o.origin) same))
-    (subst (λ (n : System). AreAnswersKept n i keep' journal' kept) (ap (λ (o : OracleState). o.system) same)
-    (subst (λ (k : ℕ). AreAnswersKept m' k keep' journal' kept) (ap (λ (o : OracleState). o.context) same) are))
+    (of_own (λ (n : System) (k : ℕ). AreAnswersKept n k keep' journal' kept) keep keep' m m' i i' journal journal' same are)
 
 -- ---- the move of an answer
 pub none_moved : (x : ℕ) (kept others rest : BTreeMap ℕ Kept) → get nat_cmp others x ≡ None → IsUnchanged others rest → HasMoved x kept others kept rest

@@ -1,11 +1,11 @@
 -- Heads of rules as assumptions, and what is kept of a context.
 use Rattle.std.proofs.Common.{◌≡◌, ℕ, ◌+◌, ◌<◌, Bool, true, false, ◌&&◌, cond, ltb, nat_eq, List, [], ◌∷◌, ◌++◌, map, filter, Some, None, slice_get, refl, sym, ap, ◌∙◌, subst, arith}
-use Rattle.std.specs.Prelude.{Option}
+use Rattle.std.specs.Prelude.{Option, option_to_list}
 use Rattle.std.proofs.lemmas.Bool.Decides.{nat_tests}
 use Rattle.std.specs.List.{AllByRecursion}
 use Rattle.mcs_sets.specs.Sets.{has, such_that}
 use Rattle.mcs_sets.proofs.SetLemmas.{has-such_that}
-use Rattle.mcs_base.proofs.Each.{all_weaker}
+use Rattle.mcs_base.proofs.Each.{all_left, all_push, all_right, all_weaker}
 use Rattle.mcs_system.specs.Plain.{Name, Formula, Item, Fact, Kb, Classical, DefaultTheory, Program, Bridge, Context, System}
 use Rattle.mcs_system.specs.Atoms.{atoms_of}
 use Rattle.mcs_system.specs.Seen.{formula_of}
@@ -25,7 +25,7 @@ use Rattle.mcs_default.specs.declared.kept.KeptLower.{KeptLower}
 use Rattle.mcs_default.specs.declared.kept.KeptUpper.{KeptUpper}
 use Rattle.mcs_default.specs.declared.kept.KeptConflict.{KeptConflict}
 use Rattle.mcs_default.specs.declared.base.TheoryBase.{TheoryBase}
-use Rattle.mcs_solver.specs.Kinds.{AreRightConsequences, IsMadeOfFormulas, IsMadeOfItems, IsMadeOf, IsMadeOfContext}
+use Rattle.mcs_solver.specs.Kinds.{AreMadeOfContext, AreRightConsequences, IsMadeOfFormulas, IsMadeOfItems, IsMadeOf, IsMadeOfContext}
 use Rattle.mcs_solver.specs.declared.known.Known.{Known}
 use Rattle.mcs_solver.specs.declared.known.Known.TheVariants as variants
 
@@ -118,3 +118,23 @@ pub made_there : (m : System) (i : ℕ) (d : Context) (known : Option Known) →
 made_there m i d known is made c is' =
     let same : d ≡ c = (let e : Some d ≡ Some c = sym is ∙ is' in cc) in
     subst (λ (x : Context). IsMadeOf (atoms_of m i) x.kb (heads_into m i) (beliefs_at m (variables_of m i)) known) same made
+
+-- ---- what others have found
+none_made : (names : List Name) (kb : Kb) (heads : ℕ → List Formula) (beliefs : List Formula) → IsMadeOf names kb heads beliefs None
+none_made names (Classical fs) heads beliefs = tt
+none_made names (DefaultTheory items) heads beliefs = tt
+none_made names (Program rules) heads beliefs = tt
+
+module _ (m : System) (i : ℕ) where
+  -- the last of it, if there is one, is taken off
+  pub last_made : (found rest : List Known) (last : Option Known) → found ≡ rest ++ option_to_list last → AreMadeOfContext m i found → IsMadeOfContext m i last
+  last_made found rest None is made = λ c there. none_made (atoms_of m i) c.kb (heads_into m i) (beliefs_at m (variables_of m i))
+  last_made found rest (Some known) is made = (all_right (λ (k : Known). IsMadeOfContext m i (Some k)) rest (known ∷ []) (subst (AreMadeOfContext m i) is made)).0
+
+  pub rest_made : (found rest : List Known) (last : Option Known) → found ≡ rest ++ option_to_list last → AreMadeOfContext m i found → AreMadeOfContext m i rest
+  rest_made found rest last is made = all_left (λ (k : Known). IsMadeOfContext m i (Some k)) rest (option_to_list last) (subst (AreMadeOfContext m i) is made)
+
+  -- one more is put behind it, if there is memory
+  pub more_made : (room : Bool) (found : List Known) (known : Known) → AreMadeOfContext m i found → IsMadeOfContext m i (Some known) → AreMadeOfContext m i (cond room (found ++ known ∷ []) found)
+  more_made true found known made one = all_push (λ (k : Known). IsMadeOfContext m i (Some k)) found known made one
+  more_made false found known made one = made

@@ -34,7 +34,7 @@ in_solver_send = (
     search sendable depth 60 fits 20000,
     (
       search (known_send, crosses, sendable) depth 60 fits 20000,
-      (search (crosses, sendable) depth 60 fits 20000, (search sendable depth 60 fits 20000, (search (kept_send, maps.crosses, crosses, sendable) depth 60 fits 20000, tt))),
+      (search (crosses, sendable) depth 60 fits 20000, (search sendable depth 60 fits 20000, (search (kept_send, maps.crosses, crosses, sendable) depth 60 fits 20000, (search (known_send, crosses, sendable) depth 60 fits 20000, tt)))),
     ),
   ),
 )

@@ -1,5 +1,6 @@
 -- What is kept of a knowledge base.
 use Rattle.std.specs.Prelude.{◌≡◌, ℕ, List, [], ◌∷◌, ◌++◌, Option, Some, None, slice_get}
+use Rattle.std.specs.List.{AllByRecursion}
 use Rattle.mcs_system.specs.Plain.{Name, Formula, Item, Kb, Classical, DefaultTheory, Program, Context, System}
 use Rattle.mcs_system.specs.Atoms.{atoms_of}
 use Rattle.mcs_system.specs.Systems.{variables_of, heads_into}
@@ -59,3 +60,7 @@ IsMadeOf names (Program rules) heads beliefs known = Unit {0}
 -- the same of a context of a system
 abbrev pub IsMadeOfContext : System → ℕ → Option known.Known → Type 0
 IsMadeOfContext m i known = (c : Context) → slice_get m.contexts i ≡ Some c → IsMadeOf (atoms_of m i) c.kb (heads_into m i) (beliefs_at m (variables_of m i)) known
+
+-- the same of each of these
+abbrev pub AreMadeOfContext : System → ℕ → List known.Known → Type 0
+AreMadeOfContext m i found = AllByRecursion (λ (k : known.Known). IsMadeOfContext m i (Some k)) found

@@ -1,11 +1,13 @@
 //! The oracle of one context.
 
-ghost use Rattle.std.specs.Prelude.{◌≡◌, ◌<◌, ◌⊎◌, [], ◌∷◌, length, MatchOption, IfSome};
+ghost use Rattle.std.specs.Prelude.{◌≡◌, ℕ, ◌<◌, ◌⊎◌, [], ◌∷◌, length, MatchOption, IfSome};
 ghost use Rattle.std.specs.Arc.{arc_value};
 ghost use Rattle.mcs_sets.specs.Orders.{StateBefore};
 ghost use Rattle.mcs_base.specs.Listings.{IsAmong, IsListing};
+ghost use Rattle.mcs_system.specs.Plain as plain;
 ghost use Rattle.mcs_system.specs.Systems.{IsAcceptedPart};
 ghost use Rattle.mcs_asking.specs.Certificates.{plain_of, IsAccepted};
+ghost use Rattle.mcs_solver.specs.Kinds.{AreMadeOfContext, IsMadeOfContext};
 ghost use Rattle.mcs_solver.specs.Solvers.{solver_with};
 
 use crate::keeping::{Kept, absorb_answers, keep_answer};
@@ -18,12 +20,14 @@ use mcs_system::System;
 use std::alloc::Global;
 use std::collections::BTreeMap;
 use std::marker::Model;
+use std::mem;
 use std::sync::Arc;
 
 /// Answers what one context of a system accepts, by the logic of its kind. It never lacks an answer. It keeps the
 /// journal of the questions asked. If it was made to, it keeps each answer with a certificate. For later questions it
 /// keeps the clauses of the formulas of a classical context. If it keeps no certificates, it also keeps what it found
-/// to follow, and of a default theory the clauses of its facts and what it found. A fork of it has none of this yet.
+/// to follow, and of a default theory the clauses of its facts and what it found. A fork of it begins with what an
+/// earlier fork had found, if there is one that was absorbed and whose findings no other fork has.
 #[derive(Drop)]
 pub struct LocalSolver {
     system: Arc<System>,
@@ -32,6 +36,8 @@ pub struct LocalSolver {
     journal: Vec<Active>,
     keep: bool,
     kept: BTreeMap<Active, Kept>,
+    // What forks that were absorbed have found, for the forks to come.
+    spare: Vec<Known>,
 }
 
 impl Model for LocalSolver {
@@ -39,7 +45,7 @@ impl Model for LocalSolver {
     ghost use Rattle.std.specs.Arc.{arc_value};
     ghost use Rattle.mcs_states.specs.Oracles.{OracleState};
     ghost use Rattle.mcs_states.specs.Codes.{coded_oracle};
-    ghost use Rattle.mcs_solver.specs.Kinds.{IsMadeOfContext};
+    ghost use Rattle.mcs_solver.specs.Kinds.{AreMadeOfContext, IsMadeOfContext};
     ghost use Rattle.mcs_solver.specs.Solvers.{solver_with, AreAnswersKept};
 
     ghost Value = { OracleState };
@@ -48,7 +54,7 @@ impl Model for LocalSolver {
 
     ghost view = { λ s. solver_with s.keep (arc_value s.system) s.context s.journal.items };
 
-    ghost invariant = { λ s. (s.context < length (arc_value s.system).contexts) × IsMadeOfContext (arc_value s.system) s.context s.known × AreAnswersKept (arc_value s.system) s.context s.keep s.journal.items s.kept };
+    ghost invariant = { λ s. (s.context < length (arc_value s.system).contexts) × IsMadeOfContext (arc_value s.system) s.context s.known × AreAnswersKept (arc_value s.system) s.context s.keep s.journal.items s.kept × AreMadeOfContext (arc_value s.system) s.context s.spare.items };
 }
 
 impl LocalSolver {
@@ -59,13 +65,32 @@ impl LocalSolver {
         requires { context < length (arc_value system).contexts }
         ensures { result ≡ solver_with keep (arc_value system) context [] }
     {
+        LocalSolver::taking(alloc, system, context, keep, Vec::new(alloc))
+    }
+
+    /// The same, which takes over what others have found of the context: the last of it for itself, and the rest for its
+    /// forks.
+    fn taking(
+        alloc: Global,
+        system: Arc<System>,
+        context: u32,
+        keep: bool,
+        found: Vec<Known>,
+    ) -> LocalSolver
+        requires context { context < length (arc_value system).contexts }
+        requires made { AreMadeOfContext (arc_value system) context found.items }
+        ensures { result ≡ solver_with keep (arc_value system) context [] }
+    {
+        let mut spare = found;
+        let known = spare.pop();
         LocalSolver {
             system,
             context,
-            known: None,
+            known,
             journal: Vec::new(alloc),
             keep,
             kept: BTreeMap::new(alloc),
+            spare,
         }
     }
 
@@ -112,9 +137,10 @@ impl Oracle for LocalSolver {
 }
 
 impl Fork for LocalSolver {
-    fn fork(&self, alloc: Global) -> Result<LocalSolver, Memory> {
+    fn fork(&mut self, alloc: Global) -> Result<LocalSolver, Memory> {
         let system = Arc::try_clone(&self.system)?;
-        Ok(LocalSolver::new(alloc, system, self.context, self.keep))
+        let found = mem::replace(&mut self.spare, Vec::new(alloc));
+        Ok(LocalSolver::taking(alloc, system, self.context, self.keep, found))
     }
 
     fn absorb(&mut self, _alloc: Global, other: LocalSolver) -> Result<(), Memory> {
@@ -123,9 +149,23 @@ impl Fork for LocalSolver {
             known,
             journal,
             kept,
+            spare,
             ..
         } = other;
-        drop((system, known));
+        drop(system);
+        drop(mem::replace(&mut self.spare, with_known(spare, known)));
         absorb_answers(&mut self.journal, &mut self.kept, &journal, kept)
     }
+}
+
+/// What was found, and what one more has found behind it. Want of memory lets the latter go.
+fn with_known(found: Vec<Known>, known: Option<Known>) -> Vec<Known>
+    ensures { (m : plain.System) (i : ℕ) → AreMadeOfContext m i found.items → IsMadeOfContext m i known → AreMadeOfContext m i result.items }
+{
+    let Some(known) = known else {
+        return found;
+    };
+    let mut found = found;
+    drop(found.push(known));
+    found
 }

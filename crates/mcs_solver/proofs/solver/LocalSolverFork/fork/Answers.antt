@@ -1,11 +1,26 @@
-use Rattle.std.proofs.Common.{◌∙◌, ◌<◌, [], length, sym, ap, subst}
+use Rattle.std.proofs.Common.{◌∙◌, ◌<◌, [], length, List, sym, ap, subst}
+use Rattle.std.specs.Arc.{arc_value}
 use Rattle.mcs_system.specs.Plain.{System}
 use Rattle.mcs_states.specs.Oracles.{with_journal}
+use Rattle.mcs_solver.specs.Kinds.{AreMadeOfContext}
 use Rattle.mcs_solver.specs.Solvers.{solver_with}
+use Rattle.mcs_solver.specs.declared.known.Known.{Known}
 use Rattle.mcs_solver.proofs.solver.LocalSolverFork.fork.Goals as goal
 
-pub new-requires : goal.new-requires
-new-requires c = subst (λ (m : System). c.self.inside.context < length m.contexts) (sym c.in_ok-system.ensures) c.self.invariant.0
+pub taking-requires-clause-context : goal.taking-requires-clause-context
+taking-requires-clause-context c = subst (λ (m : System). c.self.inside.context < length m.contexts) (sym c.in_ok-system.ensures) c.self.invariant.0
 
-pub returns : goal.returns
-returns c = c.new.ensures ∙ ap (λ (m : System). solver_with c.self.inside.keep m c.self.inside.context []) c.in_ok-system.ensures ∙ ap (with_journal []) c.self.view_is
+pub taking-requires-clause-made : goal.taking-requires-clause-made
+taking-requires-clause-made c =
+    subst (λ (m : System). AreMadeOfContext m c.self.inside.context c.replace-found.result.items) (sym c.in_ok-system.ensures) (rw c.replace-found.ensures.value c.self.invariant.3)
+
+pub returns-clause-forked : goal.returns-clause-forked
+returns-clause-forked c = c.taking.ensures ∙ ap (λ (m : System). solver_with c.self.inside.keep m c.self.inside.context []) c.in_ok-system.ensures ∙ ap (with_journal []) c.self.view_is
+
+pub returns-clause-same : goal.returns-clause-same
+returns-clause-same c = c.self.view_is
+
+pub invariant_of-self : goal.invariant_of-self
+invariant_of-self c =
+    let none = subst (λ (xs : List Known). AreMadeOfContext (arc_value c.self.inside.system) c.self.inside.context xs) (sym (ap (λ v. v.items) c.replace-found.ensures.after ∙ c.new.ensures.items)) tt in
+    (c.self.invariant.0, c.self.invariant.1, c.self.invariant.2, none)

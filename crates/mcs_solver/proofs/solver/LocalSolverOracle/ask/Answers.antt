@@ -29,4 +29,5 @@ invariant_of-self-2 c =
       c.self.invariant.0,
       subst (λ (n : System). IsMadeOfContext n i c.parts_with.new.known) c.deref.ensures c.in_ok-parts.ensures.made,
       subst (λ (xs : List ℕ). AreAnswersKept m i keep xs c.keep_answer.new.kept) (sym journal) (kept_more m i keep c.self.inside.journal.items x parts c.in_ok-parts.cert c.self.inside.kept c.keep_answer.new.kept has shown listing c.self.invariant.2),
+      c.self.invariant.3,
     )
