@@ -126,9 +126,13 @@ none_made names (DefaultTheory items) heads beliefs = tt
 none_made names (Program rules) heads beliefs = tt
 
 module _ (m : System) (i : ℕ) where
+  -- nothing is right of every context
+  pub nothing_made : IsMadeOfContext m i None
+  nothing_made = λ c there. none_made (atoms_of m i) c.kb (heads_into m i) (beliefs_at m (variables_of m i))
+
   -- the last of it, if there is one, is taken off
   pub last_made : (found rest : List Known) (last : Option Known) → found ≡ rest ++ option_to_list last → AreMadeOfContext m i found → IsMadeOfContext m i last
-  last_made found rest None is made = λ c there. none_made (atoms_of m i) c.kb (heads_into m i) (beliefs_at m (variables_of m i))
+  last_made found rest None is made = nothing_made
   last_made found rest (Some known) is made = (all_right (λ (k : Known). IsMadeOfContext m i (Some k)) rest (known ∷ []) (subst (AreMadeOfContext m i) is made)).0
 
   pub rest_made : (found rest : List Known) (last : Option Known) → found ≡ rest ++ option_to_list last → AreMadeOfContext m i found → AreMadeOfContext m i rest

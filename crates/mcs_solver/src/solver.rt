@@ -27,7 +27,8 @@ use std::sync::Arc;
 /// journal of the questions asked. If it was made to, it keeps each answer with a certificate. For later questions it
 /// keeps the clauses of the formulas of a classical context. If it keeps no certificates, it also keeps what it found
 /// to follow, and of a default theory the clauses of its facts and what it found. A fork of it begins with what an
-/// earlier fork had found, if there is one that was absorbed and whose findings no other fork has.
+/// earlier fork had found, if there is one that was absorbed and whose findings no other fork has. Of a context that no
+/// rule goes into it keeps nothing: there is one question to it.
 #[derive(Drop)]
 pub struct LocalSolver {
     system: Arc<System>,
@@ -130,6 +131,7 @@ impl Oracle for LocalSolver {
             self.context,
             active,
         )?;
+        forget_whole(&mut self.known, &self.system, self.context);
         keep_answer(alloc, &mut self.kept, active, &parts, cert)?;
         self.journal.push(active)?;
         Ok(parts)
@@ -155,6 +157,16 @@ impl Fork for LocalSolver {
         drop(system);
         drop(mem::replace(&mut self.spare, with_known(spare, known)));
         absorb_answers(&mut self.journal, &mut self.kept, &journal, kept)
+    }
+}
+
+/// Lets go what was found of a context that no rule goes into. Nothing more can be asked of it.
+fn forget_whole(known: &mut Option<Known>, system: &System, context: u32)
+    requires { context < length system.now.contexts }
+    ensures { IsMadeOfContext system.now context known.old → IsMadeOfContext system.now context known.new }
+{
+    if system.rules_of(context).count() == 0 {
+        drop(known.take());
     }
 }
 

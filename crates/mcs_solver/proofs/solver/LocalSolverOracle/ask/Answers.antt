@@ -22,12 +22,13 @@ invariant_of-self-2 c =
     let keep = c.self.inside.keep in
     let x = c.args.active in
     let parts : List ℕ = c.in_ok-parts.parts.items in
-    let has = subst (λ (xs : List ℕ). HasKept x xs c.in_ok-parts.cert c.self.inside.kept c.keep_answer.new.kept) c.deref-2.ensures.value c.in_ok-keep_answer.ensures.ok in
+    let has = subst (λ (xs : List ℕ). HasKept x xs c.in_ok-parts.cert c.self.inside.kept c.keep_answer.new.kept) c.deref-3.ensures.value c.in_ok-keep_answer.ensures.ok in
     let shown = subst (λ (n : System). IsCertified keep (IsAccepted n i x parts) c.in_ok-parts.cert) c.deref.ensures c.in_ok-parts.ensures.certified in
     let listing = subst (λ (n : System). IsListing (IsAcceptedPart n i x) StateBefore parts) c.deref.ensures c.in_ok-parts.ensures.exact in
+    let made = subst (λ (n : System). IsMadeOfContext n i c.parts_with.new.known) (c.deref.ensures ∙ sym c.deref-2.ensures) c.in_ok-parts.ensures.made in
     let journal = c.in_ok-push.ensures.items ∙ ap (λ (xs : List ℕ). xs ++ x ∷ []) c.in_ok-reserve.ensures.items in (
       c.self.invariant.0,
-      subst (λ (n : System). IsMadeOfContext n i c.parts_with.new.known) c.deref.ensures c.in_ok-parts.ensures.made,
+      subst (λ (n : System). IsMadeOfContext n i c.forget_whole.new.known) c.deref-2.ensures (c.forget_whole.ensures made),
       subst (λ (xs : List ℕ). AreAnswersKept m i keep xs c.keep_answer.new.kept) (sym journal) (kept_more m i keep c.self.inside.journal.items x parts c.in_ok-parts.cert c.self.inside.kept c.keep_answer.new.kept has shown listing c.self.invariant.2),
       c.self.invariant.3,
     )
