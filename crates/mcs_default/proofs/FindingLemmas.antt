@@ -1,5 +1,5 @@
 -- What is found by an answer, and that nothing else changes by it.
-use Rattle.std.proofs.Common.{◌≡◌, ℕ, ◌≤◌, Bool, true, false, not, ◌&&◌, ltb, List, [], ◌∷◌, ◌++◌, length, arith, sym, ap, ◌∙◌, subst, Some, None, slice_get, IsTrue, true≢false}
+use Rattle.std.proofs.Common.{◌≡◌, ℕ, ◌≤◌, Bool, true, false, if◌then◌else◌, not, ◌&&◌, ltb, List, [], ◌∷◌, ◌++◌, length, arith, sym, ap, ◌∙◌, subst, Some, None, slice_get, IsTrue, true≢false}
 use Rattle.std.proofs.lemmas.Bool.Decides.{nat_tests}
 use Rattle.std.proofs.lemmas.Option.{slice_get_within}
 use Rattle.std.specs.List.{AllByRecursion}
@@ -85,6 +85,11 @@ some_denies names items ds known set places g parts told =
     (λ follows. (let refuted = told (facts_of items) parts.1 in true≢false (sym (follows (true_names 0 names places) refuted.model.formulas) ∙ refuted.goal)))
 
 -- ---- what was found before stays right
+-- one more is right, if there is memory for it
+all_pushed : {A : Type 0} (P : A → Type 0) (b : Bool) (xs : List A) (x : A) → AllByRecursion P xs → P x → AllByRecursion P (if b then xs ++ x ∷ [] else xs)
+all_pushed P true xs x all is = all_push P xs x all is
+all_pushed P false xs x all is = all
+
 module _ (names : List Name) (ds : List Default) (f f' : findings.Findings) (ready : CanBeAsked names ds f) (kept : f'.facts ≡ f.facts) where
   parts_before : (items : List Item) → AreParts names items ds f'.facts → AreParts names items ds f.facts
   parts_before items parts = subst (AreParts names items ds) kept parts
@@ -92,40 +97,22 @@ module _ (names : List Name) (ds : List Default) (f f' : findings.Findings) (rea
   room_after : length names ≤ f'.facts.vars
   room_after = subst (λ (k : ClauseList). length names ≤ k.vars) (sym kept) ready.room
 
-  pub ready_same : f'.conflicts.items ≡ f.conflicts.items → f'.lower.items ≡ f.lower.items → f'.upper.items ≡ f.upper.items → CanBeAsked names ds f'
-  ready_same conflicts lows ups = record {
-    few = ready.few;
-    different = ready.different;
-    over = ready.over;
+  pub ready_upper : (b : Bool) (x : upper.Upper) → f'.conflicts.items ≡ f.conflicts.items → f'.lower.items ≡ f.lower.items → f'.upper.items ≡ (if b then f.upper.items ++ x ∷ [] else f.upper.items) → ((items : List Item) → AreParts names items ds f.facts → IsUpper names items x) → CanBeAsked names ds f'
+  ready_upper b x conflicts lows pushed is = record {
     room = room_after;
-    right = λ items parts. (let right = ready.right items (parts_before items parts) in (subst (AllByRecursion (IsLower items)) (sym lows) right.0, subst (AllByRecursion (IsUpper names items)) (sym ups) right.1, subst (AllByRecursion (IsConflict items)) (sym conflicts) right.2));
+    right = λ items parts. (let right = ready.right items (parts_before items parts) in (subst (AllByRecursion (IsLower items)) (sym lows) right.0, subst (AllByRecursion (IsUpper names items)) (sym pushed) (all_pushed (IsUpper names items) b f.upper.items x right.1 (is items (parts_before items parts))), subst (AllByRecursion (IsConflict items)) (sym conflicts) right.2));
   }
 
-  pub ready_upper : (x : upper.Upper) → f'.conflicts.items ≡ f.conflicts.items → f'.lower.items ≡ f.lower.items → f'.upper.items ≡ f.upper.items ++ x ∷ [] → ((items : List Item) → AreParts names items ds f.facts → IsUpper names items x) → CanBeAsked names ds f'
-  ready_upper x conflicts lows pushed is = record {
-    few = ready.few;
-    different = ready.different;
-    over = ready.over;
+  pub ready_lower : (b : Bool) (x : lower.Lower) → f'.conflicts.items ≡ f.conflicts.items → f'.upper.items ≡ f.upper.items → f'.lower.items ≡ (if b then f.lower.items ++ x ∷ [] else f.lower.items) → ((items : List Item) → AreParts names items ds f.facts → IsLower items x) → CanBeAsked names ds f'
+  ready_lower b x conflicts ups pushed is = record {
     room = room_after;
-    right = λ items parts. (let right = ready.right items (parts_before items parts) in (subst (AllByRecursion (IsLower items)) (sym lows) right.0, subst (AllByRecursion (IsUpper names items)) (sym pushed) (all_push (IsUpper names items) f.upper.items x right.1 (is items (parts_before items parts))), subst (AllByRecursion (IsConflict items)) (sym conflicts) right.2));
+    right = λ items parts. (let right = ready.right items (parts_before items parts) in (subst (AllByRecursion (IsLower items)) (sym pushed) (all_pushed (IsLower items) b f.lower.items x right.0 (is items (parts_before items parts))), subst (AllByRecursion (IsUpper names items)) (sym ups) right.1, subst (AllByRecursion (IsConflict items)) (sym conflicts) right.2));
   }
 
-  pub ready_lower : (x : lower.Lower) → f'.conflicts.items ≡ f.conflicts.items → f'.upper.items ≡ f.upper.items → f'.lower.items ≡ f.lower.items ++ x ∷ [] → ((items : List Item) → AreParts names items ds f.facts → IsLower items x) → CanBeAsked names ds f'
-  ready_lower x conflicts ups pushed is = record {
-    few = ready.few;
-    different = ready.different;
-    over = ready.over;
+  pub ready_conflict : (b : Bool) (set : ℕ) → f'.lower.items ≡ f.lower.items → f'.upper.items ≡ f.upper.items → f'.conflicts.items ≡ (if b then f.conflicts.items ++ set ∷ [] else f.conflicts.items) → ((items : List Item) → AreParts names items ds f.facts → IsConflict items set) → CanBeAsked names ds f'
+  ready_conflict b set lows ups pushed is = record {
     room = room_after;
-    right = λ items parts. (let right = ready.right items (parts_before items parts) in (subst (AllByRecursion (IsLower items)) (sym pushed) (all_push (IsLower items) f.lower.items x right.0 (is items (parts_before items parts))), subst (AllByRecursion (IsUpper names items)) (sym ups) right.1, subst (AllByRecursion (IsConflict items)) (sym conflicts) right.2));
-  }
-
-  pub ready_conflict : (set : ℕ) → f'.lower.items ≡ f.lower.items → f'.upper.items ≡ f.upper.items → f'.conflicts.items ≡ f.conflicts.items ++ set ∷ [] → ((items : List Item) → AreParts names items ds f.facts → IsConflict items set) → CanBeAsked names ds f'
-  ready_conflict set lows ups pushed is = record {
-    few = ready.few;
-    different = ready.different;
-    over = ready.over;
-    room = room_after;
-    right = λ items parts. (let right = ready.right items (parts_before items parts) in (subst (AllByRecursion (IsLower items)) (sym lows) right.0, subst (AllByRecursion (IsUpper names items)) (sym ups) right.1, subst (AllByRecursion (IsConflict items)) (sym pushed) (all_push (IsConflict items) f.conflicts.items set right.2 (is items (parts_before items parts)))));
+    right = λ items parts. (let right = ready.right items (parts_before items parts) in (subst (AllByRecursion (IsLower items)) (sym lows) right.0, subst (AllByRecursion (IsUpper names items)) (sym ups) right.1, subst (AllByRecursion (IsConflict items)) (sym pushed) (all_pushed (IsConflict items) b f.conflicts.items set right.2 (is items (parts_before items parts)))));
   }
 
 -- ---- one default that is supported, or blocked

@@ -5,7 +5,6 @@ use Rattle.std.proofs.lemmas.List.Folds.{list_all-append}
 use Rattle.std.specs.List.{AllByRecursion}
 use Rattle.mcs_sets.specs.Sets.{has, Within}
 use Rattle.mcs_base.proofs.Each.{all_append, all_filter, all_left, all_map, all_right, all_weaker}
-use Rattle.mcs_system.specs.Faults.{has_twins}
 use Rattle.mcs_system.specs.Plain.{Name, Formula, Falsity, Not, Default, Item, Fact}
 use Rattle.mcs_system.specs.Logic.{holds, holds_all, true_names, Entails}
 use Rattle.mcs_system.specs.Seen.{formula_of}
@@ -17,7 +16,7 @@ use Rattle.mcs_cnf.proofs.MeaningLemmas.{extended, satisfied}
 use Rattle.mcs_classical.specs.Assumptions.{assumed, HoldsAt}
 use Rattle.mcs_classical.specs.declared.assumptions.Assumption.{Assumption}
 use Rattle.mcs_evidence.specs.Defaults.{AreOverItems, facts_of, defaults_of, generated}
-use Rattle.mcs_evidence.specs.Theories.{AreOverDefaults, IsDefaultAt}
+use Rattle.mcs_evidence.specs.Theories.{IsDefaultAt}
 use Rattle.mcs_evidence.proofs.TheoryLemmas.{facts_with, defaults_with, over_with_facts, over_facts}
 use Rattle.mcs_default.specs.Theories.{AreClausesOf, AreParts, consequents}
 use Rattle.mcs_default.specs.Assignments.{with_part}
@@ -70,12 +69,9 @@ same_facts names known fs gs is is' a h =
     let v = extended fs names a is.1 h in
     satisfied gs names a v.0 is'.1 v.1 (ap (λ (x : ClauseList). all_hold v.0 x.clauses) (sym is'.0 ∙ is.0) ∙ v.2)
 
-pub ready_from : (names : List Name) (ds : List Default) (f : findings.Findings) (items : List Item) → length names ≤ 64 → has_twins names ≡ false → AreOverDefaults names ds → length names ≤ f.facts.vars
+pub ready_from : (names : List Name) (ds : List Default) (f : findings.Findings) (items : List Item) → length names ≤ f.facts.vars
     → AreParts names items ds f.facts → AreRightFindings names items f → CanBeAsked names ds f
-ready_from names ds f items few different over room parts right = record {
-  few = few;
-  different = different;
-  over = over;
+ready_from names ds f items room parts right = record {
   room = room;
   right = λ items' parts'.
       (let same : defaults_of items ≡ defaults_of items' = sym parts.0 ∙ parts'.0 in

@@ -1,4 +1,5 @@
 pub mod General
+pub mod SameLemmas
 pub mod PushLemmas
 pub mod AskLemmas
 pub mod OrderLemmas

@@ -1,9 +1,7 @@
 -- What is known of one set of defaults.
 use Rattle.std.specs.Prelude.{◌≡◌, ℕ, Bool, true, false, List, [], ◌∷◌, length, Option, Some, None, slice_get}
 use Rattle.mcs_sets.specs.Sets.{has, such_that}
-use Rattle.mcs_system.specs.Plain.{Name, Formula, Default, Item}
-use Rattle.mcs_trace.specs.Clauses.{ClauseList}
-use Rattle.mcs_default.specs.Theories.{AreParts}
+use Rattle.mcs_system.specs.Plain.{Formula, Default, Item}
 use Rattle.mcs_default.specs.Searches.{IsSupportedAt, IsUnsupportedAt, IsAllowedAt, IsBlockedAt}
 use Rattle.mcs_default.specs.declared.known.Known as known
 
@@ -13,10 +11,6 @@ pub record IsKnown (items : List Item) (e : known.Known) : Type 0 where
   pub unsupported : (k : ℕ) → has e.unsupported k ≡ true → IsUnsupportedAt items e.set k
   pub allowed : (k : ℕ) → has e.allowed k ≡ true → IsAllowedAt items e.set k
   pub blocked : (k : ℕ) → has e.blocked k ≡ true → IsBlockedAt items e.set k
-
--- of each theory with these parts
-abbrev pub IsKnownOf : List Name → List Default → ClauseList → known.Known → Type 0
-IsKnownOf names ds facts e = (items : List Item) → AreParts names items ds facts → IsKnown items e
 
 -- ---- justifications
 abbrev pub is_none : List Formula → Bool

@@ -2,7 +2,6 @@
 use Rattle.std.specs.Prelude.{◌≡◌, ℕ, ◌≤◌, true, false, IsTrue, List, length, Option, Some, None}
 use Rattle.std.specs.List.{AllByRecursion}
 use Rattle.mcs_sets.specs.Sets.{has, Within}
-use Rattle.mcs_system.specs.Faults.{has_twins}
 use Rattle.mcs_system.specs.Plain.{Name, Formula, Falsity, Not, Default, Item}
 use Rattle.mcs_system.specs.Logic.{Theory, Entails, holds_all, true_names}
 use Rattle.mcs_system.specs.Views.{Shows}
@@ -10,7 +9,7 @@ use Rattle.mcs_evidence.specs.Defaults.{facts_of, defaults_of, generated}
 use Rattle.mcs_default.specs.Theories.{AreParts}
 use Rattle.mcs_default.specs.Assignments.{with_part}
 use Rattle.mcs_default.specs.declared.models.Part.TheVariants as parts
-use Rattle.mcs_evidence.specs.Theories.{AreOverDefaults, IsDefaultAt, NoneSupported, Generates}
+use Rattle.mcs_evidence.specs.Theories.{IsDefaultAt, NoneSupported, Generates}
 use Rattle.mcs_default.specs.declared.findings.Lower as lower
 use Rattle.mcs_default.specs.declared.findings.Upper as upper
 use Rattle.mcs_default.specs.declared.findings.Findings as findings
@@ -55,9 +54,6 @@ AreRightFindings names items f = AllByRecursion (IsLower items) f.lower.items ×
 
 -- the defaults can be asked about by what was found
 pub record CanBeAsked (names : List Name) (ds : List Default) (f : findings.Findings) : Type 0 where
-  pub few : length names ≤ 64
-  pub different : has_twins names ≡ false
-  pub over : AreOverDefaults names ds
   pub room : length names ≤ f.facts.vars
   pub right : (items : List Item) → AreParts names items ds f.facts → AreRightFindings names items f
 

@@ -1,7 +1,6 @@
 //! Questions about one default.
 
-ghost use Rattle.std.specs.Prelude.{◌≡◌, ◌≤◌, ◌+◌, ◌^◌, List, false, length, map, IfOk, OnErr};
-ghost use Rattle.mcs_system.specs.Faults.{has_twins};
+ghost use Rattle.std.specs.Prelude.{◌≡◌, ◌≤◌, ◌+◌, ◌^◌, List, length, map, IfOk, OnErr};
 ghost use Rattle.mcs_system.specs.Plain as plain;
 ghost use Rattle.mcs_system.specs.Seen.{formula_of, default_of};
 ghost use Rattle.mcs_cnf.specs.ClauseLists.{IsOver, AreOver};
@@ -10,9 +9,10 @@ ghost use Rattle.mcs_default.specs.Theories.{AreClausesOf};
 ghost use Rattle.mcs_evidence.specs.Theories.{IsOverDefault};
 ghost use Rattle.mcs_default.specs.Told.{IsToldOfJusts, IsToldOfDefault};
 
+use mcs_asked::Asked;
 use mcs_base::Memory;
 use mcs_classical::entails_from;
-use mcs_system::{Default, Formula, Name};
+use mcs_system::{Default, Formula};
 use mcs_trace::{Cnf, Entail, Outside};
 use std::alloc::Global;
 
@@ -61,18 +61,16 @@ fn refutes_from(
     alloc: Global,
     known: &mut Cnf,
     formula: &Formula,
-    atoms: &[Name],
+    asked: &Asked<'_>,
 ) -> Result<Entail, Memory>
-    requires few { length atoms.now ≤ 64 }
-    requires different { has_twins atoms.now ≡ false }
-    requires over { IsOver atoms.now (formula_of formula.now) }
-    requires room { length atoms.now ≤ known.old.vars }
+    requires over { IsOver asked.now.atoms.now (formula_of formula.now) }
+    requires room { length asked.now.atoms.now ≤ known.old.vars }
     ensures kept { known.new ≡ known.old }
-    ensures accepted { IfOk result (λ e. (fs : List plain.Formula) → AreClausesOf atoms.now fs known.old
-        → IsAcceptedEntailment atoms.now fs (plain.Not (formula_of formula.now)) (entailment_of e)) }
+    ensures accepted { IfOk result (λ e. (fs : List plain.Formula) → AreClausesOf asked.now.atoms.now fs known.old
+        → IsAcceptedEntailment asked.now.atoms.now fs (plain.Not (formula_of formula.now)) (entailment_of e)) }
 {
     let goal = Formula::Not(Box::new(alloc, formula.copy(alloc)?)?);
-    let entail = entails_from(alloc, known, &goal, atoms);
+    let entail = entails_from(alloc, known, &goal, asked.atoms);
     drop(goal);
     entail
 }
@@ -82,20 +80,18 @@ pub(crate) fn ask_justs(
     alloc: Global,
     known: &mut Cnf,
     justs: &[Formula],
-    atoms: &[Name],
+    asked: &Asked<'_>,
 ) -> Result<Justs, Memory>
-    requires few { length atoms.now ≤ 64 }
-    requires different { has_twins atoms.now ≡ false }
-    requires over { AreOver atoms.now (map formula_of justs.now) }
-    requires room { length atoms.now ≤ known.old.vars }
+    requires over { AreOver asked.now.atoms.now (map formula_of justs.now) }
+    requires room { length asked.now.atoms.now ≤ known.old.vars }
     ensures kept { known.new ≡ known.old }
-    ensures told { IfOk result (λ told. (fs : List plain.Formula) → AreClausesOf atoms.now fs known.old
-        → IsToldOfJusts atoms.now fs (map formula_of justs.now) told) }
+    ensures told { IfOk result (λ told. (fs : List plain.Formula) → AreClausesOf asked.now.atoms.now fs known.old
+        → IsToldOfJusts asked.now.atoms.now fs (map formula_of justs.now) told) }
 {
     let mut allowed = Vec::new(alloc);
     for (index, just) in justs.iter().enumerate() {
         let number = numbered(index)?;
-        let entail = refutes_from(alloc, known, just, atoms)?;
+        let entail = refutes_from(alloc, known, just, asked)?;
         if says_yes(&entail) {
             return Ok(Justs::Blocked(number, entail));
         }
@@ -110,21 +106,19 @@ pub(crate) fn ask_default(
     known: &mut Cnf,
     default: &Default,
     number: u32,
-    atoms: &[Name],
+    asked: &Asked<'_>,
 ) -> Result<Standing, Memory>
-    requires few { length atoms.now ≤ 64 }
-    requires different { has_twins atoms.now ≡ false }
-    requires over { IsOverDefault atoms.now (default_of default.now) }
-    requires room { length atoms.now ≤ known.old.vars }
+    requires over { IsOverDefault asked.now.atoms.now (default_of default.now) }
+    requires room { length asked.now.atoms.now ≤ known.old.vars }
     ensures kept { known.new ≡ known.old }
-    ensures told { IfOk result (λ told. (fs : List plain.Formula) → AreClausesOf atoms.now fs known.old
-        → IsToldOfDefault atoms.now fs (default_of default.now) number told) }
+    ensures told { IfOk result (λ told. (fs : List plain.Formula) → AreClausesOf asked.now.atoms.now fs known.old
+        → IsToldOfDefault asked.now.atoms.now fs (default_of default.now) number told) }
 {
-    let pre = entails_from(alloc, known, &default.pre, atoms)?;
+    let pre = entails_from(alloc, known, &default.pre, asked.atoms)?;
     if !says_yes(&pre) {
         return Ok(Standing::Absent(Outside::Unsupported(number, pre)));
     }
-    match ask_justs(alloc, known, &default.justs, atoms) {
+    match ask_justs(alloc, known, &default.justs, asked) {
         Ok(Justs::Allowed(justs)) => Ok(Standing::Applies(pre, justs)),
         Ok(Justs::Blocked(just, entail)) => {
             drop(pre);

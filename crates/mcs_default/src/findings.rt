@@ -8,7 +8,7 @@ ghost use Rattle.mcs_system.specs.Seen.{formula_of};
 ghost use Rattle.mcs_evidence.specs.Defaults.{generated};
 ghost use Rattle.mcs_default.specs.Searches.{IsLower, IsUpper, IsSupportedAt, IsUnsupportedAt, IsAllowedAt, IsBlockedAt, IsConflict};
 
-use mcs_base::Vars;
+use mcs_base::{Memory, Vars};
 use mcs_sat::ClauseBase;
 use mcs_system::{Formula, Name, holds_at};
 use std::alloc::Global;
@@ -61,6 +61,11 @@ impl Findings {
             upper: Vec::new(alloc),
             conflicts: Vec::new(alloc),
         }
+    }
+
+    /// No clauses and no findings, to stand for others while these are lent.
+    pub(crate) fn none(alloc: Global) -> Result<Findings, Memory> {
+        Ok(Findings::new(alloc, ClauseBase::new(alloc, 0)?))
     }
 }
 

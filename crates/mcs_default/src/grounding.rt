@@ -1,20 +1,19 @@
 //! Whether the prerequisites of the defaults of a set follow one after the other.
 
-ghost use Rattle.std.specs.Prelude.{◌≡◌, ◌≤◌, List, false, length, map, IfOk, OnOk};
+ghost use Rattle.std.specs.Prelude.{◌≡◌, ◌≤◌, ◌++◌, ◌∷◌, [], List, length, IfOk, OnOk};
 ghost use Rattle.mcs_sets.specs.Sets.{Within};
-ghost use Rattle.mcs_system.specs.Faults.{has_twins};
 ghost use Rattle.mcs_system.specs.Plain as plain;
-ghost use Rattle.mcs_system.specs.Seen.{default_of};
+ghost use Rattle.mcs_default.specs.Asked.{theory_names, theory_defaults};
 ghost use Rattle.mcs_default.specs.Theories.{AreClausesOf};
 ghost use Rattle.mcs_cnf.specs.Growing.{HasMoreFormulas};
-ghost use Rattle.mcs_evidence.specs.Theories.{AreOverDefaults, all_of};
+ghost use Rattle.mcs_evidence.specs.Theories.{all_of};
 ghost use Rattle.mcs_default.specs.Told.{IsToldNext, IsNextInRange, IsToldOfOrder};
 
+use crate::asked::Theory;
 use crate::asking::says_yes;
 use mcs_base::{Memory, Vars};
 use mcs_classical::entails_from;
 use mcs_cnf::push_formula;
-use mcs_system::{Default, Name};
 use mcs_trace::{Cnf, Entail};
 use std::alloc::Global;
 
@@ -36,28 +35,47 @@ pub(crate) enum Grounding {
     Stuck(u32, Vec<Entail>),
 }
 
+/// Defaults one after the other, by their numbers, and what shows of each that its prerequisite follows.
+#[derive(Drop)]
+struct Order {
+    numbers: Vec<u32>,
+    pres: Vec<Entail>,
+}
+
+impl Order {
+    fn none(alloc: Global) -> Order
+        ensures numbers { result.numbers.items ≡ [] }
+        ensures pres { result.pres.items ≡ [] }
+    {
+        Order {
+            numbers: Vec::new(alloc),
+            pres: Vec::new(alloc),
+        }
+    }
+
+    fn push(&mut self, number: u32, pre: Entail) -> Result<(), Memory>
+        ensures numbers { OnOk result (self.new.numbers.items ≡ self.old.numbers.items ++ number ∷ []) }
+        ensures pres { OnOk result (self.new.pres.items ≡ self.old.pres.items ++ pre ∷ []) }
+    {
+        self.pres.push(pre)?;
+        self.numbers.push(number)?;
+        Ok(())
+    }
+}
+
 /// Asks of each default that is left whether its prerequisite follows, up to the first of which it does.
-fn ask_next(
-    alloc: Global,
-    known: &mut Cnf,
-    defaults: &[&Default],
-    left: Vars,
-    atoms: &[Name],
-) -> Result<Next, Memory>
-    requires few { length atoms.now ≤ 64 }
-    requires few_defaults { length defaults.now ≤ 10 }
-    requires different { has_twins atoms.now ≡ false }
-    requires over { AreOverDefaults atoms.now (map (λ d. default_of d.now) defaults.now) }
-    requires room { length atoms.now ≤ known.old.vars }
+fn ask_next(alloc: Global, known: &mut Cnf, theory: &Theory<'_>, left: Vars) -> Result<Next, Memory>
+    requires room { length (theory_names theory.now) ≤ known.old.vars }
     ensures kept { known.new ≡ known.old }
-    ensures told { IfOk result (λ told. (fs : List plain.Formula) → AreClausesOf atoms.now fs known.old
-        → IsToldNext atoms.now fs (map (λ d. default_of d.now) defaults.now) left told) }
-    ensures in_range { IfOk result (IsNextInRange (length defaults.now) left) }
+    ensures told { IfOk result (λ told. (fs : List plain.Formula) → AreClausesOf (theory_names theory.now) fs known.old
+        → IsToldNext (theory_names theory.now) fs (theory_defaults theory.now) left told) }
+    ensures in_range { IfOk result (IsNextInRange (length theory.now.defaults.now) left) }
 {
+    let defaults = theory.defaults;
     let mut denied = Vec::new(alloc);
     for (index, default) in defaults.iter().enumerate() {
         if left.has(index as u32) {
-            let pre = entails_from(alloc, known, &default.pre, atoms)?;
+            let pre = entails_from(alloc, known, &default.pre, theory.asked.atoms)?;
             if says_yes(&pre) {
                 return Ok(Next::Supported(index as u32, pre));
             }
@@ -71,29 +89,28 @@ fn ask_next(
 fn ask_order(
     alloc: Global,
     known: &mut Cnf,
-    defaults: &[&Default],
+    theory: &Theory<'_>,
     set: Vars,
-    atoms: &[Name],
 ) -> Result<Grounding, Memory>
-    requires few { length atoms.now ≤ 64 }
-    requires few_defaults { length defaults.now ≤ 10 }
-    requires different { has_twins atoms.now ≡ false }
-    requires over { AreOverDefaults atoms.now (map (λ d. default_of d.now) defaults.now) }
-    requires room { length atoms.now ≤ known.old.vars }
-    requires set { Within set (all_of (map (λ d. default_of d.now) defaults.now)) }
-    ensures grown { OnOk result (HasMoreFormulas atoms.now known.old known.new) }
-    ensures told { IfOk result (λ told. (fs : List plain.Formula) → AreClausesOf atoms.now fs known.old
-        → IsToldOfOrder atoms.now fs (map (λ d. default_of d.now) defaults.now) set told) }
+    requires room { length (theory_names theory.now) ≤ known.old.vars }
+    requires set { Within set (all_of (theory_defaults theory.now)) }
+    ensures grown { OnOk result (HasMoreFormulas (theory_names theory.now) known.old known.new) }
+    ensures told { IfOk result (λ told. (fs : List plain.Formula) → AreClausesOf (theory_names theory.now) fs known.old
+        → IsToldOfOrder (theory_names theory.now) fs (theory_defaults theory.now) set told) }
 {
+    let defaults = theory.defaults;
     let mut left = set;
-    let mut order = Vec::new(alloc);
-    let mut pres = Vec::new(alloc);
+    let mut order = Order::none(alloc);
     while left.count() > 0 {
-        match ask_next(alloc, known, defaults, left, atoms)? {
+        match ask_next(alloc, known, theory, left)? {
             Next::Supported(index, pre) => {
-                pres.push(pre)?;
-                order.push(index + 1)?;
-                push_formula(alloc, known, atoms, &defaults[index as usize].conclusion)?;
+                order.push(index + 1, pre)?;
+                push_formula(
+                    alloc,
+                    known,
+                    theory.asked.atoms,
+                    &defaults[index as usize].conclusion,
+                )?;
                 left = left.without(index);
             }
             Next::Stuck(denied) => {
@@ -102,30 +119,26 @@ fn ask_order(
             }
         }
     }
-    Ok(Grounding::Grounded(order, pres))
+    let Order { numbers, pres } = order;
+    Ok(Grounding::Grounded(numbers, pres))
 }
 
 /// The same by the facts, whose clauses are `known`.
 pub(crate) fn tell_order(
     alloc: Global,
     known: &mut Cnf,
-    defaults: &[&Default],
+    theory: &Theory<'_>,
     set: Vars,
-    atoms: &[Name],
 ) -> Result<Grounding, Memory>
-    requires few { length atoms.now ≤ 64 }
-    requires few_defaults { length defaults.now ≤ 10 }
-    requires different { has_twins atoms.now ≡ false }
-    requires over { AreOverDefaults atoms.now (map (λ d. default_of d.now) defaults.now) }
-    requires room { length atoms.now ≤ known.old.vars }
-    requires set { Within set (all_of (map (λ d. default_of d.now) defaults.now)) }
+    requires room { length (theory_names theory.now) ≤ known.old.vars }
+    requires set { Within set (all_of (theory_defaults theory.now)) }
     ensures kept { OnOk result (known.new ≡ known.old) }
-    ensures told { IfOk result (λ told. (fs : List plain.Formula) → AreClausesOf atoms.now fs known.old
-        → IsToldOfOrder atoms.now fs (map (λ d. default_of d.now) defaults.now) set told) }
+    ensures told { IfOk result (λ told. (fs : List plain.Formula) → AreClausesOf (theory_names theory.now) fs known.old
+        → IsToldOfOrder (theory_names theory.now) fs (theory_defaults theory.now) set told) }
 {
     let vars = known.vars();
     let count = known.clauses().len();
-    let told = ask_order(alloc, known, defaults, set, atoms)?;
+    let told = ask_order(alloc, known, theory, set)?;
     known.cut(vars, count);
     Ok(told)
 }

@@ -1,17 +1,15 @@
 //! Whether a default of a set fails by the facts and the consequents of the set.
 
-ghost use Rattle.std.specs.Prelude.{◌≡◌, ◌≤◌, ◌++◌, List, false, length, map, IfOk, OnOk};
-ghost use Rattle.mcs_system.specs.Faults.{has_twins};
+ghost use Rattle.std.specs.Prelude.{◌≡◌, ◌≤◌, ◌++◌, List, length, IfOk, OnOk};
 ghost use Rattle.mcs_system.specs.Plain as plain;
-ghost use Rattle.mcs_system.specs.Seen.{default_of};
+ghost use Rattle.mcs_default.specs.Asked.{theory_names, theory_defaults};
 ghost use Rattle.mcs_default.specs.Theories.{AreClausesOf, consequents};
-ghost use Rattle.mcs_evidence.specs.Theories.{AreOverDefaults};
 ghost use Rattle.mcs_default.specs.Told.{IsToldInside};
 
+use crate::asked::Theory;
 use crate::asking::{Justs, ask_justs};
 use crate::theory::push_consequents;
 use mcs_base::{Memory, Vars};
-use mcs_system::{Default, Name};
 use mcs_trace::{Cnf, Entail, Outside};
 use std::alloc::Global;
 
@@ -28,23 +26,19 @@ pub(crate) enum Inside {
 fn ask_inside(
     alloc: Global,
     known: &mut Cnf,
-    defaults: &[&Default],
+    theory: &Theory<'_>,
     set: Vars,
-    atoms: &[Name],
 ) -> Result<Inside, Memory>
-    requires few { length atoms.now ≤ 64 }
-    requires few_defaults { length defaults.now ≤ 10 }
-    requires different { has_twins atoms.now ≡ false }
-    requires over { AreOverDefaults atoms.now (map (λ d. default_of d.now) defaults.now) }
-    requires room { length atoms.now ≤ known.old.vars }
+    requires room { length (theory_names theory.now) ≤ known.old.vars }
     ensures kept { known.new ≡ known.old }
-    ensures told { IfOk result (λ told. (fs : List plain.Formula) → AreClausesOf atoms.now fs known.old
-        → IsToldInside atoms.now fs (map (λ d. default_of d.now) defaults.now) set told) }
+    ensures told { IfOk result (λ told. (fs : List plain.Formula) → AreClausesOf (theory_names theory.now) fs known.old
+        → IsToldInside (theory_names theory.now) fs (theory_defaults theory.now) set told) }
 {
+    let defaults = theory.defaults;
     let mut allowed = Vec::new(alloc);
     for (index, default) in defaults.iter().enumerate() {
         if set.has(index as u32) {
-            match ask_justs(alloc, known, &default.justs, atoms)? {
+            match ask_justs(alloc, known, &default.justs, theory.asked)? {
                 Justs::Allowed(mut justs) => allowed.append(&mut justs)?,
                 Justs::Blocked(just, entail) => {
                     let number = index as u32 + 1;
@@ -60,23 +54,18 @@ fn ask_inside(
 pub(crate) fn tell_inside(
     alloc: Global,
     known: &mut Cnf,
-    defaults: &[&Default],
+    theory: &Theory<'_>,
     set: Vars,
-    atoms: &[Name],
 ) -> Result<Inside, Memory>
-    requires few { length atoms.now ≤ 64 }
-    requires few_defaults { length defaults.now ≤ 10 }
-    requires different { has_twins atoms.now ≡ false }
-    requires over { AreOverDefaults atoms.now (map (λ d. default_of d.now) defaults.now) }
-    requires room { length atoms.now ≤ known.old.vars }
+    requires room { length (theory_names theory.now) ≤ known.old.vars }
     ensures kept { OnOk result (known.new ≡ known.old) }
-    ensures told { IfOk result (λ told. (fs : List plain.Formula) → AreClausesOf atoms.now fs known.old
-        → IsToldInside atoms.now (fs ++ consequents (map (λ d. default_of d.now) defaults.now) set) (map (λ d. default_of d.now) defaults.now) set told) }
+    ensures told { IfOk result (λ told. (fs : List plain.Formula) → AreClausesOf (theory_names theory.now) fs known.old
+        → IsToldInside (theory_names theory.now) (fs ++ consequents (theory_defaults theory.now) set) (theory_defaults theory.now) set told) }
 {
     let vars = known.vars();
     let count = known.clauses().len();
-    push_consequents(alloc, known, defaults, set, atoms)?;
-    let told = ask_inside(alloc, known, defaults, set, atoms)?;
+    push_consequents(alloc, known, theory, set)?;
+    let told = ask_inside(alloc, known, theory, set)?;
     known.cut(vars, count);
     Ok(told)
 }

@@ -1,18 +1,20 @@
 //! What is known of one set of defaults by all that was found.
 
-ghost use Rattle.std.specs.Prelude.{◌≡◌, ◌≤◌, ℕ, List, true, length, map};
+ghost use Rattle.std.specs.Prelude.{◌≡◌, ℕ, List, true};
 ghost use Rattle.std.specs.List.{AllByRecursion};
 ghost use Rattle.mcs_sets.specs.Sets.{has, Within};
 ghost use Rattle.mcs_system.specs.Plain as plain;
-ghost use Rattle.mcs_system.specs.Seen.{default_of};
 ghost use Rattle.mcs_evidence.specs.Defaults.{defaults_of};
 ghost use Rattle.mcs_evidence.specs.Theories.{IsDefaultAt};
-ghost use Rattle.mcs_default.specs.Searches.{CanBeAsked, IsConflict, IsLower, IsUpper, IsOpenAt};
-ghost use Rattle.mcs_default.specs.Known.{IsKnown, IsKnownOf, without_justs};
+ghost use Rattle.mcs_default.specs.Asked.{theory_defaults};
+ghost use Rattle.mcs_default.specs.Searches.{IsConflict, IsLower, IsUpper, IsOpenAt};
+ghost use Rattle.mcs_default.specs.Known.{IsKnown, without_justs};
+ghost use Rattle.mcs_default.specs.Nodes.{IsKnownOf};
 
-use crate::findings::{Findings, Lower, Upper, has_conflict};
+use crate::asked::Theory;
+use crate::findings::{Lower, Upper, has_conflict};
+use crate::searching::Search;
 use mcs_base::Vars;
-use mcs_system::Default;
 
 /// The number of the set of the first ten defaults. No theory has more.
 const TEN_DEFAULTS: u64 = 1023;
@@ -30,6 +32,13 @@ pub(crate) struct Known {
     pub(crate) allowed: Vars,
     /// Defaults that it blocks.
     pub(crate) blocked: Vars,
+}
+
+/// The sets of defaults that have all that is taken, and nothing that is not in `all`, with what is known of the two.
+#[derive(Clone, Copy)]
+pub(crate) struct Node {
+    pub(crate) taken: Known,
+    pub(crate) all: Known,
 }
 
 impl Known {
@@ -123,10 +132,10 @@ impl Known {
 }
 
 /// The defaults that have no justification.
-fn without_justs(defaults: &[&Default]) -> Vars
-    requires { length defaults.now ≤ 10 }
-    ensures { result ≡ without_justs (map (λ d. default_of d.now) defaults.now) }
+fn without_justs(theory: &Theory<'_>) -> Vars
+    ensures { result ≡ without_justs (theory_defaults theory.now) }
 {
+    let defaults = theory.defaults;
     let mut places = Vars::empty();
     for (index, default) in defaults.iter().enumerate() {
         if default.justs.as_slice().is_empty() {
@@ -137,14 +146,13 @@ fn without_justs(defaults: &[&Default]) -> Vars
 }
 
 /// What is known of the set by all that was found.
-pub(crate) fn known_of(findings: &Findings, defaults: &[&Default], set: Vars) -> Known
-    requires { length defaults.now ≤ 10 }
+pub(crate) fn known_of(search: &Search<'_>, set: Vars) -> Known
     ensures set { result.set ≡ set }
-    ensures right { (names : List plain.Name) → CanBeAsked names (map (λ d. default_of d.now) defaults.now) findings.now
-        → IsKnownOf names (map (λ d. default_of d.now) defaults.now) findings.now.facts result }
+    ensures right { IsKnownOf search.now result }
 {
+    let findings = &search.findings;
     if has_conflict(&findings.conflicts, set) {
-        return Known::of_conflict(set, without_justs(defaults));
+        return Known::of_conflict(set, without_justs(search.theory));
     }
     Known::nothing(set)
         .with_all_lower(&findings.lower)

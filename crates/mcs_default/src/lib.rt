@@ -1,6 +1,7 @@
 //! The extensions of default theories (Reiter 1980), seen through beliefs, and what shows that they are all.
 #![tactic(auto)]
 
+mod asked;
 mod asking;
 mod base;
 mod findings;
@@ -14,6 +15,7 @@ mod nodes;
 mod outside;
 mod questions;
 mod search;
+mod searching;
 mod theory;
 mod verdict;
 

@@ -7,24 +7,28 @@ ghost use Rattle.mcs_system.specs.Faults.{has_twins};
 ghost use Rattle.mcs_system.specs.Logic.{with_heads};
 ghost use Rattle.mcs_system.specs.Plain.{DefaultTheory, Fact};
 ghost use Rattle.mcs_system.specs.Plain as plain;
-ghost use Rattle.mcs_system.specs.Seen.{default_of, formula_of, item_of};
+ghost use Rattle.mcs_system.specs.Seen.{formula_of, item_of};
 ghost use Rattle.mcs_system.specs.Views.{IsAcceptedView};
 ghost use Rattle.mcs_cnf.specs.ClauseLists.{AreOver, clause_list};
 ghost use Rattle.mcs_evidence.specs.Defaults.{AreOverItems, IsAcceptedDefault, facts_of, defaults_of, verdicts_of};
+ghost use Rattle.mcs_default.specs.Asked.{theory_names, theory_beliefs, theory_defaults, AreItemsOf, IsSameTheory, IsSearchOf};
 ghost use Rattle.mcs_default.specs.Searches.{CanBeAsked, AreRightFindings};
-ghost use Rattle.mcs_default.specs.Theories.{AreParts, with_view};
-ghost use Rattle.mcs_evidence.specs.Theories.{AreOverDefaults};
+ghost use Rattle.mcs_default.specs.Theories.{with_view};
 
+use crate::asked::Theory;
 use crate::findings::Findings;
-use crate::known::known_of;
+use crate::known::{Node, known_of};
 use crate::search::add_views;
+use crate::searching::Search;
 use crate::theory::{append_formulas, facts};
 use crate::verdict::judge;
+use mcs_asked::Asked;
 use mcs_base::{Memory, Vars, list_states};
 use mcs_evidence::defaults_of;
-use mcs_system::{Default, Formula, Name, TheoryItem};
+use mcs_system::{Formula, Name, TheoryItem};
 use mcs_trace::{Cnf, DefaultCert};
 use std::alloc::Global;
+use std::mem;
 
 /// How many sets there are of so many defaults.
 fn set_count(defaults: usize) -> u64
@@ -48,25 +52,17 @@ fn push_view(views: &mut Vec<Vars>, view: Option<Vars>) -> Result<(), Memory>
 fn judge_all(
     alloc: Global,
     known: &mut Cnf,
-    defaults: &[&Default],
-    beliefs: &[&Formula],
-    atoms: &[Name],
+    theory: &Theory<'_>,
 ) -> Result<(Vec<Vars>, DefaultCert), Memory>
-    requires few { length atoms.now ≤ 64 }
-    requires few_beliefs { length beliefs.now ≤ 64 }
-    requires few_defaults { length defaults.now ≤ 10 }
-    requires different { has_twins atoms.now ≡ false }
-    requires over { AreOverDefaults atoms.now (map (λ d. default_of d.now) defaults.now) }
-    requires beliefs { AreOver atoms.now (map (λ b. formula_of b.now) beliefs.now) }
-    requires room { length atoms.now ≤ known.old.vars }
-    ensures accepted { IfOk result (λ r. (items : List plain.Item) → AreParts atoms.now items (map (λ d. default_of d.now) defaults.now) known.old
-        → IsAcceptedDefault atoms.now items (map (λ b. formula_of b.now) beliefs.now) r.0.items (verdicts_of r.1)) }
+    requires room { length (theory_names theory.now) ≤ known.old.vars }
+    ensures accepted { IfOk result (λ r. (items : List plain.Item) → AreItemsOf theory.now known.old items
+        → IsAcceptedDefault (theory_names theory.now) items (theory_beliefs theory.now) r.0.items (verdicts_of r.1)) }
 {
     let mut views = Vec::new(alloc);
     let mut sets = Vec::new(alloc);
-    for number in 0..set_count(defaults.len()) {
+    for number in 0..set_count(theory.defaults.len()) {
         let set = Vars::numbered(number);
-        let judged = judge(alloc, known, defaults, set, beliefs, atoms)?;
+        let judged = judge(alloc, known, theory, set)?;
         sets.push(judged.verdict)?;
         push_view(&mut views, judged.view)?;
     }
@@ -75,31 +71,45 @@ fn judge_all(
 }
 
 /// The views of the extensions alone, by a search, beside what was found before.
-fn list_all(
-    alloc: Global,
-    findings: &mut Findings,
-    defaults: &[&Default],
-    beliefs: &[&Formula],
-    atoms: &[Name],
-) -> Result<Vec<Vars>, Memory>
-    requires few_beliefs { length beliefs.now ≤ 64 }
-    requires few_defaults { length defaults.now ≤ 10 }
-    requires ready { CanBeAsked atoms.now (map (λ d. default_of d.now) defaults.now) findings.old }
-    requires beliefs { AreOver atoms.now (map (λ b. formula_of b.now) beliefs.now) }
-    ensures kept { findings.new.facts ≡ findings.old.facts }
-    ensures ready { OnOk result (CanBeAsked atoms.now (map (λ d. default_of d.now) defaults.now) findings.new) }
-    ensures exact { IfOk result (λ views. (items : List plain.Item) → AreParts atoms.now items (map (λ d. default_of d.now) defaults.now) findings.old.facts
-        → IsListing (IsAcceptedView (DefaultTheory items) (map (λ b. formula_of b.now) beliefs.now)) StateBefore views.items) }
+fn list_all(alloc: Global, search: &mut Search<'_>) -> Result<Vec<Vars>, Memory>
+    ensures kept { IsSameTheory search.old search.new }
+    ensures exact { IfOk result (λ views. (items : List plain.Item) → IsSearchOf items search.old
+        → IsListing (IsAcceptedView (DefaultTheory items) (theory_beliefs search.old.theory.now)) StateBefore views.items) }
 {
-    let taken = known_of(findings, defaults, Vars::empty());
+    let defaults = search.theory.defaults;
+    let taken = known_of(search, Vars::empty());
     let sets = set_count(defaults.len());
-    let all = known_of(findings, defaults, Vars::numbered(sets - 1));
+    let all = known_of(search, Vars::numbered(sets - 1));
     let mut views = Vec::new(alloc);
-    add_views(
-        alloc, findings, defaults, beliefs, atoms, taken, all, &mut views,
-    )?;
+    add_views(alloc, search, Node { taken, all }, &mut views)?;
     list_states(&mut views);
     Ok(views)
+}
+
+/// The same for a theory, with the clauses of its facts and what was found, which are lent to the search.
+fn list_lent(
+    alloc: Global,
+    findings: &mut Findings,
+    theory: &Theory<'_>,
+) -> Result<Vec<Vars>, Memory>
+    requires ready { CanBeAsked (theory_names theory.now) (theory_defaults theory.now) findings.old }
+    ensures kept { findings.new.facts ≡ findings.old.facts }
+    ensures ready { CanBeAsked (theory_names theory.now) (theory_defaults theory.now) findings.new }
+    ensures exact { IfOk result (λ views. (items : List plain.Item) → AreItemsOf theory.now findings.old.facts items
+        → IsListing (IsAcceptedView (DefaultTheory items) (theory_beliefs theory.now)) StateBefore views.items) }
+{
+    let none = Findings::none(alloc)?;
+    let mut search = Search {
+        theory,
+        findings: mem::replace(findings, none),
+    };
+    let views = list_all(alloc, &mut search);
+    let Search {
+        findings: found,
+        ..
+    } = search;
+    drop(mem::replace(findings, found));
+    views
 }
 
 /// The views of the extensions of a default theory to which facts are added, each once, in the order of states. The
@@ -149,7 +159,12 @@ pub fn extensions_from(
 {
     let defaults = defaults_of(alloc, items)?;
     let mut known = facts(alloc, items, added, atoms)?;
-    judge_all(alloc, &mut known, &defaults, beliefs, atoms)
+    let asked = Asked { atoms, beliefs };
+    let theory = Theory {
+        asked: &asked,
+        defaults: &defaults,
+    };
+    judge_all(alloc, &mut known, &theory)
 }
 
 /// The views of the extensions of the theory with the added facts, by a search, beside what was found before. The
@@ -179,7 +194,12 @@ pub(crate) fn list_with(
     let vars = findings.facts.vars();
     let count = findings.facts.count();
     append_formulas(alloc, &mut findings.facts, added, atoms)?;
-    let views = list_all(alloc, findings, &defaults, beliefs, atoms);
+    let asked = Asked { atoms, beliefs };
+    let theory = Theory {
+        asked: &asked,
+        defaults: &defaults,
+    };
+    let views = list_lent(alloc, findings, &theory);
     findings.facts.cut(vars, count);
     views
 }

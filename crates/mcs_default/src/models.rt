@@ -1,12 +1,14 @@
 //! What an assignment shows of sets of defaults.
 
-ghost use Rattle.std.specs.Prelude.{◌≡◌, ◌≤◌, length, map};
+ghost use Rattle.std.specs.Prelude.{◌≡◌, ◌≤◌, length};
 ghost use Rattle.mcs_sets.specs.Sets.{such_that};
 ghost use Rattle.mcs_system.specs.Logic.{true_names};
 ghost use Rattle.mcs_system.specs.Seen.{default_of};
+ghost use Rattle.mcs_default.specs.Asked.{theory_names, theory_defaults};
 ghost use Rattle.mcs_default.specs.Assignments.{holds_part, holds_part_at};
 ghost use Rattle.mcs_default.specs.declared.models.Part.TheVariants as parts;
 
+use crate::asked::Theory;
 use crate::findings::Upper;
 use mcs_base::Vars;
 use mcs_system::{Default, Name, all_hold_at, holds_at};
@@ -32,14 +34,13 @@ fn holds(default: &Default, part: Part, atoms: &[Name], values: Vars) -> bool
 }
 
 /// The defaults of which this part holds there.
-fn holding(defaults: &[&Default], part: Part, atoms: &[Name], values: Vars) -> Vars
-    requires few { length atoms.now ≤ 64 }
-    requires few_defaults { length defaults.now ≤ 10 }
-    ensures { result ≡ such_that (length defaults.now) (holds_part_at (true_names 0 atoms.now values) part (map (λ d. default_of d.now) defaults.now)) }
+fn holding(theory: &Theory<'_>, part: Part, values: Vars) -> Vars
+    ensures { result ≡ such_that (length theory.now.defaults.now) (holds_part_at (true_names 0 (theory_names theory.now) values) part (theory_defaults theory.now)) }
 {
+    let defaults = theory.defaults;
     let mut places = Vars::empty();
     for (index, default) in defaults.iter().enumerate() {
-        if holds(default, part, atoms, values) {
+        if holds(default, part, theory.asked.atoms, values) {
             places = places.with(index as u32);
         }
     }
@@ -47,18 +48,16 @@ fn holding(defaults: &[&Default], part: Part, atoms: &[Name], values: Vars) -> V
 }
 
 /// What this assignment, under which the facts hold, shows.
-pub(crate) fn upper_at(defaults: &[&Default], atoms: &[Name], values: Vars) -> Upper
-    requires few { length atoms.now ≤ 64 }
-    requires few_defaults { length defaults.now ≤ 10 }
+pub(crate) fn upper_at(theory: &Theory<'_>, values: Vars) -> Upper
     ensures values { result.values ≡ values }
-    ensures set { result.set ≡ such_that (length defaults.now) (holds_part_at (true_names 0 atoms.now values) parts.Consequent (map (λ d. default_of d.now) defaults.now)) }
-    ensures supported { result.supported ≡ such_that (length defaults.now) (holds_part_at (true_names 0 atoms.now values) parts.Prerequisite (map (λ d. default_of d.now) defaults.now)) }
-    ensures allowed { result.allowed ≡ such_that (length defaults.now) (holds_part_at (true_names 0 atoms.now values) parts.Justifications (map (λ d. default_of d.now) defaults.now)) }
+    ensures set { result.set ≡ such_that (length theory.now.defaults.now) (holds_part_at (true_names 0 (theory_names theory.now) values) parts.Consequent (theory_defaults theory.now)) }
+    ensures supported { result.supported ≡ such_that (length theory.now.defaults.now) (holds_part_at (true_names 0 (theory_names theory.now) values) parts.Prerequisite (theory_defaults theory.now)) }
+    ensures allowed { result.allowed ≡ such_that (length theory.now.defaults.now) (holds_part_at (true_names 0 (theory_names theory.now) values) parts.Justifications (theory_defaults theory.now)) }
 {
     Upper {
         values,
-        set: holding(defaults, Part::Consequent, atoms, values),
-        supported: holding(defaults, Part::Prerequisite, atoms, values),
-        allowed: holding(defaults, Part::Justifications, atoms, values),
+        set: holding(theory, Part::Consequent, values),
+        supported: holding(theory, Part::Prerequisite, values),
+        allowed: holding(theory, Part::Justifications, values),
     }
 }

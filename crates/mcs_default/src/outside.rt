@@ -1,19 +1,16 @@
 //! Whether a default outside a set applies by the facts and the consequents of the set, and what is believed if not.
 
-ghost use Rattle.std.specs.Prelude.{◌≡◌, ◌≤◌, ◌++◌, List, false, length, map, IfOk, OnOk};
-ghost use Rattle.mcs_system.specs.Faults.{has_twins};
+ghost use Rattle.std.specs.Prelude.{◌≡◌, ◌≤◌, ◌++◌, List, length, IfOk, OnOk};
 ghost use Rattle.mcs_system.specs.Plain as plain;
-ghost use Rattle.mcs_system.specs.Seen.{default_of, formula_of};
-ghost use Rattle.mcs_cnf.specs.ClauseLists.{AreOver};
+ghost use Rattle.mcs_default.specs.Asked.{theory_names, theory_beliefs, theory_defaults};
 ghost use Rattle.mcs_default.specs.Theories.{AreClausesOf, consequents};
-ghost use Rattle.mcs_evidence.specs.Theories.{AreOverDefaults};
 ghost use Rattle.mcs_default.specs.Told.{IsToldOutside, IsToldOfRest};
 
+use crate::asked::Theory;
 use crate::asking::{Standing, ask_default};
 use crate::theory::push_consequents;
 use mcs_base::{Memory, Vars};
 use mcs_classical::outputs_from;
-use mcs_system::{Default, Formula, Name};
 use mcs_trace::{Cnf, Entail, Outside};
 use std::alloc::Global;
 
@@ -39,24 +36,20 @@ pub(crate) enum Rest {
 fn ask_outside(
     alloc: Global,
     known: &mut Cnf,
-    defaults: &[&Default],
+    theory: &Theory<'_>,
     set: Vars,
-    atoms: &[Name],
 ) -> Result<Others, Memory>
-    requires few { length atoms.now ≤ 64 }
-    requires few_defaults { length defaults.now ≤ 10 }
-    requires different { has_twins atoms.now ≡ false }
-    requires over { AreOverDefaults atoms.now (map (λ d. default_of d.now) defaults.now) }
-    requires room { length atoms.now ≤ known.old.vars }
+    requires room { length (theory_names theory.now) ≤ known.old.vars }
     ensures kept { known.new ≡ known.old }
-    ensures told { IfOk result (λ told. (fs : List plain.Formula) → AreClausesOf atoms.now fs known.old
-        → IsToldOutside atoms.now fs (map (λ d. default_of d.now) defaults.now) set told) }
+    ensures told { IfOk result (λ told. (fs : List plain.Formula) → AreClausesOf (theory_names theory.now) fs known.old
+        → IsToldOutside (theory_names theory.now) fs (theory_defaults theory.now) set told) }
 {
+    let defaults = theory.defaults;
     let mut absent = Vec::new(alloc);
     for (index, default) in defaults.iter().enumerate() {
         if !set.has(index as u32) {
             let number = index as u32 + 1;
-            match ask_default(alloc, known, default, number, atoms)? {
+            match ask_default(alloc, known, default, number, theory.asked)? {
                 Standing::Absent(absence) => absent.push(absence)?,
                 Standing::Applies(pre, justs) => return Ok(Others::Applied(number, pre, justs)),
             }
@@ -66,28 +59,20 @@ fn ask_outside(
 }
 
 /// Asks the defaults outside the set, and where none applies the beliefs.
-fn ask_rest(
-    alloc: Global,
-    known: &mut Cnf,
-    defaults: &[&Default],
-    set: Vars,
-    beliefs: &[&Formula],
-    atoms: &[Name],
-) -> Result<Rest, Memory>
-    requires few { length atoms.now ≤ 64 }
-    requires few_beliefs { length beliefs.now ≤ 64 }
-    requires few_defaults { length defaults.now ≤ 10 }
-    requires different { has_twins atoms.now ≡ false }
-    requires over { AreOverDefaults atoms.now (map (λ d. default_of d.now) defaults.now) }
-    requires beliefs { AreOver atoms.now (map (λ b. formula_of b.now) beliefs.now) }
-    requires room { length atoms.now ≤ known.old.vars }
+fn ask_rest(alloc: Global, known: &mut Cnf, theory: &Theory<'_>, set: Vars) -> Result<Rest, Memory>
+    requires room { length (theory_names theory.now) ≤ known.old.vars }
     ensures kept { known.new ≡ known.old }
-    ensures told { IfOk result (λ told. (fs : List plain.Formula) → AreClausesOf atoms.now fs known.old
-        → IsToldOfRest atoms.now fs (map (λ d. default_of d.now) defaults.now) (map (λ b. formula_of b.now) beliefs.now) set told) }
+    ensures told { IfOk result (λ told. (fs : List plain.Formula) → AreClausesOf (theory_names theory.now) fs known.old
+        → IsToldOfRest (theory_names theory.now) fs (theory_defaults theory.now) (theory_beliefs theory.now) set told) }
 {
-    match ask_outside(alloc, known, defaults, set, atoms)? {
+    match ask_outside(alloc, known, theory, set)? {
         Others::Applied(number, pre, justs) => Ok(Rest::Applied(number, pre, justs)),
-        Others::Absent(absent) => match outputs_from(alloc, known, beliefs, atoms) {
+        Others::Absent(absent) => match outputs_from(
+            alloc,
+            known,
+            theory.asked.beliefs,
+            theory.asked.atoms,
+        ) {
             Ok((view, shown)) => Ok(Rest::Complete(absent, view, shown.entails)),
             Err(want) => {
                 drop(absent);
@@ -101,26 +86,18 @@ fn ask_rest(
 pub(crate) fn tell_rest(
     alloc: Global,
     known: &mut Cnf,
-    defaults: &[&Default],
+    theory: &Theory<'_>,
     set: Vars,
-    beliefs: &[&Formula],
-    atoms: &[Name],
 ) -> Result<Rest, Memory>
-    requires few { length atoms.now ≤ 64 }
-    requires few_beliefs { length beliefs.now ≤ 64 }
-    requires few_defaults { length defaults.now ≤ 10 }
-    requires different { has_twins atoms.now ≡ false }
-    requires over { AreOverDefaults atoms.now (map (λ d. default_of d.now) defaults.now) }
-    requires beliefs { AreOver atoms.now (map (λ b. formula_of b.now) beliefs.now) }
-    requires room { length atoms.now ≤ known.old.vars }
+    requires room { length (theory_names theory.now) ≤ known.old.vars }
     ensures kept { OnOk result (known.new ≡ known.old) }
-    ensures told { IfOk result (λ told. (fs : List plain.Formula) → AreClausesOf atoms.now fs known.old
-        → IsToldOfRest atoms.now (fs ++ consequents (map (λ d. default_of d.now) defaults.now) set) (map (λ d. default_of d.now) defaults.now) (map (λ b. formula_of b.now) beliefs.now) set told) }
+    ensures told { IfOk result (λ told. (fs : List plain.Formula) → AreClausesOf (theory_names theory.now) fs known.old
+        → IsToldOfRest (theory_names theory.now) (fs ++ consequents (theory_defaults theory.now) set) (theory_defaults theory.now) (theory_beliefs theory.now) set told) }
 {
     let vars = known.vars();
     let count = known.clauses().len();
-    push_consequents(alloc, known, defaults, set, atoms)?;
-    let told = ask_rest(alloc, known, defaults, set, beliefs, atoms)?;
+    push_consequents(alloc, known, theory, set)?;
+    let told = ask_rest(alloc, known, theory, set)?;
     known.cut(vars, count);
     Ok(told)
 }

@@ -1,28 +1,30 @@
 //! Whether defaults are supported or allowed by a set of defaults.
 
-ghost use Rattle.std.specs.Prelude.{◌≡◌, ◌≤◌, ◌<◌, ◌++◌, ◌↔◌, List, false, length, map, IsTrue, IfOk, OnOk};
+ghost use Rattle.std.specs.Prelude.{◌≡◌, ◌≤◌, ◌<◌, ◌++◌, ◌↔◌, List, length, map, IsTrue, IfOk};
 ghost use Rattle.std.specs.List.{AllByRecursion};
-ghost use Rattle.mcs_system.specs.Faults.{has_twins};
 ghost use Rattle.mcs_system.specs.Logic.{Entails};
 ghost use Rattle.mcs_system.specs.Plain as plain;
-ghost use Rattle.mcs_system.specs.Seen.{default_of, formula_of};
+ghost use Rattle.mcs_system.specs.Seen.{formula_of};
 ghost use Rattle.mcs_cnf.specs.ClauseLists.{IsOver, AreOver};
 ghost use Rattle.mcs_classical.specs.Models.{IsCounterexample};
 ghost use Rattle.mcs_evidence.specs.Defaults.{defaults_of, generated};
-ghost use Rattle.mcs_default.specs.Theories.{AreClausesOf, AreParts, consequents};
-ghost use Rattle.mcs_evidence.specs.Theories.{AreOverDefaults, IsDefaultAt};
-ghost use Rattle.mcs_default.specs.Searches.{CanBeAsked, IsAllowedBy, IsConflict};
+ghost use Rattle.mcs_evidence.specs.Theories.{IsDefaultAt};
+ghost use Rattle.mcs_default.specs.Theories.{AreClausesOf, consequents};
+ghost use Rattle.mcs_default.specs.Asked.{theory_names, theory_defaults, IsSameTheory, IsSearchOf};
+ghost use Rattle.mcs_default.specs.Searches.{IsAllowedBy, IsConflict};
 
+use crate::asked::Theory;
 use crate::findings::{
-    Findings, Lower, has_conflict, is_allowed, is_blocked, is_consistent, is_denied, is_supported,
+    Lower, has_conflict, is_allowed, is_blocked, is_consistent, is_denied, is_supported,
     is_unsupported,
 };
 use crate::models::upper_at;
+use crate::searching::Search;
 use crate::theory::append_consequents;
 use mcs_base::{Memory, Vars};
 use mcs_classical::counterexample_in;
 use mcs_sat::ClauseBase;
-use mcs_system::{Default, Formula, Name, same_formula};
+use mcs_system::{Formula, same_formula};
 use std::alloc::Global;
 
 /// The places of the atoms that are true where the facts, whose clauses are `known`, and the consequents of the set
@@ -30,25 +32,20 @@ use std::alloc::Global;
 fn counterexample(
     alloc: Global,
     known: &mut ClauseBase,
-    defaults: &[&Default],
-    atoms: &[Name],
+    theory: &Theory<'_>,
     set: Vars,
     goal: &Formula,
 ) -> Result<Option<Vars>, Memory>
-    requires few { length atoms.now ≤ 64 }
-    requires few_defaults { length defaults.now ≤ 10 }
-    requires different { has_twins atoms.now ≡ false }
-    requires over { AreOverDefaults atoms.now (map (λ d. default_of d.now) defaults.now) }
-    requires goal { IsOver atoms.now (formula_of goal.now) }
-    requires room { length atoms.now ≤ known.old.vars }
+    requires goal { IsOver (theory_names theory.now) (formula_of goal.now) }
+    requires room { length (theory_names theory.now) ≤ known.old.vars }
     ensures kept { known.new ≡ known.old }
-    ensures exact { IfOk result (λ found. (fs : List plain.Formula) → AreClausesOf atoms.now fs known.old
-        → IsCounterexample atoms.now (fs ++ consequents (map (λ d. default_of d.now) defaults.now) set) (formula_of goal.now) found) }
+    ensures exact { IfOk result (λ found. (fs : List plain.Formula) → AreClausesOf (theory_names theory.now) fs known.old
+        → IsCounterexample (theory_names theory.now) (fs ++ consequents (theory_defaults theory.now) set) (formula_of goal.now) found) }
 {
     let vars = known.vars();
     let count = known.count();
-    append_consequents(alloc, known, defaults, set, atoms)?;
-    let found = counterexample_in(alloc, known, goal, atoms);
+    append_consequents(alloc, known, theory, set)?;
+    let found = counterexample_in(alloc, known, goal, theory.asked.atoms);
     known.cut(vars, count);
     found
 }
@@ -57,34 +54,30 @@ fn counterexample(
 /// what else this shows is kept.
 pub(crate) fn follows(
     alloc: Global,
-    findings: &mut Findings,
-    defaults: &[&Default],
-    atoms: &[Name],
+    search: &mut Search<'_>,
     set: Vars,
     goal: &Formula,
 ) -> Result<bool, Memory>
-    requires few_defaults { length defaults.now ≤ 10 }
-    requires ready { CanBeAsked atoms.now (map (λ d. default_of d.now) defaults.now) findings.old }
-    requires goal { IsOver atoms.now (formula_of goal.now) }
-    ensures kept { findings.new.facts ≡ findings.old.facts }
-    ensures ready { OnOk result (CanBeAsked atoms.now (map (λ d. default_of d.now) defaults.now) findings.new) }
-    ensures exact { IfOk result (λ b. (items : List plain.Item) → AreParts atoms.now items (map (λ d. default_of d.now) defaults.now) findings.old.facts
+    requires goal { IsOver (theory_names search.old.theory.now) (formula_of goal.now) }
+    ensures kept { IsSameTheory search.old search.new }
+    ensures exact { IfOk result (λ b. (items : List plain.Item) → IsSearchOf items search.old
         → IsTrue b ↔ Entails (generated items set) (formula_of goal.now)) }
 {
-    match counterexample(alloc, &mut findings.facts, defaults, atoms, set, goal)? {
+    let theory = search.theory;
+    match counterexample(alloc, &mut search.findings.facts, theory, set, goal)? {
         None => Ok(true),
         Some(values) => {
-            findings.upper.push(upper_at(defaults, atoms, values))?;
+            search.findings.upper.push(upper_at(theory, values))?;
             Ok(false)
         }
     }
 }
 
 /// Whether the formula is the consequent of a default of the set, word for word.
-fn is_consequent(defaults: &[&Default], set: Vars, formula: &Formula) -> bool
-    requires few_defaults { length defaults.now ≤ 10 }
-    ensures { (items : List plain.Item) → map (λ d. default_of d.now) defaults.now ≡ defaults_of items → IsTrue result → Entails (generated items set) (formula_of formula.now) }
+fn is_consequent(theory: &Theory<'_>, set: Vars, formula: &Formula) -> bool
+    ensures { (items : List plain.Item) → theory_defaults theory.now ≡ defaults_of items → IsTrue result → Entails (generated items set) (formula_of formula.now) }
 {
+    let defaults = theory.defaults;
     for (index, default) in defaults.iter().enumerate() {
         if set.has(index as u32) && same_formula(&default.conclusion, formula) {
             return true;
@@ -97,48 +90,39 @@ fn is_consequent(defaults: &[&Default], set: Vars, formula: &Formula) -> bool
 /// has it as a consequent nor what was found denies it.
 pub(crate) fn is_believed(
     alloc: Global,
-    findings: &mut Findings,
-    defaults: &[&Default],
-    atoms: &[Name],
+    search: &mut Search<'_>,
     set: Vars,
     belief: &Formula,
 ) -> Result<bool, Memory>
-    requires few_defaults { length defaults.now ≤ 10 }
-    requires ready { CanBeAsked atoms.now (map (λ d. default_of d.now) defaults.now) findings.old }
-    requires belief { IsOver atoms.now (formula_of belief.now) }
-    ensures kept { findings.new.facts ≡ findings.old.facts }
-    ensures ready { OnOk result (CanBeAsked atoms.now (map (λ d. default_of d.now) defaults.now) findings.new) }
-    ensures exact { IfOk result (λ b. (items : List plain.Item) → AreParts atoms.now items (map (λ d. default_of d.now) defaults.now) findings.old.facts
+    requires belief { IsOver (theory_names search.old.theory.now) (formula_of belief.now) }
+    ensures kept { IsSameTheory search.old search.new }
+    ensures exact { IfOk result (λ b. (items : List plain.Item) → IsSearchOf items search.old
         → IsTrue b ↔ Entails (generated items set) (formula_of belief.now)) }
 {
-    if is_consequent(defaults, set, belief) {
+    let theory = search.theory;
+    if is_consequent(theory, set, belief) {
         return Ok(true);
     }
-    if is_denied(&findings.upper, atoms, set, belief) {
+    if is_denied(&search.findings.upper, theory.asked.atoms, set, belief) {
         return Ok(false);
     }
-    follows(alloc, findings, defaults, atoms, set, belief)
+    follows(alloc, search, set, belief)
 }
 
 /// Whether the negation of the formula follows.
 fn refutes(
     alloc: Global,
-    findings: &mut Findings,
-    defaults: &[&Default],
-    atoms: &[Name],
+    search: &mut Search<'_>,
     set: Vars,
     formula: &Formula,
 ) -> Result<bool, Memory>
-    requires few_defaults { length defaults.now ≤ 10 }
-    requires ready { CanBeAsked atoms.now (map (λ d. default_of d.now) defaults.now) findings.old }
-    requires over { IsOver atoms.now (formula_of formula.now) }
-    ensures kept { findings.new.facts ≡ findings.old.facts }
-    ensures ready { OnOk result (CanBeAsked atoms.now (map (λ d. default_of d.now) defaults.now) findings.new) }
-    ensures exact { IfOk result (λ b. (items : List plain.Item) → AreParts atoms.now items (map (λ d. default_of d.now) defaults.now) findings.old.facts
+    requires over { IsOver (theory_names search.old.theory.now) (formula_of formula.now) }
+    ensures kept { IsSameTheory search.old search.new }
+    ensures exact { IfOk result (λ b. (items : List plain.Item) → IsSearchOf items search.old
         → IsTrue b ↔ Entails (generated items set) (plain.Not (formula_of formula.now))) }
 {
     let goal = Formula::Not(Box::new(alloc, formula.copy(alloc)?)?);
-    let is_refuted = follows(alloc, findings, defaults, atoms, set, &goal);
+    let is_refuted = follows(alloc, search, set, &goal);
     drop(goal);
     is_refuted
 }
@@ -146,22 +130,17 @@ fn refutes(
 /// Whether no negation of one of the justifications follows.
 fn allows_all(
     alloc: Global,
-    findings: &mut Findings,
-    defaults: &[&Default],
-    atoms: &[Name],
+    search: &mut Search<'_>,
     set: Vars,
     justs: &[Formula],
 ) -> Result<bool, Memory>
-    requires few_defaults { length defaults.now ≤ 10 }
-    requires ready { CanBeAsked atoms.now (map (λ d. default_of d.now) defaults.now) findings.old }
-    requires over { AreOver atoms.now (map formula_of justs.now) }
-    ensures kept { findings.new.facts ≡ findings.old.facts }
-    ensures ready { OnOk result (CanBeAsked atoms.now (map (λ d. default_of d.now) defaults.now) findings.new) }
-    ensures exact { IfOk result (λ b. (items : List plain.Item) → AreParts atoms.now items (map (λ d. default_of d.now) defaults.now) findings.old.facts
+    requires over { AreOver (theory_names search.old.theory.now) (map formula_of justs.now) }
+    ensures kept { IsSameTheory search.old search.new }
+    ensures exact { IfOk result (λ b. (items : List plain.Item) → IsSearchOf items search.old
         → IsTrue b ↔ AllByRecursion (λ j. ¬ Entails (generated items set) (plain.Not j)) (map formula_of justs.now)) }
 {
     for just in justs {
-        if refutes(alloc, findings, defaults, atoms, set, just)? {
+        if refutes(alloc, search, set, just)? {
             return Ok(false);
         }
     }
@@ -171,36 +150,25 @@ fn allows_all(
 /// Whether the prerequisite of the default at the index follows from the facts and the consequents of the set.
 pub(crate) fn supports(
     alloc: Global,
-    findings: &mut Findings,
-    defaults: &[&Default],
-    atoms: &[Name],
+    search: &mut Search<'_>,
     set: Vars,
     index: u32,
 ) -> Result<bool, Memory>
-    requires few_defaults { length defaults.now ≤ 10 }
-    requires ready { CanBeAsked atoms.now (map (λ d. default_of d.now) defaults.now) findings.old }
-    requires index { index < length defaults.now }
-    ensures kept { findings.new.facts ≡ findings.old.facts }
-    ensures ready { OnOk result (CanBeAsked atoms.now (map (λ d. default_of d.now) defaults.now) findings.new) }
-    ensures exact { IfOk result (λ b. (items : List plain.Item) → AreParts atoms.now items (map (λ d. default_of d.now) defaults.now) findings.old.facts
+    requires index { index < length search.old.theory.now.defaults.now }
+    ensures kept { IsSameTheory search.old search.new }
+    ensures exact { IfOk result (λ b. (items : List plain.Item) → IsSearchOf items search.old
         → (d : plain.Default) → IsDefaultAt items index d → IsTrue b ↔ Entails (generated items set) d.pre) }
 {
-    if is_supported(&findings.lower, set, index) {
+    if is_supported(&search.findings.lower, set, index) {
         return Ok(true);
     }
-    if is_unsupported(&findings.upper, set, index) {
+    if is_unsupported(&search.findings.upper, set, index) {
         return Ok(false);
     }
-    let is_supported = follows(
-        alloc,
-        findings,
-        defaults,
-        atoms,
-        set,
-        &defaults[index as usize].pre,
-    )?;
+    let defaults = search.theory.defaults;
+    let is_supported = follows(alloc, search, set, &defaults[index as usize].pre)?;
     if is_supported {
-        findings.lower.push(Lower {
+        search.findings.lower.push(Lower {
             set,
             supported: Vars::one(index),
             blocked: Vars::empty(),
@@ -210,22 +178,13 @@ pub(crate) fn supports(
 }
 
 /// Whether everything follows, by asking.
-fn entails_all(
-    alloc: Global,
-    findings: &mut Findings,
-    defaults: &[&Default],
-    atoms: &[Name],
-    set: Vars,
-) -> Result<bool, Memory>
-    requires few_defaults { length defaults.now ≤ 10 }
-    requires ready { CanBeAsked atoms.now (map (λ d. default_of d.now) defaults.now) findings.old }
-    ensures kept { findings.new.facts ≡ findings.old.facts }
-    ensures ready { OnOk result (CanBeAsked atoms.now (map (λ d. default_of d.now) defaults.now) findings.new) }
-    ensures exact { IfOk result (λ b. (items : List plain.Item) → AreParts atoms.now items (map (λ d. default_of d.now) defaults.now) findings.old.facts
+fn entails_all(alloc: Global, search: &mut Search<'_>, set: Vars) -> Result<bool, Memory>
+    ensures kept { IsSameTheory search.old search.new }
+    ensures exact { IfOk result (λ b. (items : List plain.Item) → IsSearchOf items search.old
         → IsTrue b ↔ IsConflict items set) }
 {
     let falsity = Formula::False;
-    let is_conflict = follows(alloc, findings, defaults, atoms, set, &falsity);
+    let is_conflict = follows(alloc, search, set, &falsity);
     drop(falsity);
     is_conflict
 }
@@ -233,119 +192,82 @@ fn entails_all(
 /// The set, by which everything follows, without the default at the index if everything follows all the same.
 fn without_needless(
     alloc: Global,
-    findings: &mut Findings,
-    defaults: &[&Default],
-    atoms: &[Name],
+    search: &mut Search<'_>,
     set: Vars,
     index: u32,
 ) -> Result<Vars, Memory>
-    requires few_defaults { length defaults.now ≤ 10 }
-    requires ready { CanBeAsked atoms.now (map (λ d. default_of d.now) defaults.now) findings.old }
-    requires index { index < length defaults.now }
-    requires conflict { (items : List plain.Item) → AreParts atoms.now items (map (λ d. default_of d.now) defaults.now) findings.old.facts
-        → IsConflict items set }
-    ensures kept { findings.new.facts ≡ findings.old.facts }
-    ensures ready { OnOk result (CanBeAsked atoms.now (map (λ d. default_of d.now) defaults.now) findings.new) }
-    ensures conflict { IfOk result (λ least. (items : List plain.Item) → AreParts atoms.now items (map (λ d. default_of d.now) defaults.now) findings.old.facts
-        → IsConflict items least) }
+    requires index { index < length search.old.theory.now.defaults.now }
+    requires conflict { (items : List plain.Item) → IsSearchOf items search.old → IsConflict items set }
+    ensures kept { IsSameTheory search.old search.new }
+    ensures conflict { IfOk result (λ least. (items : List plain.Item) → IsSearchOf items search.old → IsConflict items least) }
 {
     if !set.has(index) {
         return Ok(set);
     }
     let smaller = set.without(index);
-    if entails_all(alloc, findings, defaults, atoms, smaller)? {
+    if entails_all(alloc, search, smaller)? {
         return Ok(smaller);
     }
     Ok(set)
 }
 
 /// A part of the set by which everything follows, of which nothing more can be left out.
-fn least_conflict(
-    alloc: Global,
-    findings: &mut Findings,
-    defaults: &[&Default],
-    atoms: &[Name],
-    set: Vars,
-) -> Result<Vars, Memory>
-    requires few_defaults { length defaults.now ≤ 10 }
-    requires ready { CanBeAsked atoms.now (map (λ d. default_of d.now) defaults.now) findings.old }
-    requires conflict { (items : List plain.Item) → AreParts atoms.now items (map (λ d. default_of d.now) defaults.now) findings.old.facts
-        → IsConflict items set }
-    ensures kept { findings.new.facts ≡ findings.old.facts }
-    ensures ready { OnOk result (CanBeAsked atoms.now (map (λ d. default_of d.now) defaults.now) findings.new) }
-    ensures conflict { IfOk result (λ least. (items : List plain.Item) → AreParts atoms.now items (map (λ d. default_of d.now) defaults.now) findings.old.facts
-        → IsConflict items least) }
+fn least_conflict(alloc: Global, search: &mut Search<'_>, set: Vars) -> Result<Vars, Memory>
+    requires conflict { (items : List plain.Item) → IsSearchOf items search.old → IsConflict items set }
+    ensures kept { IsSameTheory search.old search.new }
+    ensures conflict { IfOk result (λ least. (items : List plain.Item) → IsSearchOf items search.old → IsConflict items least) }
 {
+    let defaults = search.theory.defaults;
     let mut least = set;
     for index in 0..defaults.len() {
-        least = without_needless(alloc, findings, defaults, atoms, least, index as u32)?;
+        least = without_needless(alloc, search, least, index as u32)?;
     }
     Ok(least)
 }
 
 /// Whether the facts and the consequents of the set contradict each other. Where they do, a least part that does is
 /// kept.
-fn contradicts(
-    alloc: Global,
-    findings: &mut Findings,
-    defaults: &[&Default],
-    atoms: &[Name],
-    set: Vars,
-) -> Result<bool, Memory>
-    requires few_defaults { length defaults.now ≤ 10 }
-    requires ready { CanBeAsked atoms.now (map (λ d. default_of d.now) defaults.now) findings.old }
-    ensures kept { findings.new.facts ≡ findings.old.facts }
-    ensures ready { OnOk result (CanBeAsked atoms.now (map (λ d. default_of d.now) defaults.now) findings.new) }
-    ensures exact { IfOk result (λ b. (items : List plain.Item) → AreParts atoms.now items (map (λ d. default_of d.now) defaults.now) findings.old.facts
+fn contradicts(alloc: Global, search: &mut Search<'_>, set: Vars) -> Result<bool, Memory>
+    ensures kept { IsSameTheory search.old search.new }
+    ensures exact { IfOk result (λ b. (items : List plain.Item) → IsSearchOf items search.old
         → IsTrue b ↔ IsConflict items set) }
 {
-    if has_conflict(&findings.conflicts, set) {
+    if has_conflict(&search.findings.conflicts, set) {
         return Ok(true);
     }
-    if is_consistent(&findings.upper, set) {
+    if is_consistent(&search.findings.upper, set) {
         return Ok(false);
     }
-    if !entails_all(alloc, findings, defaults, atoms, set)? {
+    if !entails_all(alloc, search, set)? {
         return Ok(false);
     }
-    let least = least_conflict(alloc, findings, defaults, atoms, set)?;
-    findings.conflicts.push(least)?;
+    let least = least_conflict(alloc, search, set)?;
+    search.findings.conflicts.push(least)?;
     Ok(true)
 }
 
 /// Whether no negation of a justification of the default at the index follows, by asking where it is not known.
 fn allows_by_asking(
     alloc: Global,
-    findings: &mut Findings,
-    defaults: &[&Default],
-    atoms: &[Name],
+    search: &mut Search<'_>,
     set: Vars,
     index: u32,
 ) -> Result<bool, Memory>
-    requires few_defaults { length defaults.now ≤ 10 }
-    requires ready { CanBeAsked atoms.now (map (λ d. default_of d.now) defaults.now) findings.old }
-    requires index { index < length defaults.now }
-    ensures kept { findings.new.facts ≡ findings.old.facts }
-    ensures ready { OnOk result (CanBeAsked atoms.now (map (λ d. default_of d.now) defaults.now) findings.new) }
-    ensures exact { IfOk result (λ b. (items : List plain.Item) → AreParts atoms.now items (map (λ d. default_of d.now) defaults.now) findings.old.facts
+    requires index { index < length search.old.theory.now.defaults.now }
+    ensures kept { IsSameTheory search.old search.new }
+    ensures exact { IfOk result (λ b. (items : List plain.Item) → IsSearchOf items search.old
         → (d : plain.Default) → IsDefaultAt items index d → IsTrue b ↔ IsAllowedBy (generated items set) d) }
 {
-    if is_allowed(&findings.upper, set, index) {
+    if is_allowed(&search.findings.upper, set, index) {
         return Ok(true);
     }
-    if is_blocked(&findings.lower, set, index) {
+    if is_blocked(&search.findings.lower, set, index) {
         return Ok(false);
     }
-    let is_allowed = allows_all(
-        alloc,
-        findings,
-        defaults,
-        atoms,
-        set,
-        &defaults[index as usize].justs,
-    )?;
+    let defaults = search.theory.defaults;
+    let is_allowed = allows_all(alloc, search, set, &defaults[index as usize].justs)?;
     if !is_allowed {
-        findings.lower.push(Lower {
+        search.findings.lower.push(Lower {
             set,
             supported: Vars::empty(),
             blocked: Vars::one(index),
@@ -358,25 +280,21 @@ fn allows_by_asking(
 /// set.
 pub(crate) fn allows(
     alloc: Global,
-    findings: &mut Findings,
-    defaults: &[&Default],
-    atoms: &[Name],
+    search: &mut Search<'_>,
     set: Vars,
     index: u32,
 ) -> Result<bool, Memory>
-    requires few_defaults { length defaults.now ≤ 10 }
-    requires ready { CanBeAsked atoms.now (map (λ d. default_of d.now) defaults.now) findings.old }
-    requires index { index < length defaults.now }
-    ensures kept { findings.new.facts ≡ findings.old.facts }
-    ensures ready { OnOk result (CanBeAsked atoms.now (map (λ d. default_of d.now) defaults.now) findings.new) }
-    ensures exact { IfOk result (λ b. (items : List plain.Item) → AreParts atoms.now items (map (λ d. default_of d.now) defaults.now) findings.old.facts
+    requires index { index < length search.old.theory.now.defaults.now }
+    ensures kept { IsSameTheory search.old search.new }
+    ensures exact { IfOk result (λ b. (items : List plain.Item) → IsSearchOf items search.old
         → (d : plain.Default) → IsDefaultAt items index d → IsTrue b ↔ IsAllowedBy (generated items set) d) }
 {
-    if is_allowed(&findings.upper, set, index) {
+    if is_allowed(&search.findings.upper, set, index) {
         return Ok(true);
     }
-    if contradicts(alloc, findings, defaults, atoms, set)? {
+    let defaults = search.theory.defaults;
+    if contradicts(alloc, search, set)? {
         return Ok(defaults[index as usize].justs.as_slice().is_empty());
     }
-    allows_by_asking(alloc, findings, defaults, atoms, set, index)
+    allows_by_asking(alloc, search, set, index)
 }

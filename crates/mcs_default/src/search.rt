@@ -1,48 +1,34 @@
 //! The search for the extensions of a default theory, default by default.
 
-ghost use Rattle.std.specs.Prelude.{◌≡◌, ◌≤◌, ◌<◌, ◌↔◌, ◌⊎◌, ℕ, List, length, map, IfOk, OnOk};
+ghost use Rattle.std.specs.Prelude.{◌<◌, ◌↔◌, ◌⊎◌, ℕ, List, length, IfOk, OnOk};
 ghost use Rattle.mcs_sets.specs.Sets.{Within};
 ghost use Rattle.mcs_base.specs.Listings.{IsAmong};
 ghost use Rattle.mcs_system.specs.Logic.{Theory};
 ghost use Rattle.mcs_system.specs.Plain as plain;
-ghost use Rattle.mcs_system.specs.Seen.{default_of, formula_of};
 ghost use Rattle.mcs_system.specs.Views.{Shows};
-ghost use Rattle.mcs_cnf.specs.ClauseLists.{AreOver};
 ghost use Rattle.mcs_evidence.specs.Defaults.{generated};
-ghost use Rattle.mcs_default.specs.Theories.{AreParts};
-ghost use Rattle.mcs_evidence.specs.Theories.{AreOverDefaults, all_of};
-ghost use Rattle.mcs_default.specs.Searches.{CanBeAsked, IsOpenAt, IsViewBelow};
-ghost use Rattle.mcs_default.specs.Known.{IsKnownOf};
+ghost use Rattle.mcs_evidence.specs.Theories.{all_of};
+ghost use Rattle.mcs_default.specs.Asked.{theory_beliefs, theory_defaults, IsSameTheory, IsSearchOf};
+ghost use Rattle.mcs_default.specs.Nodes.{IsNode};
+ghost use Rattle.mcs_default.specs.Searches.{IsOpenAt, IsViewBelow};
 
-use crate::findings::Findings;
-use crate::known::{Known, known_of};
+use crate::known::{Node, known_of};
 use crate::nodes::{are_open, is_grounded};
 use crate::questions::is_believed;
+use crate::searching::Search;
 use mcs_base::{Memory, Vars};
-use mcs_system::{Default, Formula, Name};
 use std::alloc::Global;
 
 /// The beliefs that follow from the facts and the consequents of the set.
-fn view_of(
-    alloc: Global,
-    findings: &mut Findings,
-    defaults: &[&Default],
-    beliefs: &[&Formula],
-    atoms: &[Name],
-    set: Vars,
-) -> Result<Vars, Memory>
-    requires few_beliefs { length beliefs.now ≤ 64 }
-    requires few_defaults { length defaults.now ≤ 10 }
-    requires ready { CanBeAsked atoms.now (map (λ d. default_of d.now) defaults.now) findings.old }
-    requires beliefs { AreOver atoms.now (map (λ b. formula_of b.now) beliefs.now) }
-    ensures kept { findings.new.facts ≡ findings.old.facts }
-    ensures ready { OnOk result (CanBeAsked atoms.now (map (λ d. default_of d.now) defaults.now) findings.new) }
-    ensures shown { IfOk result (λ view. (items : List plain.Item) → AreParts atoms.now items (map (λ d. default_of d.now) defaults.now) findings.old.facts
-        → Shows (Theory (generated items set)) (map (λ b. formula_of b.now) beliefs.now) view) }
+fn view_of(alloc: Global, search: &mut Search<'_>, set: Vars) -> Result<Vars, Memory>
+    ensures kept { IsSameTheory search.old search.new }
+    ensures shown { IfOk result (λ view. (items : List plain.Item) → IsSearchOf items search.old
+        → Shows (Theory (generated items set)) (theory_beliefs search.old.theory.now) view) }
 {
+    let beliefs = search.theory.asked.beliefs;
     let mut view = Vars::empty();
     for (index, belief) in beliefs.iter().enumerate() {
-        if is_believed(alloc, findings, defaults, atoms, set, belief)? {
+        if is_believed(alloc, search, set, belief)? {
             view = view.with(index as u32);
         }
     }
@@ -53,25 +39,17 @@ fn view_of(
 /// no other one.
 fn add_view(
     alloc: Global,
-    findings: &mut Findings,
-    defaults: &[&Default],
-    beliefs: &[&Formula],
-    atoms: &[Name],
+    search: &mut Search<'_>,
     set: Vars,
     views: &mut Vec<Vars>,
 ) -> Result<(), Memory>
-    requires few_beliefs { length beliefs.now ≤ 64 }
-    requires few_defaults { length defaults.now ≤ 10 }
-    requires ready { CanBeAsked atoms.now (map (λ d. default_of d.now) defaults.now) findings.old }
-    requires beliefs { AreOver atoms.now (map (λ b. formula_of b.now) beliefs.now) }
-    ensures kept { findings.new.facts ≡ findings.old.facts }
-    ensures ready { OnOk result (CanBeAsked atoms.now (map (λ d. default_of d.now) defaults.now) findings.new) }
-    ensures listed { OnOk result ((items : List plain.Item) → AreParts atoms.now items (map (λ d. default_of d.now) defaults.now) findings.old.facts
-        → Within set (all_of (map (λ d. default_of d.now) defaults.now)) → ((k : ℕ) → k < length defaults.now → IsOpenAt items set set k)
-        → (places : ℕ) → IsAmong places views.new.items ↔ (IsAmong places views.old.items ⊎ IsViewBelow items (map (λ b. formula_of b.now) beliefs.now) set set places)) }
+    ensures kept { IsSameTheory search.old search.new }
+    ensures listed { OnOk result ((items : List plain.Item) → IsSearchOf items search.old
+        → Within set (all_of (theory_defaults search.old.theory.now)) → ((k : ℕ) → k < length search.old.theory.now.defaults.now → IsOpenAt items set set k)
+        → (places : ℕ) → IsAmong places views.new.items ↔ (IsAmong places views.old.items ⊎ IsViewBelow items (theory_beliefs search.old.theory.now) set set places)) }
 {
-    if is_grounded(alloc, findings, defaults, atoms, set)? {
-        views.push(view_of(alloc, findings, defaults, beliefs, atoms, set)?)?;
+    if is_grounded(alloc, search, set)? {
+        views.push(view_of(alloc, search, set)?)?;
     }
     Ok(())
 }
@@ -81,37 +59,24 @@ fn add_view(
 /// next default is left out first, and then taken.
 pub(crate) fn add_views(
     alloc: Global,
-    findings: &mut Findings,
-    defaults: &[&Default],
-    beliefs: &[&Formula],
-    atoms: &[Name],
-    taken: Known,
-    all: Known,
+    search: &mut Search<'_>,
+    node: Node,
     views: &mut Vec<Vars>,
 ) -> Result<(), Memory>
-    requires few_beliefs { length beliefs.now ≤ 64 }
-    requires few_defaults { length defaults.now ≤ 10 }
-    requires ready { CanBeAsked atoms.now (map (λ d. default_of d.now) defaults.now) findings.old }
-    requires beliefs { AreOver atoms.now (map (λ b. formula_of b.now) beliefs.now) }
-    requires within { Within taken.set all.set }
-    requires all { Within all.set (all_of (map (λ d. default_of d.now) defaults.now)) }
-    requires taken_known { IsKnownOf atoms.now (map (λ d. default_of d.now) defaults.now) findings.old.facts taken }
-    requires all_known { IsKnownOf atoms.now (map (λ d. default_of d.now) defaults.now) findings.old.facts all }
-    ensures kept { findings.new.facts ≡ findings.old.facts }
-    ensures ready { OnOk result (CanBeAsked atoms.now (map (λ d. default_of d.now) defaults.now) findings.new) }
-    ensures listed { OnOk result ((items : List plain.Item) → AreParts atoms.now items (map (λ d. default_of d.now) defaults.now) findings.old.facts
-        → (places : ℕ) → IsAmong places views.new.items ↔ (IsAmong places views.old.items ⊎ IsViewBelow items (map (λ b. formula_of b.now) beliefs.now) taken.set all.set places)) }
+    requires { IsNode search.old node }
+    ensures kept { IsSameTheory search.old search.new }
+    ensures listed { OnOk result ((items : List plain.Item) → IsSearchOf items search.old
+        → (places : ℕ) → IsAmong places views.new.items ↔ (IsAmong places views.old.items ⊎ IsViewBelow items (theory_beliefs search.old.theory.now) node.taken.set node.all.set places)) }
 {
-    if !are_open(alloc, findings, defaults, atoms, taken, all)? {
+    if !are_open(alloc, search, node)? {
         return Ok(());
     }
+    let Node { taken, all } = node;
     let Some(index) = all.set.minus(taken.set).first() else {
-        return add_view(alloc, findings, defaults, beliefs, atoms, taken.set, views);
+        return add_view(alloc, search, taken.set, views);
     };
-    let fewer = known_of(findings, defaults, all.set.without(index));
-    add_views(
-        alloc, findings, defaults, beliefs, atoms, taken, fewer, views,
-    )?;
-    let more = known_of(findings, defaults, taken.set.with(index));
-    add_views(alloc, findings, defaults, beliefs, atoms, more, all, views)
+    let fewer = known_of(search, all.set.without(index));
+    add_views(alloc, search, Node { taken, all: fewer }, views)?;
+    let more = known_of(search, taken.set.with(index));
+    add_views(alloc, search, Node { taken: more, all }, views)
 }

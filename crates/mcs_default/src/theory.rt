@@ -1,16 +1,17 @@
 //! The facts of a theory, and the conclusions of its defaults.
 
 ghost use Rattle.std.specs.Prelude.{◌≡◌, ◌≤◌, ◌++◌, length, map, IfOk, OnOk, OnErr};
-ghost use Rattle.mcs_system.specs.Seen.{formula_of, default_of, item_of};
+ghost use Rattle.mcs_system.specs.Seen.{formula_of, item_of};
 ghost use Rattle.mcs_cnf.specs.ClauseLists.{with_formulas, clause_list, AreOver};
 ghost use Rattle.mcs_evidence.specs.Defaults.{AreOverItems, facts_of};
+ghost use Rattle.mcs_default.specs.Asked.{theory_names, theory_defaults};
 ghost use Rattle.mcs_default.specs.Theories.{consequents};
-ghost use Rattle.mcs_evidence.specs.Theories.{AreOverDefaults};
 
+use crate::asked::Theory;
 use mcs_base::{Memory, Vars};
 use mcs_cnf::{push_all, push_formula};
 use mcs_sat::ClauseBase;
-use mcs_system::{Default, Formula, Name, TheoryItem};
+use mcs_system::{Formula, Name, TheoryItem};
 use mcs_trace::Cnf;
 use std::alloc::Global;
 
@@ -56,18 +57,16 @@ pub(crate) fn facts(
 pub(crate) fn push_consequents(
     alloc: Global,
     known: &mut Cnf,
-    defaults: &[&Default],
+    theory: &Theory<'_>,
     set: Vars,
-    atoms: &[Name],
 ) -> Result<(), Memory>
-    requires few { length defaults.now ≤ 10 }
-    requires over { AreOverDefaults atoms.now (map (λ d. default_of d.now) defaults.now) }
-    requires room { length atoms.now ≤ known.old.vars }
-    ensures { OnOk result (known.new ≡ with_formulas atoms.now known.old (consequents (map (λ d. default_of d.now) defaults.now) set)) }
+    requires room { length (theory_names theory.now) ≤ known.old.vars }
+    ensures { OnOk result (known.new ≡ with_formulas (theory_names theory.now) known.old (consequents (theory_defaults theory.now) set)) }
 {
+    let defaults = theory.defaults;
     for (index, default) in defaults.iter().enumerate() {
         if set.has(index as u32) {
-            push_formula(alloc, known, atoms, &default.conclusion)?;
+            push_formula(alloc, known, theory.asked.atoms, &default.conclusion)?;
         }
     }
     Ok(())
@@ -77,18 +76,15 @@ pub(crate) fn push_consequents(
 pub(crate) fn append_consequents(
     alloc: Global,
     known: &mut ClauseBase,
-    defaults: &[&Default],
+    theory: &Theory<'_>,
     set: Vars,
-    atoms: &[Name],
 ) -> Result<(), Memory>
-    requires few { length defaults.now ≤ 10 }
-    requires over { AreOverDefaults atoms.now (map (λ d. default_of d.now) defaults.now) }
-    requires room { length atoms.now ≤ known.old.vars }
-    ensures ok { OnOk result (known.new ≡ with_formulas atoms.now known.old (consequents (map (λ d. default_of d.now) defaults.now) set)) }
+    requires room { length (theory_names theory.now) ≤ known.old.vars }
+    ensures ok { OnOk result (known.new ≡ with_formulas (theory_names theory.now) known.old (consequents (theory_defaults theory.now) set)) }
     ensures err { OnErr result (known.new ≡ known.old) }
 {
     let mut more = Cnf::new(alloc, known.vars());
-    push_consequents(alloc, &mut more, defaults, set, atoms)?;
+    push_consequents(alloc, &mut more, theory, set)?;
     let added = known.append(&more);
     drop(more);
     added

@@ -1,20 +1,17 @@
 //! The verdict on a set of defaults.
 
-ghost use Rattle.std.specs.Prelude.{◌≡◌, ◌≤◌, List, false, length, map, IfOk, OnOk};
+ghost use Rattle.std.specs.Prelude.{◌≡◌, ◌≤◌, List, length, IfOk, OnOk};
 ghost use Rattle.mcs_sets.specs.Sets.{Within};
-ghost use Rattle.mcs_system.specs.Faults.{has_twins};
 ghost use Rattle.mcs_system.specs.Plain as plain;
-ghost use Rattle.mcs_system.specs.Seen.{default_of, formula_of};
-ghost use Rattle.mcs_cnf.specs.ClauseLists.{AreOver};
-ghost use Rattle.mcs_default.specs.Theories.{AreParts};
-ghost use Rattle.mcs_evidence.specs.Theories.{AreOverDefaults, all_of};
+ghost use Rattle.mcs_evidence.specs.Theories.{all_of};
+ghost use Rattle.mcs_default.specs.Asked.{theory_names, theory_beliefs, theory_defaults, AreItemsOf};
 ghost use Rattle.mcs_default.specs.Told.{IsToldOfJustsIn, IsToldOrder, IsSetJudged};
 
+use crate::asked::Theory;
 use crate::grounding::{Grounding, tell_order};
 use crate::inside::{Inside, tell_inside};
 use crate::outside::{Rest, tell_rest};
 use mcs_base::{Memory, Vars};
-use mcs_system::{Default, Formula, Name};
 use mcs_trace::{Cnf, Entail, SetCert};
 use std::alloc::Global;
 
@@ -37,25 +34,17 @@ pub(crate) struct Judged {
 fn judge_grounded(
     alloc: Global,
     known: &mut Cnf,
-    defaults: &[&Default],
+    theory: &Theory<'_>,
     set: Vars,
-    beliefs: &[&Formula],
-    atoms: &[Name],
     parts: Parts,
 ) -> Result<Judged, Memory>
-    requires few { length atoms.now ≤ 64 }
-    requires few_beliefs { length beliefs.now ≤ 64 }
-    requires few_defaults { length defaults.now ≤ 10 }
-    requires different { has_twins atoms.now ≡ false }
-    requires over { AreOverDefaults atoms.now (map (λ d. default_of d.now) defaults.now) }
-    requires beliefs { AreOver atoms.now (map (λ b. formula_of b.now) beliefs.now) }
-    requires room { length atoms.now ≤ known.old.vars }
+    requires room { length (theory_names theory.now) ≤ known.old.vars }
     ensures kept { OnOk result (known.new ≡ known.old) }
-    ensures judged { IfOk result (λ judged. (items : List plain.Item) → AreParts atoms.now items (map (λ d. default_of d.now) defaults.now) known.old
-        → IsToldOfJustsIn atoms.now items set parts.justs.items → IsToldOrder atoms.now items set parts.order.items parts.pres.items
-        → IsSetJudged atoms.now items (map (λ b. formula_of b.now) beliefs.now) set judged) }
+    ensures judged { IfOk result (λ judged. (items : List plain.Item) → AreItemsOf theory.now known.old items
+        → IsToldOfJustsIn (theory_names theory.now) items set parts.justs.items → IsToldOrder (theory_names theory.now) items set parts.order.items parts.pres.items
+        → IsSetJudged (theory_names theory.now) items (theory_beliefs theory.now) set judged) }
 {
-    match tell_rest(alloc, known, defaults, set, beliefs, atoms) {
+    match tell_rest(alloc, known, theory, set) {
         Ok(Rest::Applied(number, pre, justs)) => {
             drop(parts);
             let verdict = SetCert::Applied { number, pre, justs };
@@ -88,25 +77,17 @@ fn judge_grounded(
 fn judge_allowed(
     alloc: Global,
     known: &mut Cnf,
-    defaults: &[&Default],
+    theory: &Theory<'_>,
     set: Vars,
-    beliefs: &[&Formula],
-    atoms: &[Name],
     justs: Vec<Entail>,
 ) -> Result<Judged, Memory>
-    requires few { length atoms.now ≤ 64 }
-    requires few_beliefs { length beliefs.now ≤ 64 }
-    requires few_defaults { length defaults.now ≤ 10 }
-    requires different { has_twins atoms.now ≡ false }
-    requires over { AreOverDefaults atoms.now (map (λ d. default_of d.now) defaults.now) }
-    requires beliefs { AreOver atoms.now (map (λ b. formula_of b.now) beliefs.now) }
-    requires room { length atoms.now ≤ known.old.vars }
-    requires set { Within set (all_of (map (λ d. default_of d.now) defaults.now)) }
+    requires room { length (theory_names theory.now) ≤ known.old.vars }
+    requires set { Within set (all_of (theory_defaults theory.now)) }
     ensures kept { OnOk result (known.new ≡ known.old) }
-    ensures judged { IfOk result (λ judged. (items : List plain.Item) → AreParts atoms.now items (map (λ d. default_of d.now) defaults.now) known.old
-        → IsToldOfJustsIn atoms.now items set justs.items → IsSetJudged atoms.now items (map (λ b. formula_of b.now) beliefs.now) set judged) }
+    ensures judged { IfOk result (λ judged. (items : List plain.Item) → AreItemsOf theory.now known.old items
+        → IsToldOfJustsIn (theory_names theory.now) items set justs.items → IsSetJudged (theory_names theory.now) items (theory_beliefs theory.now) set judged) }
 {
-    match tell_order(alloc, known, defaults, set, atoms) {
+    match tell_order(alloc, known, theory, set) {
         Ok(Grounding::Stuck(closed, pres)) => {
             drop(justs);
             let verdict = SetCert::Ungrounded { closed, pres };
@@ -117,7 +98,7 @@ fn judge_allowed(
         }
         Ok(Grounding::Grounded(order, pres)) => {
             let parts = Parts { justs, order, pres };
-            judge_grounded(alloc, known, defaults, set, beliefs, atoms, parts)
+            judge_grounded(alloc, known, theory, set, parts)
         }
         Err(want) => {
             drop(justs);
@@ -131,24 +112,16 @@ fn judge_allowed(
 pub(crate) fn judge(
     alloc: Global,
     known: &mut Cnf,
-    defaults: &[&Default],
+    theory: &Theory<'_>,
     set: Vars,
-    beliefs: &[&Formula],
-    atoms: &[Name],
 ) -> Result<Judged, Memory>
-    requires few { length atoms.now ≤ 64 }
-    requires few_beliefs { length beliefs.now ≤ 64 }
-    requires few_defaults { length defaults.now ≤ 10 }
-    requires different { has_twins atoms.now ≡ false }
-    requires over { AreOverDefaults atoms.now (map (λ d. default_of d.now) defaults.now) }
-    requires beliefs { AreOver atoms.now (map (λ b. formula_of b.now) beliefs.now) }
-    requires room { length atoms.now ≤ known.old.vars }
-    requires set { Within set (all_of (map (λ d. default_of d.now) defaults.now)) }
+    requires room { length (theory_names theory.now) ≤ known.old.vars }
+    requires set { Within set (all_of (theory_defaults theory.now)) }
     ensures kept { OnOk result (known.new ≡ known.old) }
-    ensures judged { IfOk result (λ judged. (items : List plain.Item) → AreParts atoms.now items (map (λ d. default_of d.now) defaults.now) known.old
-        → IsSetJudged atoms.now items (map (λ b. formula_of b.now) beliefs.now) set judged) }
+    ensures judged { IfOk result (λ judged. (items : List plain.Item) → AreItemsOf theory.now known.old items
+        → IsSetJudged (theory_names theory.now) items (theory_beliefs theory.now) set judged) }
 {
-    match tell_inside(alloc, known, defaults, set, atoms)? {
+    match tell_inside(alloc, known, theory, set)? {
         Inside::Fails(absence) => {
             let verdict = SetCert::Fails(absence);
             Ok(Judged {
@@ -156,8 +129,6 @@ pub(crate) fn judge(
                 view: None,
             })
         }
-        Inside::Allowed(justs) => {
-            judge_allowed(alloc, known, defaults, set, beliefs, atoms, justs)
-        }
+        Inside::Allowed(justs) => { judge_allowed(alloc, known, theory, set, justs) }
     }
 }

@@ -12,19 +12,19 @@ use Rattle.mcs_default.proofs.grounding.ask_next.Goals as goal
 
 pub entails_from-requires-clause-goal : goal.entails_from-requires-clause-goal
 entails_from-requires-clause-goal c =
-    (image_each_read (IsOverDefault c.args.atoms.now) (λ d. default_of d.now) c.args.defaults.now c.loop-index.index c.index-defaults-index.result c.loop-index-test.true c.index-defaults-index.is c.requires.over).0
+    (image_each_read (IsOverDefault c.args.theory.now.asked.now.atoms.now) (λ d. default_of d.now) c.args.theory.now.defaults.now c.loop-index.index c.index-defaults-index.result c.loop-index-test.true c.index-defaults-index.is c.args.theory.now.over).0
 
 pub returns-then-says_yes-clause-told : goal.returns-then-says_yes-clause-told
 returns-then-says_yes-clause-told c fs is =
     let said : says_yes (entailment_of c.in_ok-pre.pre) ≡ true = sym c.says_yes.ensures ∙ c.if-says_yes.true in
-    let now : AreClausesOf c.args.atoms.now fs c.loop-index.known = rw c.loop-index.invariant.kept is in
-    (default_of c.index-defaults-index.result.now, slice_get-map_read (λ d. default_of d.now) c.args.defaults.now c.loop-index.index c.index-defaults-index.result c.loop-index-test.true c.index-defaults-index.is, (c.in_ok-pre.ensures.accepted fs now.0 now.1, said))
+    let now : AreClausesOf c.args.theory.now.asked.now.atoms.now fs c.loop-index.known = rw c.loop-index.invariant.kept is in
+    (default_of c.index-defaults-index.result.now, slice_get-map_read (λ d. default_of d.now) c.args.theory.now.defaults.now c.loop-index.index c.index-defaults-index.result c.loop-index-test.true c.index-defaults-index.is, (c.in_ok-pre.ensures.accepted fs now.0 now.1, said))
 
 pub loop-index-preserved : goal.loop-index-preserved
 loop-index-preserved c =
     let i = c.loop-index.index in
     let x = c.index-defaults-index.result in
-    let names = c.args.atoms.now in
+    let names = c.args.theory.now.asked.now.atoms.now in
     elim c.if-has.branch [
       | then-has+in_ok-pre+else-says_yes+in_ok-push w ↦
           let member : has c.args.left i ≡ true = sym c.has.ensures.value ∙ w.if-has.true in
@@ -32,13 +32,13 @@ loop-index-preserved c =
           rw (w.known-is, w.denied-is) (record {
             kept = w.entails_from.ensures.kept ∙ c.loop-index.invariant.kept;
             denied = λ fs is. (let now : AreClausesOf names fs c.loop-index.known = rw c.loop-index.invariant.kept is in
-                denied_push names fs (prerequisites (map (λ d. default_of d.now) (take i c.args.defaults.now)) c.args.left) _ (default_of x.now).pre c.loop-index.denied.items w.push.new.self.items w.in_ok-pre.pre
-                (next_more (λ d. default_of d.now) c.args.defaults.now c.args.left i x c.loop-index-test.true c.index-defaults-index.is member) w.in_ok-push.ensures.items (w.in_ok-pre.ensures.accepted fs now.0 now.1) said (c.loop-index.invariant.denied fs is));
+                denied_push names fs (prerequisites (map (λ d. default_of d.now) (take i c.args.theory.now.defaults.now)) c.args.left) _ (default_of x.now).pre c.loop-index.denied.items w.push.new.self.items w.in_ok-pre.pre
+                (next_more (λ d. default_of d.now) c.args.theory.now.defaults.now c.args.left i x c.loop-index-test.true c.index-defaults-index.is member) w.in_ok-push.ensures.items (w.in_ok-pre.ensures.accepted fs now.0 now.1) said (c.loop-index.invariant.denied fs is));
           })
       | else-has w ↦
           let member : has c.args.left i ≡ false = sym c.has.ensures.value ∙ w.if-has.false in
           rw (w.known-is, w.denied-is) (record {
             kept = c.loop-index.invariant.kept;
-            denied = λ fs is. denied_same names fs _ _ _ _ (sym (next_same (λ d. default_of d.now) c.args.defaults.now c.args.left i x c.loop-index-test.true c.index-defaults-index.is member)) refl (c.loop-index.invariant.denied fs is);
+            denied = λ fs is. denied_same names fs _ _ _ _ (sym (next_same (λ d. default_of d.now) c.args.theory.now.defaults.now c.args.left i x c.loop-index-test.true c.index-defaults-index.is member)) refl (c.loop-index.invariant.denied fs is);
           })
     ]

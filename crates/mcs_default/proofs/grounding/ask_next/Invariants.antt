@@ -10,5 +10,5 @@ use Rattle.mcs_default.proofs.grounding.ask_next.Given as goal
 abbrev pub invariant-loop-index : goal.invariant-loop-index
 invariant-loop-index l = record {
   kept : l.known ≡ l.fn.known;
-  denied : (fs : List Formula) → AreClausesOf l.atoms fs l.fn.known → AreDenied l.atoms fs (prerequisites (map (λ d. default_of d.now) (take l.index l.defaults)) l.left) (map entailment_of l.denied.items);
+  denied : (fs : List Formula) → AreClausesOf l.theory.asked.now.atoms.now fs l.fn.known → AreDenied l.theory.asked.now.atoms.now fs (prerequisites (map (λ d. default_of d.now) (take l.index l.theory.defaults.now)) l.left) (map entailment_of l.denied.items);
 }

@@ -9,13 +9,13 @@ use Rattle.mcs_default.specs.Told.{AreDefaultNumbers}
 use Rattle.mcs_default.proofs.OrderLemmas.{IsDerived}
 use Rattle.mcs_default.proofs.grounding.ask_order.Given as goal
 
-abbrev pub invariant-loop-alloc : goal.invariant-loop-alloc
-invariant-loop-alloc l = record {
+abbrev pub invariant-loop-defaults : goal.invariant-loop-defaults
+invariant-loop-defaults l = record {
   part : Within l.left l.fn.set;
-  grown : HasMoreFormulas l.atoms l.fn.known l.known;
-  numbers : AreDefaultNumbers (minus l.fn.set l.left) l.order.items;
-  derived : (fs : List Formula) → AreClausesOf l.atoms fs l.fn.known → IsDerived l.atoms fs (map (λ d. default_of d.now) l.defaults) (minus l.fn.set l.left) l.order.items (map entailment_of l.pres.items) l.known;
+  grown : HasMoreFormulas l.theory.asked.now.atoms.now l.fn.known l.known;
+  numbers : AreDefaultNumbers (minus l.fn.set l.left) l.order.numbers.items;
+  derived : (fs : List Formula) → AreClausesOf l.theory.asked.now.atoms.now fs l.fn.known → IsDerived l.theory.asked.now.atoms.now fs (map (λ d. default_of d.now) l.theory.defaults.now) (minus l.fn.set l.left) l.order.numbers.items (map entailment_of l.order.pres.items) l.known;
 }
 
-abbrev pub decreases-loop-alloc : goal.decreases-loop-alloc
-decreases-loop-alloc l = size l.left
+abbrev pub decreases-loop-defaults : goal.decreases-loop-defaults
+decreases-loop-defaults l = size l.left

@@ -9,5 +9,5 @@ use Rattle.mcs_default.proofs.inside.ask_inside.Given as goal
 abbrev pub invariant-loop-index : goal.invariant-loop-index
 invariant-loop-index l = record {
   kept : l.known ≡ l.fn.known;
-  denied : (fs : List Formula) → AreClausesOf l.atoms fs l.fn.known → AreDenied l.atoms fs (negated_justs (defaults_at 0 (map (λ d. default_of d.now) (take l.index l.defaults)) l.set)) (map entailment_of l.allowed.items);
+  denied : (fs : List Formula) → AreClausesOf l.theory.asked.now.atoms.now fs l.fn.known → AreDenied l.theory.asked.now.atoms.now fs (negated_justs (defaults_at 0 (map (λ d. default_of d.now) (take l.index l.theory.defaults.now)) l.set)) (map entailment_of l.allowed.items);
 }

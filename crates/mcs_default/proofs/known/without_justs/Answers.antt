@@ -11,14 +11,14 @@ use Rattle.mcs_default.proofs.known.without_justs.Goals.{then-is_empty, else-is_
 use Rattle.mcs_default.proofs.known.without_justs.Goals as goal
 
 pub loop-index-init : goal.loop-index-init
-loop-index-init c = c.empty-places.ensures ∙ sym (such_that-none (lacks_justs_at (map (λ d. default_of d.now) c.args.defaults.now)))
+loop-index-init c = c.empty-places.ensures ∙ sym (such_that-none (lacks_justs_at (map (λ d. default_of d.now) c.args.theory.now.defaults.now)))
 
 pub loop-index-preserved : goal.loop-index-preserved
 loop-index-preserved c =
-    let ds = map (λ d. default_of d.now) c.args.defaults.now in
+    let ds = map (λ d. default_of d.now) c.args.theory.now.defaults.now in
     let i = c.loop-index.index in
     let x = c.index-defaults-index.result in
-    let at = ap lacks_justs (slice_get-map_read (λ d. default_of d.now) c.args.defaults.now i x c.loop-index-test.true c.index-defaults-index.is) in
+    let at = ap lacks_justs (slice_get-map_read (λ d. default_of d.now) c.args.theory.now.defaults.now i x c.loop-index-test.true c.index-defaults-index.is) in
     let is = none_of formula_of x.now.justs.items c.is_empty.result (c.is_empty.ensures ∙ ap (λ (js : List code.Formula). length js == 0) c.as_slice.ensures.value) in
     elim c.if-is_empty.branch [
       | then-is_empty w ↦ such_that_next (lacks_justs_at ds) i c.loop-index.places c.if-is_empty.places true (at ∙ sym is ∙ w.if-is_empty.true) c.loop-index.invariant (w.places-is ∙ w.with-places.ensures)

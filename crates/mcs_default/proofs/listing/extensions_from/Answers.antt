@@ -11,16 +11,14 @@ use Rattle.mcs_evidence.specs.Theories.{AreOverDefaults}
 use Rattle.mcs_evidence.proofs.TheoryLemmas.{facts_with, defaults_with, over_with_facts, over_facts, over_defaults}
 use Rattle.mcs_default.proofs.listing.extensions_from.Goals as goal
 
-pub judge_all-requires-clause-few_defaults : goal.judge_all-requires-clause-few_defaults
-judge_all-requires-clause-few_defaults c =
-    omega (arith, ap length c.deref.ensures.value, length-map c.in_ok-defaults.defaults.items (λ d. default_of d.now), ap length c.in_ok-defaults.ensures, c.requires.few_defaults)
+pub invariant_of-theory : goal.invariant_of-theory
+invariant_of-theory c = record {
+  few_defaults = omega (arith, ap length c.deref.ensures.value, length-map c.in_ok-defaults.defaults.items (λ d. default_of d.now), ap length c.in_ok-defaults.ensures, c.requires.few_defaults);
+  over = subst (AreOverDefaults c.args.atoms.now) (sym (ap (map (λ d. default_of d.now)) c.deref.ensures.value ∙ c.in_ok-defaults.ensures)) (over_defaults c.args.atoms.now (map item_of c.args.items.now) c.requires.items);
+}
 
-pub judge_all-requires-clause-over : goal.judge_all-requires-clause-over
-judge_all-requires-clause-over c =
-    subst (AreOverDefaults c.args.atoms.now) (sym (ap (map (λ d. default_of d.now)) c.deref.ensures.value ∙ c.in_ok-defaults.ensures)) (over_defaults c.args.atoms.now (map item_of c.args.items.now) c.requires.items)
-
-pub judge_all-requires-clause-room : goal.judge_all-requires-clause-room
-judge_all-requires-clause-room c = room_known c.args.atoms.now c.in_ok-known.known (facts_of (map item_of c.args.items.now) ++ map (λ f. formula_of f.now) c.args.added.now) c.in_ok-known.ensures
+pub judge_all-requires : goal.judge_all-requires
+judge_all-requires c = record { room = room_known c.args.atoms.now c.in_ok-known.known (facts_of (map item_of c.args.items.now) ++ map (λ f. formula_of f.now) c.args.added.now) c.in_ok-known.ensures }
 
 pub returns-clause-accepted : goal.returns-clause-accepted
 returns-clause-accepted c =

@@ -12,22 +12,22 @@ use Rattle.mcs_default.proofs.JudgeLemmas.{AreJudged, judged-none, judged-more, 
 use Rattle.mcs_default.proofs.listing.judge_all.Goals as goal
 
 pub judge-requires-clause-room : goal.judge-requires-clause-room
-judge-requires-clause-room c = subst (λ (x : ClauseList). length c.args.atoms.now ≤ x.vars) (sym c.loop-number.invariant.kept) c.requires.room
+judge-requires-clause-room c = subst (λ (x : ClauseList). length c.args.theory.now.asked.now.atoms.now ≤ x.vars) (sym c.loop-number.invariant.kept) c.requires.room
 
 pub judge-requires-clause-set : goal.judge-requires-clause-set
 judge-requires-clause-set c =
-    let ds : List Default = map (λ d. default_of d.now) c.args.defaults.now in
-    let small : c.loop-number.number < 2 ^ length ds = subst (λ (n : ℕ). c.loop-number.number < 2 ^ n) (sym (length-map c.args.defaults.now (λ d. default_of d.now))) (subst (λ (n : ℕ). c.loop-number.number < n) c.set_count-number-end.ensures c.loop-number-test.true) in
+    let ds : List Default = map (λ d. default_of d.now) c.args.theory.now.defaults.now in
+    let small : c.loop-number.number < 2 ^ length ds = subst (λ (n : ℕ). c.loop-number.number < 2 ^ n) (sym (length-map c.args.theory.now.defaults.now (λ d. default_of d.now))) (subst (λ (n : ℕ). c.loop-number.number < n) c.set_count-number-end.ensures c.loop-number-test.true) in
     subst (λ (s : ℕ). Within s (all_of ds)) (sym c.numbered-set.ensures) (numbered_within c.loop-number.number ds small)
 
 pub loop-number-init : goal.loop-number-init
-loop-number-init c = rw (c.new-views.ensures.items, c.new-sets.ensures.items) (record { kept = refl; judged = λ items parts. judged-none c.args.atoms.now items (map (λ b. formula_of b.now) c.args.beliefs.now) })
+loop-number-init c = rw (c.new-views.ensures.items, c.new-sets.ensures.items) (record { kept = refl; judged = λ items parts. judged-none c.args.theory.now.asked.now.atoms.now items (map (λ b. formula_of b.now) c.args.theory.now.asked.now.beliefs.now) })
 
 pub loop-number-preserved : goal.loop-number-preserved
 loop-number-preserved c =
-    let names = c.args.atoms.now in
-    let ds : List Default = map (λ d. default_of d.now) c.args.defaults.now in
-    let beliefs : List Formula = map (λ b. formula_of b.now) c.args.beliefs.now in
+    let names = c.args.theory.now.asked.now.atoms.now in
+    let ds : List Default = map (λ d. default_of d.now) c.args.theory.now.defaults.now in
+    let beliefs : List Formula = map (λ b. formula_of b.now) c.args.theory.now.asked.now.beliefs.now in
     let n = c.loop-number.number in
     let judged = c.in_ok-judged.judged in
     record {
@@ -41,9 +41,9 @@ loop-number-preserved c =
 
 pub returns : goal.returns
 returns c =
-    let ds : List Default = map (λ d. default_of d.now) c.args.defaults.now in
-    let beliefs : List Formula = map (λ b. formula_of b.now) c.args.beliefs.now in
-    let all : c.loop-number.number ≡ 2 ^ length ds = (let e : length ds ≡ length c.args.defaults.now = length-map c.args.defaults.now (λ d. default_of d.now) in let p : 2 ^ length ds ≡ 2 ^ length c.args.defaults.now = ap (λ (n : ℕ). 2 ^ n) e in omega (arith, c.set_count-number-end.ensures, c.loop-number-test.false)) in
-    let accepted : (items : List Item) → AreParts c.args.atoms.now items ds c.args.known.now → IsAcceptedDefault c.args.atoms.now items beliefs c.list_states.new.states.items (map verdict_of c.loop-number.sets.items) =
-    λ items parts. judged-all c.args.atoms.now items beliefs c.loop-number.number c.loop-number.views.items c.list_states.new.states.items (map verdict_of c.loop-number.sets.items) ds parts.0 all (c.loop-number.invariant.judged items parts) c.list_states.ensures in
+    let ds : List Default = map (λ d. default_of d.now) c.args.theory.now.defaults.now in
+    let beliefs : List Formula = map (λ b. formula_of b.now) c.args.theory.now.asked.now.beliefs.now in
+    let all : c.loop-number.number ≡ 2 ^ length ds = (let e : length ds ≡ length c.args.theory.now.defaults.now = length-map c.args.theory.now.defaults.now (λ d. default_of d.now) in let p : 2 ^ length ds ≡ 2 ^ length c.args.theory.now.defaults.now = ap (λ (n : ℕ). 2 ^ n) e in omega (arith, c.set_count-number-end.ensures, c.loop-number-test.false)) in
+    let accepted : (items : List Item) → AreParts c.args.theory.now.asked.now.atoms.now items ds c.args.known.now → IsAcceptedDefault c.args.theory.now.asked.now.atoms.now items beliefs c.list_states.new.states.items (map verdict_of c.loop-number.sets.items) =
+    λ items parts. judged-all c.args.theory.now.asked.now.atoms.now items beliefs c.loop-number.number c.loop-number.views.items c.list_states.new.states.items (map verdict_of c.loop-number.sets.items) ds parts.0 all (c.loop-number.invariant.judged items parts) c.list_states.ensures in
     record { accepted = accepted }

@@ -9,5 +9,5 @@ use Rattle.mcs_default.proofs.listing.judge_all.Given as goal
 abbrev pub invariant-loop-number : goal.invariant-loop-number
 invariant-loop-number l = record {
   kept : l.known ≡ l.fn.known;
-  judged : (items : List Item) → AreParts l.atoms items (map (λ d. default_of d.now) l.defaults) l.fn.known → AreJudged l.atoms items (map (λ b. formula_of b.now) l.beliefs) l.number l.views.items (map verdict_of l.sets.items);
+  judged : (items : List Item) → AreParts l.theory.asked.now.atoms.now items (map (λ d. default_of d.now) l.theory.defaults.now) l.fn.known → AreJudged l.theory.asked.now.atoms.now items (map (λ b. formula_of b.now) l.theory.asked.now.beliefs.now) l.number l.views.items (map verdict_of l.sets.items);
 }

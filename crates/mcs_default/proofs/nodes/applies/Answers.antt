@@ -1,14 +1,12 @@
-use Rattle.std.proofs.Common.{sym, subst, map}
 use Rattle.std.proofs.lemmas.Result.{IfOk-weaker}
-use Rattle.mcs_system.specs.Seen.{default_of}
-use Rattle.mcs_default.specs.Theories.{AreParts}
 use Rattle.std.proofs.lemmas.Bool.{iff_false}
 use Rattle.mcs_base.proofs.Booleans.{false_tells}
+use Rattle.mcs_default.proofs.SameLemmas.{same_items}
 use Rattle.mcs_default.proofs.nodes.applies.Goals as goal
 
 pub returns-then-branch-clause-exact : goal.returns-then-branch-clause-exact
 returns-then-branch-clause-exact c = IfOk-weaker c.allows.result _ _ (λ b h items parts d at.
-    (let allowed = h items (subst (AreParts c.args.atoms.now items (map (λ d. default_of d.now) c.args.defaults.now)) (sym c.in_ok-supports.ensures.kept) parts) d at in
+    (let allowed = h items (same_items items c.in_ok-supports.ensures.kept parts) d at in
     let supported = (c.in_ok-supports.ensures.exact items parts d at).0 c.if-branch.true in
     (λ holds. (supported, allowed.0 holds), λ both. allowed.1 both.1))) c.allows.ensures.exact
 

@@ -6,9 +6,9 @@ use Rattle.mcs_default.proofs.nodes.is_open.Goals as goal
 
 pub returns-then-has-clause-exact : goal.returns-then-has-clause-exact
 returns-then-has-clause-exact c = IfOk-weaker c.applies.result _ _ (λ b h items parts.
-    (open_inside items c.args.taken c.args.all c.args.index c.requires.within b (sym c.has.ensures.value ∙ c.if-has.true) (there_is items (λ x. default_of x.now) c.args.defaults.now c.args.index c.requires.index parts.0) (h items parts))) c.applies.ensures.exact
+    (open_inside items c.args.taken c.args.all c.args.index c.requires.within b (sym c.has.ensures.value ∙ c.if-has.true) (there_is items (λ x. default_of x.now) c.args.search.now.theory.now.defaults.now c.args.index c.requires.index parts.0) (h items parts))) c.applies.ensures.exact
 
 pub returns-clause-exact : goal.returns-clause-exact
 returns-clause-exact c items parts =
     open_outside items c.args.taken c.args.all c.args.index c.requires.within c.in_ok-applies.field-0 (sym c.has.ensures.value ∙ c.if-has.false) (sym c.has-2.ensures.value ∙ c.if-has-2.false)
-    (there_is items (λ x. default_of x.now) c.args.defaults.now c.args.index c.requires.index parts.0) (c.in_ok-applies.ensures.exact items parts)
+    (there_is items (λ x. default_of x.now) c.args.search.now.theory.now.defaults.now c.args.index c.requires.index parts.0) (c.in_ok-applies.ensures.exact items parts)

@@ -18,31 +18,31 @@ pub loop-index-init : goal.loop-index-init
 loop-index-init c = record {
   kept = refl;
   bound = omega arith;
-  absent = λ fs is. (let ds = map (λ d. default_of d.now) c.args.defaults.now in
-      subst (λ (os : List Outside). AllZip (IsAbsentAt c.args.atoms.now fs ds) (members_from 0 0 (minus (all_of ds) c.args.set)) (map absence_of os)) (sym c.new-absent.ensures.items) (absent_none c.args.atoms.now fs ds (minus (all_of ds) c.args.set)));
+  absent = λ fs is. (let ds = map (λ d. default_of d.now) c.args.theory.now.defaults.now in
+      subst (λ (os : List Outside). AllZip (IsAbsentAt c.args.theory.now.asked.now.atoms.now fs ds) (members_from 0 0 (minus (all_of ds) c.args.set)) (map absence_of os)) (sym c.new-absent.ensures.items) (absent_none c.args.theory.now.asked.now.atoms.now fs ds (minus (all_of ds) c.args.set)));
 }
 
 pub ask_default-requires-clause-over : goal.ask_default-requires-clause-over
 ask_default-requires-clause-over c =
-    image_each_read (IsOverDefault c.args.atoms.now) (λ d. default_of d.now) c.args.defaults.now c.loop-index.index c.index-defaults-index.result c.loop-index-test.true c.index-defaults-index.is c.requires.over
+    image_each_read (IsOverDefault c.args.theory.now.asked.now.atoms.now) (λ d. default_of d.now) c.args.theory.now.defaults.now c.loop-index.index c.index-defaults-index.result c.loop-index-test.true c.index-defaults-index.is c.args.theory.now.over
 
 pub returns-in-Applies-clause-told : goal.returns-in-Applies-clause-told
 returns-in-Applies-clause-told c fs is =
-    let names = c.args.atoms.now in
+    let names = c.args.theory.now.asked.now.atoms.now in
     let i = c.loop-index.index in
     let x = c.index-defaults-index.result in
     let out : has c.args.set i ≡ false = sym c.has.ensures.value ∙ c.if-not-has.true in
     let now : AreClausesOf names fs c.loop-index.known = rw c.loop-index.invariant.kept is in
     let told = subst (IsToldOfDefault names fs (default_of x.now) (i + 1)) c.in-Applies.is (c.in_ok-absence.ensures.told fs now) in
-    (i, default_of x.now, refl, out, slice_get-map_read (λ d. default_of d.now) c.args.defaults.now i x c.loop-index-test.true c.index-defaults-index.is, told)
+    (i, default_of x.now, refl, out, slice_get-map_read (λ d. default_of d.now) c.args.theory.now.defaults.now i x c.loop-index-test.true c.index-defaults-index.is, told)
 
 pub loop-index-preserved : goal.loop-index-preserved
 loop-index-preserved c =
-    let names = c.args.atoms.now in
+    let names = c.args.theory.now.asked.now.atoms.now in
     let i = c.loop-index.index in
     let x = c.index-defaults-index.result in
-    let ds : List Default = map (λ d. default_of d.now) c.args.defaults.now in
-    let less : i < length ds = omega (arith, length-map c.args.defaults.now (λ d. default_of d.now), c.loop-index-test.true) in
+    let ds : List Default = map (λ d. default_of d.now) c.args.theory.now.defaults.now in
+    let less : i < length ds = omega (arith, length-map c.args.theory.now.defaults.now (λ d. default_of d.now), c.loop-index-test.true) in
     elim c.if-not-has.branch [
       | then-not-has+in_ok-absence+in-Absent+in_ok-push-in-Absent w ↦
           let out : has c.args.set i ≡ false = sym c.has.ensures.value ∙ w.if-not-has.true in
@@ -51,7 +51,7 @@ loop-index-preserved c =
             bound = omega (arith, c.loop-index-test.true);
             absent = λ fs is. (let now : AreClausesOf names fs c.loop-index.known = rw c.loop-index.invariant.kept is in
                 let told = subst (IsToldOfDefault names fs (default_of x.now) (i + 1)) w.in-Absent.is (w.in_ok-absence.ensures.told fs now) in
-                absent_more names fs ds c.args.set i (default_of x.now) c.loop-index.absent.items w.push.new.self.items w.in-Absent.absence less (slice_get-map_read (λ d. default_of d.now) c.args.defaults.now i x c.loop-index-test.true c.index-defaults-index.is) out w.in_ok-push-in-Absent.ensures.items told (c.loop-index.invariant.absent fs is));
+                absent_more names fs ds c.args.set i (default_of x.now) c.loop-index.absent.items w.push.new.self.items w.in-Absent.absence less (slice_get-map_read (λ d. default_of d.now) c.args.theory.now.defaults.now i x c.loop-index-test.true c.index-defaults-index.is) out w.in_ok-push-in-Absent.ensures.items told (c.loop-index.invariant.absent fs is));
           })
       | else-not-has w ↦
           let member : has c.args.set i ≡ true = sym c.has.ensures.value ∙ w.if-not-has.false in
@@ -64,6 +64,6 @@ loop-index-preserved c =
 
 pub returns-clause-told : goal.returns-clause-told
 returns-clause-told c fs is =
-    let ds : List Default = map (λ d. default_of d.now) c.args.defaults.now in
-    let all : c.loop-index.index ≡ length ds = omega (arith, length-map c.args.defaults.now (λ d. default_of d.now), c.loop-index-test.false, c.loop-index.invariant.bound) in
-    absent_all c.args.atoms.now fs ds c.args.set c.loop-index.index (map absence_of c.loop-index.absent.items) all (c.loop-index.invariant.absent fs is)
+    let ds : List Default = map (λ d. default_of d.now) c.args.theory.now.defaults.now in
+    let all : c.loop-index.index ≡ length ds = omega (arith, length-map c.args.theory.now.defaults.now (λ d. default_of d.now), c.loop-index-test.false, c.loop-index.invariant.bound) in
+    absent_all c.args.theory.now.asked.now.atoms.now fs ds c.args.set c.loop-index.index (map absence_of c.loop-index.absent.items) all (c.loop-index.invariant.absent fs is)

@@ -12,7 +12,7 @@ use Rattle.mcs_default.proofs.outside.ask_outside.Given as goal
 abbrev pub invariant-loop-index : goal.invariant-loop-index
 invariant-loop-index l = record {
   kept : l.known ≡ l.fn.known;
-  bound : l.index ≤ length l.defaults;
-  absent : (fs : List Formula) → AreClausesOf l.atoms fs l.fn.known
-      → AllZip (IsAbsentAt l.atoms fs (map (λ d. default_of d.now) l.defaults)) (members_from 0 l.index (minus (all_of (map (λ d. default_of d.now) l.defaults)) l.set)) (map absence_of l.absent.items);
+  bound : l.index ≤ length l.theory.defaults.now;
+  absent : (fs : List Formula) → AreClausesOf l.theory.asked.now.atoms.now fs l.fn.known
+      → AllZip (IsAbsentAt l.theory.asked.now.atoms.now fs (map (λ d. default_of d.now) l.theory.defaults.now)) (members_from 0 l.index (minus (all_of (map (λ d. default_of d.now) l.theory.defaults.now)) l.set)) (map absence_of l.absent.items);
 }

@@ -6,35 +6,35 @@ use Rattle.mcs_base.proofs.Mapped.{image_each_read, slice_get-map_read}
 use Rattle.mcs_system.specs.Plain.{Not}
 use Rattle.mcs_system.specs.declared.formula.Formula as code
 use Rattle.mcs_system.specs.Logic.{Entails}
-use Rattle.mcs_system.specs.Seen.{default_of, formula_of}
+use Rattle.mcs_system.specs.Seen.{formula_of}
 use Rattle.mcs_cnf.specs.ClauseLists.{IsOver}
 use Rattle.mcs_evidence.specs.Defaults.{generated}
-use Rattle.mcs_default.specs.Theories.{AreParts}
 use Rattle.mcs_default.proofs.SearchLemmas.{not_allowed}
 use Rattle.std.proofs.lemmas.Bool.{iff_false}
 use Rattle.mcs_base.proofs.Booleans.{false_tells, true_tells}
+use Rattle.mcs_default.proofs.SameLemmas.{same_items, same_on, over_kept}
 use Rattle.mcs_default.proofs.questions.allows_all.Goals as goal
 
-pub refutes-requires-clause-over : goal.refutes-requires-clause-over
-refutes-requires-clause-over c = image_each_read (IsOver c.args.atoms.now) formula_of c.args.justs.now c.loop-just.just-index c.just-item.result c.loop-just-test.true c.just-item.is c.requires.over
+pub refutes-requires : goal.refutes-requires
+refutes-requires c = record {
+  over = (over_kept c.loop-just.invariant.kept (formula_of c.just-item.result)
+      (image_each_read (IsOver c.args.search.now.theory.now.asked.now.atoms.now) formula_of c.args.justs.now c.loop-just.just-index c.just-item.result c.loop-just-test.true c.just-item.is c.requires.over));
+}
 
 pub returns-then-branch-clause-exact : goal.returns-then-branch-clause-exact
 returns-then-branch-clause-exact c items parts =
-    let ds = map (λ d. default_of d.now) c.args.defaults.now in
-    let now = subst (AreParts c.args.atoms.now items ds) (sym c.loop-just.invariant.kept) parts in
+    let now = same_items items c.loop-just.invariant.kept parts in
     false_tells (not_allowed (generated items c.args.set) (map formula_of c.args.justs.now) c.loop-just.just-index (formula_of c.just-item.result)
     (slice_get-map_read formula_of c.args.justs.now c.loop-just.just-index c.just-item.result c.loop-just-test.true c.just-item.is) ((c.in_ok-refutes.ensures.exact items now).0 c.if-branch.true))
 
 pub loop-just-preserved : goal.loop-just-preserved
 loop-just-preserved c =
-    let ds = map (λ d. default_of d.now) c.args.defaults.now in
     let i = c.loop-just.just-index in
     let f = c.just-item.result in
     record {
-      kept = c.in_ok-refutes.ensures.kept ∙ c.loop-just.invariant.kept;
-      ready = c.in_ok-refutes.ensures.ready;
+      kept = same_on c.in_ok-refutes.ensures.kept c.loop-just.invariant.kept;
       allowed = λ items parts.
-          (let now = subst (AreParts c.args.atoms.now items ds) (sym c.loop-just.invariant.kept) parts in
+          (let now = same_items items c.loop-just.invariant.kept parts in
           subst (AllByRecursion (λ j. ¬ Entails (generated items c.args.set) (Not j)))
           (sym (map_more formula_of c.args.justs.now i f c.loop-just-test.true ∙ ap (λ (g : code.Formula). map formula_of (take i c.args.justs.now) ++ formula_of g ∷ []) (sym c.just-item.is)))
           (all_push (λ j. ¬ Entails (generated items c.args.set) (Not j)) (map formula_of (take i c.args.justs.now)) (formula_of f) (c.loop-just.invariant.allowed items parts) (iff_false (c.in_ok-refutes.ensures.exact items now) c.if-branch.false)));

@@ -1,26 +1,27 @@
-use Rattle.std.proofs.Common.{map, refl, subst}
-use Rattle.mcs_system.specs.Seen.{default_of}
-use Rattle.mcs_default.specs.Theories.{AreParts}
+use Rattle.std.proofs.Common.{is_ok, refl}
 use Rattle.mcs_default.proofs.FindingLemmas.{ready_conflict}
 use Rattle.mcs_base.proofs.Booleans.{true_tells, false_tells}
+use Rattle.mcs_default.specs.Asked.{theory_names, theory_defaults}
+use Rattle.mcs_default.proofs.SameLemmas.{same_before}
 use Rattle.mcs_default.proofs.questions.contradicts.Goals as goal
 
 pub returns-then-has_conflict-clause-exact : goal.returns-then-has_conflict-clause-exact
-returns-then-has_conflict-clause-exact c items parts = true_tells (c.has_conflict.ensures items (rw c.deref.ensures.value ((c.requires.ready.right items parts).2)) c.if-has_conflict.true)
+returns-then-has_conflict-clause-exact c items parts = true_tells (c.has_conflict.ensures items (rw c.deref.ensures.value ((c.args.search.now.ready.right items parts).2)) c.if-has_conflict.true)
 
 pub returns-then-is_consistent-clause-exact : goal.returns-then-is_consistent-clause-exact
-returns-then-is_consistent-clause-exact c items parts = false_tells (c.is_consistent.ensures c.args.atoms.now items (rw c.deref-2.ensures.value ((c.requires.ready.right items parts).1)) c.if-is_consistent.true)
+returns-then-is_consistent-clause-exact c items parts = false_tells (c.is_consistent.ensures c.args.search.now.theory.now.asked.now.atoms.now items (rw c.deref-2.ensures.value ((c.args.search.now.ready.right items parts).1)) c.if-is_consistent.true)
 
-pub least_conflict-requires-clause-conflict : goal.least_conflict-requires-clause-conflict
-least_conflict-requires-clause-conflict c items parts =
-    (c.in_ok-entails_all.ensures.exact items (subst (AreParts c.args.atoms.now items (map (λ d. default_of d.now) c.args.defaults.now)) c.in_ok-entails_all.ensures.kept parts)).0 c.if-not-branch.false
-
-pub returns-clause-ready : goal.returns-clause-ready
-returns-clause-ready c =
-    let ds = map (λ d. default_of d.now) c.args.defaults.now in
-    let f = c.least_conflict.new.findings in
-    ready_conflict c.args.atoms.now ds f (record { facts = f.facts; lower = f.lower; upper = f.upper; conflicts = c.push.new.self }) c.in_ok-least.ensures.ready refl c.in_ok-least.least refl refl c.in_ok-push.ensures.items (λ items parts.
-    (c.in_ok-least.ensures.conflict items (subst (AreParts c.args.atoms.now items ds) c.in_ok-least.ensures.kept parts)))
+pub least_conflict-requires : goal.least_conflict-requires
+least_conflict-requires c = record { conflict = λ items parts. ((c.in_ok-entails_all.ensures.exact items (same_before items c.in_ok-entails_all.ensures.kept parts)).0 c.if-not-branch.false) }
 
 pub returns-clause-exact : goal.returns-clause-exact
 returns-clause-exact c items parts = true_tells ((c.in_ok-entails_all.ensures.exact items parts).0 c.if-not-branch.false)
+
+pub invariant_of-search : goal.invariant_of-search
+invariant_of-search c =
+    let now = c.least_conflict.new.search in
+    let f = now.findings in
+    record {
+      ready = ready_conflict (theory_names now.theory.now) (theory_defaults now.theory.now) f (record { facts = f.facts; lower = f.lower; upper = f.upper; conflicts = c.push.new.self }) now.ready refl (is_ok c.push.result) c.in_ok-least.least refl refl c.push.ensures.items (λ items parts.
+          (c.in_ok-least.ensures.conflict items (same_before items c.in_ok-least.ensures.kept parts)));
+    }

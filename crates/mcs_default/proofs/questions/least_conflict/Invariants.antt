@@ -1,13 +1,11 @@
-use Rattle.std.proofs.Common.{◌≡◌, List, map}
+use Rattle.std.proofs.Common.{List}
 use Rattle.mcs_system.specs.Plain.{Item}
-use Rattle.mcs_system.specs.Seen.{default_of}
-use Rattle.mcs_default.specs.Theories.{AreParts}
-use Rattle.mcs_default.specs.Searches.{CanBeAsked, IsConflict}
+use Rattle.mcs_default.specs.Searches.{IsConflict}
+use Rattle.mcs_default.specs.Asked.{IsSameTheory, IsSearchOf}
 use Rattle.mcs_default.proofs.questions.least_conflict.Given as goal
 
 abbrev pub invariant-loop-index : goal.invariant-loop-index
 invariant-loop-index l = record {
-  kept : l.findings.facts ≡ l.fn.findings.facts;
-  ready : CanBeAsked l.atoms (map (λ d. default_of d.now) l.defaults) l.findings;
-  conflict : (items : List Item) → AreParts l.atoms items (map (λ d. default_of d.now) l.defaults) l.fn.findings.facts → IsConflict items l.least;
+  kept : IsSameTheory l.fn.search l.search;
+  conflict : (items : List Item) → IsSearchOf items l.fn.search → IsConflict items l.least;
 }

@@ -6,6 +6,6 @@ use Rattle.mcs_default.proofs.theory.push_consequents.Given as goal
 
 abbrev pub invariant-loop-index : goal.invariant-loop-index
 invariant-loop-index l = record {
-  all : l.known ≡ with_formulas l.atoms l.fn.known (consequents (map (λ d. default_of d.now) (take l.index l.defaults)) l.set);
-  room : length l.atoms ≤ l.known.vars;
+  all : l.known ≡ with_formulas l.theory.asked.now.atoms.now l.fn.known (consequents (map (λ d. default_of d.now) (take l.index l.theory.defaults.now)) l.set);
+  room : length l.theory.asked.now.atoms.now ≤ l.known.vars;
 }

@@ -11,15 +11,15 @@ use Rattle.mcs_default.proofs.verdict.judge.Goals as goal
 
 pub returns-in-Fails-clause-judged : goal.returns-in-Fails-clause-judged
 returns-in-Fails-clause-judged c items parts =
-    let names = c.args.atoms.now in
-    let ds : List Default = map (λ d. default_of d.now) c.args.defaults.now in
+    let names = c.args.theory.now.asked.now.atoms.now in
+    let ds : List Default = map (λ d. default_of d.now) c.args.theory.now.defaults.now in
     let told = subst (IsToldInside names (facts_of items ++ consequents ds c.args.set) ds c.args.set) c.in-Fails.is (c.in_ok-absence.ensures.told (facts_of items) parts.1) in
-    fails_verdict names items (map (λ b. formula_of b.now) c.args.beliefs.now) c.args.set ds (absence_of c.in-Fails.absence) parts.0 told
+    fails_verdict names items (map (λ b. formula_of b.now) c.args.theory.now.asked.now.beliefs.now) c.args.set ds (absence_of c.in-Fails.absence) parts.0 told
 
 pub returns-in-Allowed-clause-judged : goal.returns-in-Allowed-clause-judged
 returns-in-Allowed-clause-judged c =
-    let names = c.args.atoms.now in
-    let ds : List Default = map (λ d. default_of d.now) c.args.defaults.now in
+    let names = c.args.theory.now.asked.now.atoms.now in
+    let ds : List Default = map (λ d. default_of d.now) c.args.theory.now.defaults.now in
     IfOk-weaker c.judge_allowed.result _ _ (λ judged h items parts.
     (let told = subst (IsToldInside names (facts_of items ++ consequents ds c.args.set) ds c.args.set) c.in-Allowed.is (c.in_ok-absence.ensures.told (facts_of items) parts.1) in
     h items (subst (AreParts names items ds) (sym c.in_ok-absence.ensures.kept) parts) (allowed_in names items c.args.set ds (map entailment_of c.in-Allowed.justs.items) parts.0 told))) c.judge_allowed.ensures.judged

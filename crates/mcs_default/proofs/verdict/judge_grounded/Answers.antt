@@ -10,17 +10,17 @@ use Rattle.mcs_default.proofs.verdict.judge_grounded.Goals as goal
 
 pub returns-in-Ok-Applied-clause-judged : goal.returns-in-Ok-Applied-clause-judged
 returns-in-Ok-Applied-clause-judged c items parts allowed order =
-    let names = c.args.atoms.now in
-    let ds : List Default = map (λ d. default_of d.now) c.args.defaults.now in
-    let beliefs : List Formula = map (λ b. formula_of b.now) c.args.beliefs.now in
+    let names = c.args.theory.now.asked.now.atoms.now in
+    let ds : List Default = map (λ d. default_of d.now) c.args.theory.now.defaults.now in
+    let beliefs : List Formula = map (λ b. formula_of b.now) c.args.theory.now.asked.now.beliefs.now in
     let told = subst (IsToldOfRest names (facts_of items ++ consequents ds c.args.set) ds beliefs c.args.set) c.in-Ok-Applied.field-0-is (c.in-Ok-Applied.ensures.told (facts_of items) parts.1) in
     applied_verdict names items beliefs c.args.set ds c.in-Ok-Applied.number c.in-Ok-Applied.pre c.in-Ok-Applied.justs.items parts.0 told
 
 pub returns-in-Ok-Complete-clause-judged : goal.returns-in-Ok-Complete-clause-judged
 returns-in-Ok-Complete-clause-judged c items parts allowed order =
-    let names = c.args.atoms.now in
-    let ds : List Default = map (λ d. default_of d.now) c.args.defaults.now in
-    let beliefs : List Formula = map (λ b. formula_of b.now) c.args.beliefs.now in
+    let names = c.args.theory.now.asked.now.atoms.now in
+    let ds : List Default = map (λ d. default_of d.now) c.args.theory.now.defaults.now in
+    let beliefs : List Formula = map (λ b. formula_of b.now) c.args.theory.now.asked.now.beliefs.now in
     let told = subst (IsToldOfRest names (facts_of items ++ consequents ds c.args.set) ds beliefs c.args.set) c.in-Ok-Complete.field-0-is (c.in-Ok-Complete.ensures.told (facts_of items) parts.1) in
     extension_verdict names items beliefs c.args.set ds c.args.parts.order.items (map entailment_of c.args.parts.pres.items) (map entailment_of c.args.parts.justs.items) (map absence_of c.in-Ok-Complete.outside.items) (map entailment_of c.in-Ok-Complete.outputs.items) c.in-Ok-Complete.view
     parts.0 order.0 order.1 allowed told.0 told.1

@@ -1,0 +1,6 @@
+//! What a context is asked with, whatever its logic.
+#![tactic(auto)]
+
+mod asked;
+
+pub use asked::Asked;
