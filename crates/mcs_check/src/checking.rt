@@ -36,7 +36,9 @@ pub fn check_report(alloc: Global, system: Arc<System>, bytes: &[u8]) -> Result<
     found_in(alloc, system, bytes)
 }
 
-/// The finding on the bytes. Each answer is judged while it is read, so that at most one certificate is held at a time.
+/// The finding on the bytes. Each answer is judged line by line while it is read, so that no certificate is held whole:
+/// of the answer that is being read, the clauses of one trace, the views, and the smaller sets of a program; of those
+/// before it, the question, the states, and whether the certificate was accepted.
 fn found_in(alloc: Global, system: Arc<System>, bytes: &[u8]) -> Result<Finding, Memory>
     ensures { IfOk result (IsReportFinding (arc_value system) bytes.now) }
 {
