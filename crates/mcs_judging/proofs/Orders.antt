@@ -18,12 +18,14 @@ use Rattle.mcs_extensions.proofs.OrderLemmas.{numbers_next, numbers_stop, number
 use Rattle.mcs_spelling.proofs.LiteralTexts.{after_is}
 use Rattle.mcs_spelling.specs.Words.{after_prefix, numbers_of}
 use Rattle.mcs_proof_lines.specs.declared.fault.ReportFault.{ReportFault}
-use Rattle.mcs_proof_lines.specs.Walks.{At, Reading, ReturnsReading, many_at, yes_at}
+use Rattle.mcs_proof_lines.specs.Walks.{At, Reading, ReturnsReading, IsNumberOf, many_at, yes_at}
 use Rattle.mcs_proof_lines.specs.Verdicts.{within_from, order_of}
 use Rattle.mcs_steps.specs.Judging.{IsJudged, IsPassed}
 use Rattle.mcs_steps.specs.Words.{spaced_numbers, with_front}
-use Rattle.mcs_judging.specs.Theories.{IsNumberOf, numbers_in, AreNumbers, IsOrderIn, all_within}
-use Rattle.mcs_judging.proofs.Ways.{IsOnTheWay, way_begins, way_on, way_ends, way_fails, many_next, many_failed, passed_of}
+use Rattle.mcs_steps.proofs.ChainLemmas.{with_front_some}
+use Rattle.mcs_steps.proofs.Judged.{passed_of}
+use Rattle.mcs_judging.specs.Theories.{numbers_in, AreNumbers, IsOrderIn, all_within}
+use Rattle.mcs_judging.proofs.Ways.{IsOnTheWay, way_begins, way_on, way_ends, way_fails, many_next, many_failed}
 
 -- ---- none is above a bound
 abbrev pub are_all_within : ℕ → Option (List ℕ) → Bool
@@ -105,16 +107,12 @@ pub after_space : (rest spelled : List ℕ) → Some spelled ≡ after_prefix (c
 after_space rest spelled e = ap spaced_numbers (after_is (codes " ") rest spelled (sym e))
 
 -- ---- one number more
-front_some : (n : ℕ) (o : Option (List ℕ)) (ns : List ℕ) → with_front n o ≡ Some ns → (rest : List ℕ) × (o ≡ Some rest) × (ns ≡ n ∷ rest)
-front_some n None ns e = absurd (cc)
-front_some n (Some rest) ns e = (rest, refl, (let same : n ∷ rest ≡ ns = cc in sym same))
-
 module _ (b n : ℕ) (left tail after ns : List ℕ) (is : left ≡ b ∷ tail) (are : spaced_numbers left ≡ Some ns) where
   pub none_impossible : numbers_of tail ≡ None → ⊥
   none_impossible e = none-some ns (sym e ∙ ap spaced_numbers (sym is) ∙ are)
 
   pub next_number : numbers_of tail ≡ with_front n (spaced_numbers after) → (ms : List ℕ) × (spaced_numbers after ≡ Some ms) × (ns ≡ n ∷ ms)
-  next_number e = front_some n (spaced_numbers after) ns (sym e ∙ ap spaced_numbers (sym is) ∙ are)
+  next_number e = with_front_some n (spaced_numbers after) ns (sym e ∙ ap spaced_numbers (sym is) ∙ are)
 
 pub last_number : (left ns : List ℕ) → left ≡ [] → spaced_numbers left ≡ Some ns → ns ≡ []
 last_number left ns none are = same_Some ns [] (sym are ∙ ap spaced_numbers none)

@@ -1,8 +1,7 @@
 -- Certificates of programs, judged part by part.
-use Rattle.std.proofs.Common.{◌≡◌, ℕ, ◌-◌, ◌<◌, ◌≤◌, Bool, true, false, List, [], ◌∷◌, ◌++◌, map, codes, Option, Some, None, Result, Ok, Err, ◌↔◌, refl, sym, ap, ◌∙◌, subst, arith, true≢false}
+use Rattle.std.proofs.Common.{◌≡◌, ℕ, ◌-◌, ◌<◌, ◌≤◌, Bool, true, false, List, [], ◌∷◌, ◌++◌, map, codes, Option, Some, None, Result, Ok, Err, ◌↔◌, sym, ap, ◌∙◌, subst, arith, true≢false}
 use Rattle.std.specs.Prelude.{Vec}
 use Rattle.std.specs.List.{AllZip}
-use Rattle.std.specs.Result.{IsErrAnd}
 use Rattle.std.specs.declared.alloc.Global.{Global}
 use Rattle.mcs_sets.specs.Orders.{StateBefore}
 use Rattle.mcs_base.specs.Listings.{IsAscending}
@@ -20,32 +19,19 @@ use Rattle.mcs_proof_lines.specs.declared.fault.ReportFault.{ReportFault}
 use Rattle.mcs_proof_lines.specs.declared.fault.ReportFault.TheVariants as faults
 use Rattle.mcs_proof_lines.specs.Walks.{At, Reading, ◌>>=◌, ReturnsReading, atoms_at, expect_at, trace_at, many_at, after_front}
 use Rattle.mcs_proof_lines.specs.Programs.{model_at, smaller_at, rest_at, program_at}
-use Rattle.mcs_proof_lines.proofs.WalkLemmas.{many_ok, many_err, many_end}
+use Rattle.mcs_proof_lines.proofs.WalkLemmas.{many_ok, many_err, many_end, front_none}
 use Rattle.mcs_steps.specs.Judging.{IsJudged, Judges, IsPassed, PassesBy}
+use Rattle.mcs_steps.proofs.Judged.{passed_wrong}
 use Rattle.mcs_judging.specs.Judging.{IsTold, AreViewsOf}
 use Rattle.mcs_judging.specs.Programs.{rules_in, beliefs_in, IsViewOf, Refutes, MayBeShown, Completes}
 use Rattle.mcs_judging.specs.declared.programs.Asked as code
 
--- ---- a fault that is handed on
-pub passed_err : {A : Type 0} (r : Result (Unit {0}) ReportFault) (now : At) (read : Reading A) (e : ReportFault) → IsErrAnd r (λ d. d ≡ e) → ReturnsReading e read → PassesBy r now read
-passed_err (Ok u) now read e h failed = absurd h
-passed_err (Err d) now read e h failed = subst (λ (f : ReportFault). ReturnsReading f read) (sym h) failed
-
 -- ---- traces
--- told of the same
-pub judges_same : {A : Type 0} (P Q : A → Type 0) (r : Result Bool ReportFault) (now : At) (read : Reading A) → ((x : A) → Q x ↔ P x) → Judges P r now read → Judges Q r now read
-judges_same P Q (Ok told) now read same h = record { value = h.value; is = h.is; right = (λ yes. (same h.value).1 (h.right.0 yes), λ q. h.right.1 ((same h.value).0 q)) }
-judges_same P Q (Err fault) now read same h = h
-
 pub refutes_some : (o : Option ClauseList) (known : ClauseList) → o ≡ Some known → (steps : List Inference) → Refutes o steps ↔ IsAcceptedTrace known.clauses steps
 refutes_some o known e steps = (λ h. subst (λ (x : Option ClauseList). Refutes x steps) e h, λ h. subst (λ (x : Option ClauseList). Refutes x steps) (sym e) h)
 
 pub refutes_none : (o : Option ClauseList) → o ≡ None → (now : At) (read : Reading (List Inference)) → IsPassed now read → IsJudged (Refutes o) false now read
-refutes_none o e now read h = record {
-  value = h.value;
-  is = h.is;
-  right = (λ yes. absurd (true≢false (sym yes)), λ refutes. absurd (subst (λ (x : Option ClauseList). Refutes x h.value) e refutes));
-}
+refutes_none o e now read h = passed_wrong (Refutes o) now read h (λ steps refutes. subst (λ (x : Option ClauseList). Refutes x steps) e refutes)
 
 -- ---- the clauses for the trace of a model
 module _ (names : List Name) (rules : List ProgramRule) (model : ℕ) (minimal : List Inference) where
@@ -115,10 +101,6 @@ module _ (texts : List (List ℕ)) (at mid : At) (model : ℕ) (first : atoms_at
     }
 
 -- ---- so many of one kind
-front_none : {A : Type 0} (r : Reading (List A)) → after_front [] r ≡ r
-front_none (Ok r) = refl
-front_none (Err n) = refl
-
 -- some were read, and so many are left
 pub record AreReadSoFar {A : Type 0} (p : At → Reading A) (count left : ℕ) (start at : At) : Type 0 where
   pub values : List A

@@ -19,19 +19,15 @@ pub both_told : (told first second : Bool) (P : Type 0) → (IsTrue told ↔ (Is
 both_told told first second P both same = (λ h. (let parts = both.0 h in (parts.0, same.0 parts.1)), λ h. both.1 (h.0, same.1 h.1))
 
 -- ---- a fault that is handed on
-pub judged_err : {A : Type 0} (Holds : A → Type 0) (r : Result Bool ReportFault) (now : At) (read : Reading A) (e : ReportFault) → IsErrAnd r (λ d. d ≡ e) → ReturnsReading e read → Judges Holds r now read
-judged_err Holds (Ok x) now read e h told = absurd h
-judged_err Holds (Err d) now read e h told = subst (λ (f : ReportFault). ReturnsReading f read) (sym h) told
-
 pub told_err : {X A : Type 0} (Fits : X → A → Type 0) (r : Result X ReportFault) (now : At) (read : Reading A) (e : ReportFault) → IsErrAnd r (λ d. d ≡ e) → ReturnsReading e read → Tells Fits r now read
 told_err Fits (Ok x) now read e h told = absurd h
 told_err Fits (Err d) now read e h told = subst (λ (f : ReportFault). ReturnsReading f read) (sym h) told
 
 -- ---- a `yes`
-abbrev yes_then : Reading (List Inference) → Reading Entailment
+abbrev pub yes_then : Reading (List Inference) → Reading Entailment
 yes_then r = r >>= λ trace. Ok (Yes trace.0, trace.1)
 
-abbrev yes_after : Result At ℕ → Reading Entailment
+abbrev pub yes_after : Result At ℕ → Reading Entailment
 yes_after r = r >>= λ then. yes_then (trace_at then)
 
 module _ (at : At) where

@@ -1,11 +1,10 @@
 -- Entailments that are judged one after the other, and the places of those that say `yes`.
-use Rattle.std.proofs.Common.{◌≡◌, ℕ, ◌+◌, ◌-◌, ◌<◌, ◌≤◌, zero, suc, Bool, true, false, not, cond, IsTrue, List, [], ◌∷◌, ◌++◌, map, length, get_or, take, Some, None, Ok, Err, IfSome, slice_get, ◌⊎◌, inl, inr, ◌↔◌, refl, sym, ap, ◌∙◌, subst, arith, length-append, true≢false}
+use Rattle.std.proofs.Common.{◌≡◌, ℕ, ◌+◌, ◌-◌, ◌<◌, ◌≤◌, Bool, true, false, cond, IsTrue, List, [], ◌∷◌, ◌++◌, map, length, get_or, take, Some, None, Ok, IfSome, slice_get, ◌⊎◌, inl, inr, ◌↔◌, refl, sym, ap, ◌∙◌, subst, arith, length-append, true≢false}
 use Rattle.std.proofs.lemmas.List.{length-map, map_push, take_all}
-use Rattle.std.proofs.lemmas.Option.{same_Some}
 use Rattle.std.specs.List.{AllZip}
 use Rattle.mcs_sets.specs.Sets.{has, single, union}
 use Rattle.mcs_sets.proofs.Lattice.{in_with}
-use Rattle.mcs_base.proofs.Lists.{zip_push}
+use Rattle.mcs_base.proofs.Lists.{slice_get_kept, slice_get_push_at, slice_get_seam, zip_push}
 use Rattle.mcs_base.proofs.Mapped.{map-take_read}
 use Rattle.mcs_system.specs.Plain.{Name, Formula}
 use Rattle.mcs_cnf.specs.Entailments.{Entailment, says_yes, IsAcceptedEntailment, IsModelAt}
@@ -14,20 +13,11 @@ use Rattle.mcs_evidence.specs.Defaults.{IsEntailmentShown, IsDenied}
 use Rattle.mcs_proof_lines.specs.declared.fault.ReportFault.{ReportFault}
 use Rattle.mcs_proof_lines.specs.declared.fault.ReportFault.TheVariants as faults
 use Rattle.mcs_proof_lines.specs.Walks.{At, Reading, ReturnsReading, yes_at, no_at, many_at, after_front}
-use Rattle.mcs_proof_lines.proofs.WalkLemmas.{many_ok, many_err, many_end}
+use Rattle.mcs_proof_lines.proofs.WalkLemmas.{many_ok, many_err, many_end, front_none}
 use Rattle.mcs_steps.specs.Judging.{IsJudged}
 use Rattle.mcs_judging.specs.Judging.{IsTold, ArePlacesShown, with_yes, IsToldOn}
 use Rattle.mcs_judging.specs.declared.entailments.Told as code
 use Rattle.mcs_judging.proofs.Readings.{yes_says, no_says}
-
--- ---- tests
-pub was_false : (b : Bool) → not b ≡ true → b ≡ false
-was_false true e = sym e
-was_false false e = refl
-
-pub was_true : (b : Bool) → not b ≡ false → b ≡ true
-was_true true e = refl
-was_true false e = sym e
 
 -- ---- lists that go together, without their last items
 module _ {A B : Type 0} (R : A → B → Type 0) where
@@ -38,10 +28,6 @@ module _ {A B : Type 0} (R : A → B → Type 0) where
   zip_pop (v ∷ []) [] x y all = absurd all.1
   zip_pop (v ∷ w ∷ ws) [] x y all = absurd all.1
   zip_pop (w ∷ ws) (z ∷ zs) x y all = let rest = zip_pop ws zs x y all.1 in ((all.0, rest.0), rest.1)
-
-front_none : {A : Type 0} (r : Reading (List A)) → after_front [] r ≡ r
-front_none (Ok r) = refl
-front_none (Err k) = refl
 
 -- ---- so many that were read, one for each of the first items, and whether each is right
 pub record AreJudgedSoFar {X : Type 0} (p : At → Reading Entailment) (R : Formula → Entailment → Type 0) (f : X → Formula) (xs : List X) (start at : At) (i : ℕ) (told : Bool) : Type 0 where
@@ -88,27 +74,6 @@ module _ {X : Type 0} (p : At → Reading Entailment) (R : Formula → Entailmen
     all_judged past = record { value = h.front; is = all_read past; right = all_right past }
 
 -- ---- the places of those that say `yes`
-some_pushed : (xs : List Bool) (v : Bool) (b : ℕ) → slice_get (xs ++ v ∷ []) b ≡ Some true → (slice_get xs b ≡ Some true) ⊎ ((b ≡ length xs) × (v ≡ true))
-some_pushed [] v zero e = inr (refl, same_Some v true e)
-some_pushed [] v (suc b) e = absurd (cc)
-some_pushed (x ∷ xs) v zero e = inl e
-some_pushed (x ∷ xs) v (suc b) e = later (some_pushed xs v b e)
-  where
-    later : (slice_get xs b ≡ Some true) ⊎ ((b ≡ length xs) × (v ≡ true)) → (slice_get (x ∷ xs) (suc b) ≡ Some true) ⊎ ((suc b ≡ length (x ∷ xs)) × (v ≡ true))
-    later (inl old) = inl old
-    later (inr last) = inr (let same = last.0 in (omega (arith, same), last.1))
-
-still_some : (xs : List Bool) (v : Bool) (b : ℕ) → slice_get xs b ≡ Some true → slice_get (xs ++ v ∷ []) b ≡ Some true
-still_some [] v b e = absurd (cc)
-still_some (x ∷ xs) v zero e = e
-still_some (x ∷ xs) v (suc b) e = still_some xs v b e
-
-last_some : (xs : List Bool) (v : Bool) (b : ℕ) → b ≡ length xs → v ≡ true → slice_get (xs ++ v ∷ []) b ≡ Some true
-last_some [] v zero at e = ap (λ (w : Bool). Some w) e
-last_some [] v (suc b) at e = absurd (omega (arith, at))
-last_some (x ∷ xs) v zero at e = absurd (omega (arith, at))
-last_some (x ∷ xs) v (suc b) at e = last_some xs v b (omega (arith, at)) e
-
 abbrev pub AreYesPlaces : List Entailment → ℕ → Type 0
 AreYesPlaces es places = (b : ℕ) → IsTrue (has places b) ↔ HasYes es b
 
@@ -119,24 +84,24 @@ module _ (front : List Entailment) (e : Entailment) (places : ℕ) (known : AreY
   to_yes : (b : ℕ) → slice_get (map says_yes front ++ says_yes e ∷ []) b ≡ Some true → HasYes (front ++ e ∷ []) b
   to_yes b h = ap (λ (vs : List Bool). slice_get vs b) pushed ∙ h
 
-  from_yes : (b : ℕ) → HasYes (front ++ e ∷ []) b → (slice_get (map says_yes front) b ≡ Some true) ⊎ ((b ≡ length (map says_yes front)) × (says_yes e ≡ true))
-  from_yes b h = some_pushed (map says_yes front) (says_yes e) b (sym (ap (λ (vs : List Bool). slice_get vs b) pushed) ∙ h)
+  from_yes : (b : ℕ) → HasYes (front ++ e ∷ []) b → (slice_get (map says_yes front) b ≡ Some true) ⊎ ((b ≡ length (map says_yes front)) × (true ≡ says_yes e))
+  from_yes b h = slice_get_push_at (map says_yes front) (says_yes e) b true (sym (ap (λ (vs : List Bool). slice_get vs b) pushed) ∙ h)
 
   module _ (i : ℕ) (many : length front ≡ i) where
     long : length (map says_yes front) ≡ i
     long = length-map front says_yes ∙ many
 
     taken_in : (b : ℕ) → (has places b ≡ true) ⊎ (b ≡ i) → says_yes e ≡ true → HasYes (front ++ e ∷ []) b
-    taken_in b (inl old) said = to_yes b (still_some (map says_yes front) (says_yes e) b ((known b).0 old))
-    taken_in b (inr same) said = to_yes b (last_some (map says_yes front) (says_yes e) b (same ∙ sym long) said)
+    taken_in b (inl old) said = to_yes b (slice_get_kept (map says_yes front) (says_yes e ∷ []) b true ((known b).0 old))
+    taken_in b (inr same) said = to_yes b (slice_get_seam (map says_yes front) (says_yes e) [] b (same ∙ sym long) ∙ ap (λ (v : Bool). Some v) said)
 
-    taken_out : (b : ℕ) → (slice_get (map says_yes front) b ≡ Some true) ⊎ ((b ≡ length (map says_yes front)) × (says_yes e ≡ true)) → (has places b ≡ true) ⊎ (b ≡ i)
+    taken_out : (b : ℕ) → (slice_get (map says_yes front) b ≡ Some true) ⊎ ((b ≡ length (map says_yes front)) × (true ≡ says_yes e)) → (has places b ≡ true) ⊎ (b ≡ i)
     taken_out b (inl old) = inl ((known b).1 old)
     taken_out b (inr last) = inr (last.0 ∙ long)
 
-    passed_out : (b : ℕ) → says_yes e ≡ false → (slice_get (map says_yes front) b ≡ Some true) ⊎ ((b ≡ length (map says_yes front)) × (says_yes e ≡ true)) → has places b ≡ true
+    passed_out : (b : ℕ) → says_yes e ≡ false → (slice_get (map says_yes front) b ≡ Some true) ⊎ ((b ≡ length (map says_yes front)) × (true ≡ says_yes e)) → has places b ≡ true
     passed_out b said (inl old) = (known b).1 old
-    passed_out b said (inr last) = absurd (true≢false (sym last.1 ∙ said))
+    passed_out b said (inr last) = absurd (true≢false (last.1 ∙ said))
 
     pub places_more : (after : ℕ) → after ≡ with_yes i e places → AreYesPlaces (front ++ e ∷ []) after
     places_more after is b = by (says_yes e) refl
@@ -149,7 +114,7 @@ module _ (front : List Entailment) (e : Entailment) (places : ℕ) (known : AreY
             )
         by false said =
             let now : after ≡ places = is ∙ ap (λ (v : Bool). cond v (union places (single i)) places) said in (
-              λ h. to_yes b (still_some (map says_yes front) (says_yes e) b ((known b).0 (sym (ap (λ (s : ℕ). has s b) now) ∙ h))),
+              λ h. to_yes b (slice_get_kept (map says_yes front) (says_yes e ∷ []) b true ((known b).0 (sym (ap (λ (s : ℕ). has s b) now) ∙ h))),
               λ h. ap (λ (s : ℕ). has s b) now ∙ passed_out b said (from_yes b h),
             )
 

@@ -1,13 +1,14 @@
 -- Verdicts on sets of defaults, judged as they are read.
-use Rattle.std.proofs.Common.{◌≡◌, ℕ, ◌+◌, ◌-◌, ◌<◌, ◌^◌, zero, suc, Bool, true, false, cond, IsTrue, List, [], ◌∷◌, ◌++◌, map, length, slice_get, slice_index, Option, Some, None, Ok, Err, Result, Vec, codes, ◌⊎◌, inl, inr, ◌↔◌, refl, sym, ap, ◌∙◌, subst, arith, length-append, append-nil, true≢false}
+use Rattle.std.proofs.Common.{◌≡◌, ℕ, ◌+◌, ◌-◌, ◌<◌, ◌^◌, Bool, true, false, cond, IsTrue, List, [], ◌∷◌, ◌++◌, map, length, slice_get, slice_index, Option, Some, None, Ok, Err, Result, Vec, codes, ◌⊎◌, inl, inr, ◌↔◌, refl, sym, ap, ◌∙◌, subst, arith, length-append, append-nil, true≢false}
 use Rattle.std.specs.declared.alloc.Global.{Global}
 use Rattle.std.proofs.lemmas.Option.{same_Some, none-some}
 use Rattle.std.proofs.lemmas.List.{length-map}
-use Rattle.mcs_sets.specs.Sets.{has, minus, members, size, Within}
+use Rattle.mcs_sets.specs.Sets.{minus, members, size, Within, has}
 use Rattle.mcs_sets.specs.Orders.{StateBefore}
-use Rattle.mcs_sets.proofs.SetLemmas.{same_set}
 use Rattle.mcs_base.specs.Listings.{IsAmong, IsListing}
 use Rattle.mcs_base.proofs.Among.{among_push}
+use Rattle.mcs_base.proofs.Lists.{slice_get_kept, slice_get_push_at, slice_get_seam}
+use Rattle.mcs_sets.proofs.SetLemmas.{same_set}
 use Rattle.std.proofs.lemmas.Bool.Decides.{same_from_decides}
 use Rattle.mcs_system.specs.Plain.{Name, Formula, Default, Item}
 use Rattle.mcs_cnf.specs.Entailments.{Entailment}
@@ -21,11 +22,11 @@ use Rattle.mcs_proof_lines.specs.declared.fault.ReportFault.{ReportFault}
 use Rattle.mcs_proof_lines.specs.declared.fault.ReportFault.TheVariants as faults
 use Rattle.mcs_proof_lines.specs.Walks.{At, Reading, ◌>>=◌, ReturnsReading, line_at, yes_at, no_at, entailment_at, many_at, each_at, absence_at, absence_of_place, number_after, mapped_reading, advanced, fault_at, after_front}
 use Rattle.mcs_proof_lines.specs.Verdicts.{Terms, all_places, just_total, extension_at, applied_at, ungrounded_at, or_absence, or_extension, or_ungrounded, or_applied, order_of, defaults_of_line, verdict_at, names_set, set_at, sets_from, verdicts_at}
-use Rattle.mcs_proof_lines.proofs.WalkLemmas.{pushed_front}
+use Rattle.mcs_proof_lines.proofs.WalkLemmas.{pushed_front, front_none}
 use Rattle.mcs_steps.specs.Judging.{Judges}
 use Rattle.mcs_judging.specs.Judging.{IsTold, Tells, AreViewsOf, ArePlacesShown}
 use Rattle.mcs_judging.specs.Theories.{TellsAbsence, Completion, complete_at, TellsCompletion, shown_if, TellsVerdict, IsNoted}
-use Rattle.mcs_judging.proofs.Ways.{fault_first, fault_same, front_none, sets_next, sets_failed}
+use Rattle.mcs_judging.proofs.Ways.{fault_first, fault_same, sets_next, sets_failed}
 use Rattle.mcs_judging.proofs.AbsenceLemmas.{fails_told}
 
 -- ---- what is told of each verdict
@@ -281,26 +282,6 @@ shows_accepted names items beliefs set (Applied n pre justs) p h = absurd h
 shows_accepted names items beliefs set (Ungrounded closed pres) p h = absurd h
 shows_accepted names items beliefs set (Extension order pres justs outside outputs) p h = (p, h)
 
--- what stands at a place of a list with one more
-split_get : {A : Type 0} (xs : List A) (x : A) (i : ℕ) (y : A) → slice_get (xs ++ x ∷ []) i ≡ Some y → (slice_get xs i ≡ Some y) ⊎ ((i ≡ length xs) × (x ≡ y))
-split_get [] x zero y e = inr (refl, same_Some x y e)
-split_get [] x (suc i) y e = absurd (none-some y e)
-split_get (z ∷ xs) x zero y e = inl e
-split_get (z ∷ xs) x (suc i) y e = later (split_get xs x i y e)
-  where
-    later : (slice_get xs i ≡ Some y) ⊎ ((i ≡ length xs) × (x ≡ y)) → (slice_get (z ∷ xs) (suc i) ≡ Some y) ⊎ ((suc i ≡ length (z ∷ xs)) × (x ≡ y))
-    later (inl old) = inl old
-    later (inr (at, same)) = inr ((omega (arith, at)), same)
-
-still_get : {A : Type 0} (xs : List A) (x : A) (i : ℕ) (y : A) → slice_get xs i ≡ Some y → slice_get (xs ++ x ∷ []) i ≡ Some y
-still_get [] x i y e = absurd (none-some y e)
-still_get (z ∷ xs) x zero y e = e
-still_get (z ∷ xs) x (suc i) y e = still_get xs x i y e
-
-last_get : {A : Type 0} (xs : List A) (x : A) → slice_get (xs ++ x ∷ []) (length xs) ≡ Some x
-last_get [] x = refl
-last_get (z ∷ xs) x = last_get xs x
-
 module _ (names : List Name) (items : List Item) (beliefs : List Formula) where
   -- a verdict on one of the sets so far shows this view
   abbrev ShowsSome : List Verdict → ℕ → Type 0
@@ -321,26 +302,26 @@ module _ (names : List Name) (items : List Item) (beliefs : List Formula) where
 
   module _ (told : Bool) (views : List ℕ) (front : List Verdict) (before : AreNoted told views front) (n : ℕ) (many : length front ≡ n) (v : Verdict) where
     here : slice_get (front ++ v ∷ []) n ≡ Some v
-    here = ap (slice_get (front ++ v ∷ [])) (sym many) ∙ last_get front v
+    here = slice_get_seam front v [] n (sym many)
 
     accepted_more : IsAcceptedVerdict names items beliefs n v → IsTrue told → (set : ℕ) (w : Verdict) → slice_get (front ++ v ∷ []) set ≡ Some w → IsAcceptedVerdict names items beliefs set w
-    accepted_more fine t set w e = elim (split_get front v set w e) as (λ _. IsAcceptedVerdict names items beliefs set w) [
+    accepted_more fine t set w e = elim (slice_get_push_at front v set w e) as (λ _. IsAcceptedVerdict names items beliefs set w) [
       | inl old ↦ before.accepted t set w old
-      | inr (at, same) ↦ subst (λ (m : ℕ). IsAcceptedVerdict names items beliefs m w) (sym (at ∙ many)) (subst (IsAcceptedVerdict names items beliefs n) same fine)
+      | inr (at, same) ↦ subst (λ (m : ℕ). IsAcceptedVerdict names items beliefs m w) (sym (at ∙ many)) (subst (IsAcceptedVerdict names items beliefs n) (sym same) fine)
     ]
 
     refused_more : told ≡ false → (set : ℕ) × (w : Verdict) × (slice_get (front ++ v ∷ []) set ≡ Some w) × ¬ IsAcceptedVerdict names items beliefs set w
-    refused_more e = let (set, w, at, wrong) = before.refused e in (set, w, still_get front v set w at, wrong)
+    refused_more e = let (set, w, at, wrong) = before.refused e in (set, w, slice_get_kept front (v ∷ []) set w at, wrong)
 
     -- a view of the sets so far is one of those before or one of this set
     last_or : (places : ℕ) → ShowsSome (front ++ v ∷ []) places → ShowsSome front places ⊎ ShowsView names items beliefs n v places
-    last_or places (set, w, e, shows) = elim (split_get front v set w e) as (λ _. ShowsSome front places ⊎ ShowsView names items beliefs n v places) [
+    last_or places (set, w, e, shows) = elim (slice_get_push_at front v set w e) as (λ _. ShowsSome front places ⊎ ShowsView names items beliefs n v places) [
       | inl old ↦ inl (set, w, old, shows)
-      | inr (at, same) ↦ inr (subst (λ (x : Verdict). ShowsView names items beliefs n x places) (sym same) (subst (λ (m : ℕ). ShowsView names items beliefs m w places) (at ∙ many) shows))
+      | inr (at, same) ↦ inr (subst (λ (x : Verdict). ShowsView names items beliefs n x places) same (subst (λ (m : ℕ). ShowsView names items beliefs m w places) (at ∙ many) shows))
     ]
 
     still_shows : (places : ℕ) → ShowsSome front places → ShowsSome (front ++ v ∷ []) places
-    still_shows places (set, w, e, shows) = (set, w, still_get front v set w e, shows)
+    still_shows places (set, w, e, shows) = (set, w, slice_get_kept front (v ∷ []) set w e, shows)
 
     pub one_noted : (j : Judged) (told' : Bool) (views' : List ℕ) → IsVerdictJudged names items beliefs n v j → IsNoted j told views told' views' → AreNoted told' views' (front ++ v ∷ [])
     one_noted variants.Refused told' views' wrong noted = record {

@@ -1,15 +1,14 @@
 -- Values that are read one after the other, judged as they are read, and what is told where a reading fails.
-use Rattle.std.proofs.Common.{◌≡◌, ℕ, ◌+◌, ◌-◌, ◌<◌, zero, suc, Bool, true, false, IsTrue, ◌↔◌, List, [], ◌∷◌, ◌++◌, Result, Ok, Err, codes, refl, sym, ap, ◌∙◌, subst, arith, append_assoc, append-nil, true≢false}
-use Rattle.std.specs.Result.{IsErrAnd}
-use Rattle.mcs_trace.specs.Traces.{Inference}
-use Rattle.mcs_cnf.specs.Entailments.{Entailment, Yes}
+use Rattle.std.proofs.Common.{◌≡◌, ℕ, ◌+◌, ◌-◌, ◌<◌, zero, suc, Bool, true, IsTrue, ◌↔◌, List, [], ◌∷◌, ◌++◌, Result, Ok, Err, codes, sym, ap, ◌∙◌, subst, arith, append_assoc, append-nil}
+use Rattle.mcs_cnf.specs.Entailments.{Yes}
 use Rattle.mcs_evidence.specs.Defaults.{Verdict}
 use Rattle.mcs_proof_lines.specs.declared.fault.ReportFault.{ReportFault}
 use Rattle.mcs_proof_lines.specs.declared.fault.ReportFault.TheVariants as faults
 use Rattle.mcs_proof_lines.specs.Walks.{At, Reading, ◌>>=◌, ReturnsReading, expect_at, trace_at, yes_at, many_at, each_at, after_front}
 use Rattle.mcs_proof_lines.specs.Verdicts.{Terms, set_at, sets_from}
-use Rattle.mcs_proof_lines.proofs.WalkLemmas.{pushed_front}
-use Rattle.mcs_steps.specs.Judging.{IsJudged, IsPassed, PassesBy}
+use Rattle.mcs_proof_lines.proofs.WalkLemmas.{pushed_front, front_none}
+use Rattle.mcs_steps.specs.Judging.{IsJudged, PassesBy}
+use Rattle.mcs_judging.proofs.Readings.{yes_then, yes_after}
 
 -- ---- readings that fail
 pub fault_first : {A B : Type 0} (fault : ReportFault) (r : Reading A) (f : A × At → Reading B) → ReturnsReading fault r → ReturnsReading fault (r >>= f)
@@ -32,10 +31,6 @@ pub record IsOnTheWay {A : Type 0} (Whole Rest : List A → Type 0) (told : Bool
   pub front : List A
   pub read : after_front front left ≡ goal
   pub holds : (xs : List A) → Whole (front ++ xs) ↔ (IsTrue told × Rest xs)
-
-pub front_none : {A : Type 0} (r : Reading (List A)) → after_front [] r ≡ r
-front_none (Ok r) = refl
-front_none (Err k) = refl
 
 pub way_begins : {A : Type 0} (Whole : List A → Type 0) (told : Bool) (goal : Reading (List A)) → told ≡ true → IsOnTheWay Whole Whole told goal goal
 way_begins Whole told goal is = record { front = []; read = front_none goal; holds = λ xs. (λ h. (is, h), λ h. h.1) }
@@ -88,27 +83,9 @@ pub sets_failed : (t : Terms) (k n : ℕ) (at : At) (fault : ReportFault) → 0 
 sets_failed t k zero at fault some e = absurd (omega arith)
 sets_failed t k (suc n) at fault some e = fault_first fault (set_at t k at) (λ first. sets_from t (k + 1) n first.1 >>= λ others. Ok (first.0 ∷ others.0, others.1)) e
 
--- ---- nothing is told of what was passed
-pub passed_of : {A : Type 0} (Holds : A → Type 0) (told : Bool) (now : At) (read : Reading A) → IsJudged Holds told now read → IsPassed now read
-passed_of Holds told now read h = record { value = h.value; is = h.is }
-
--- where it is known that what was passed is wrong
-pub passed_wrong : {A : Type 0} (Holds : A → Type 0) (now : At) (read : Reading A) → IsPassed now read → ((x : A) → ¬ Holds x) → IsJudged Holds false now read
-passed_wrong Holds now read h never = record { value = h.value; is = h.is; right = (λ e. absurd (true≢false (sym e)), λ holds. absurd (never h.value holds)) }
-
 -- ---- a `yes` that is passed
-abbrev yes_from : Reading (List Inference) → Reading Entailment
-yes_from r = r >>= λ trace. Ok (Yes trace.0, trace.1)
-
-abbrev yes_by : Result At ℕ → Reading Entailment
-yes_by r = r >>= λ then. yes_from (trace_at then)
-
 pub yes_passed : (at mid now : At) (r : Result (Unit {0}) ReportFault) → expect_at (codes "yes") at ≡ Ok mid → PassesBy r now (trace_at mid) → PassesBy r now (yes_at at)
 unfolding yes_at
-yes_passed at mid now (Ok u) begun h = record { value = Yes h.value; is = ap yes_by begun ∙ ap yes_from h.is }
+yes_passed at mid now (Ok u) begun h = record { value = Yes h.value; is = ap yes_after begun ∙ ap yes_then h.is }
 yes_passed at mid now (Err faults.Memory) begun h = tt
-yes_passed at mid now (Err (faults.Grammar line)) begun h = ap yes_by begun ∙ ap yes_from h
-
-pub passes_err : {A : Type 0} (r : Result (Unit {0}) ReportFault) (now : At) (read : Reading A) (e : ReportFault) → IsErrAnd r (λ d. d ≡ e) → ReturnsReading e read → PassesBy r now read
-passes_err (Ok x) now read e h told = absurd h
-passes_err (Err d) now read e h told = subst (λ (f : ReportFault). ReturnsReading f read) (sym h) told
+yes_passed at mid now (Err (faults.Grammar line)) begun h = ap yes_after begun ∙ ap yes_then h

@@ -1,5 +1,5 @@
 -- What is told of the certificate of a default theory while it is read.
-use Rattle.std.specs.Prelude.{◌≡◌, ◌↔◌, ◌≤◌, ◌<◌, ◌-◌, ℕ, Bool, true, false, ◌&&◌, nat_le, cond, List, [], ◌∷◌, ◌++◌, map, length, Option, Some, None, Ok, MatchOption, slice_index}
+use Rattle.std.specs.Prelude.{◌≡◌, ◌↔◌, ◌≤◌, ℕ, Bool, true, false, ◌&&◌, nat_le, cond, List, [], ◌∷◌, ◌++◌, map, length, Option, Some, None, Ok, MatchOption}
 use Rattle.std.specs.Option.{option_map_or}
 use Rattle.mcs_sets.specs.Sets.{minus, members}
 use Rattle.mcs_system.specs.Plain.{Name, Formula, Default, Item, Fact}
@@ -32,15 +32,6 @@ pub record IsPrepared (a : code.Asked) : Type 0 where
   pub few_numbers : length a.terms.now.numbers.now ≤ 64
   pub few_beliefs : length a.beliefs.now ≤ 64
   pub few_defaults : length a.terms.now.justs.now ≤ 10
-
--- ---- numbers of defaults and of their justifications, which are numbered from 1
-abbrev pub IsNumberOf : List ℕ → ℕ → Type 0
-IsNumberOf justs n = (0 < n) × (n ≤ length justs)
-
-pub record IsJustOf (justs : List ℕ) (b : ℕ × ℕ) : Type 0 where
-  pub number : IsNumberOf justs b.0
-  pub some : 0 < b.1
-  pub enough : b.1 ≤ slice_index justs (b.0 - 1)
 
 -- ---- absences
 -- the number that is told is that of a default of which it is shown that it is unsupported or blocked

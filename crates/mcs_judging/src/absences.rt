@@ -7,103 +7,19 @@ ghost use Rattle.mcs_system.specs.Seen.{formula_of};
 ghost use Rattle.mcs_cnf.specs.ClauseLists.{clause_list, IsOver};
 ghost use Rattle.mcs_evidence.specs.Defaults.{Unsupported, Blocked, IsEntailmentShown};
 ghost use Rattle.mcs_extensions.specs.Checks.{AreAbsent};
-ghost use Rattle.mcs_proof_lines.specs.Walks.{may_be_named, may_block, is_just, unsupported_of, blocked_of, absence_at, absence_of_place, each_at, line_at, yes_at, no_at};
+ghost use Rattle.mcs_proof_lines.specs.Walks.{IsNumberOf, IsJustOf, absence_at, absence_of_place, each_at, yes_at, no_at};
 ghost use Rattle.mcs_steps.specs.Judging.{Judges};
 ghost use Rattle.mcs_judging.specs.Judging.{Tells};
-ghost use Rattle.mcs_judging.specs.Theories.{theory_of, IsPrepared, IsNumberOf, IsJustOf, TellsAbsence, told_if};
+ghost use Rattle.mcs_judging.specs.Theories.{theory_of, IsPrepared, TellsAbsence, told_if};
 
 use crate::entailments::{both, judge_no, judge_yes};
 use crate::theory::{Asked, default_numbered};
 use mcs_base::Members;
 use mcs_extensions::negated;
-use mcs_proof_lines::{Lines, ReportFault, number_after, out_of_place};
-use mcs_spelling::{find, read_number, strip};
+use mcs_proof_lines::{Lines, ReportFault, next_blocked, next_unsupported, out_of_place};
 use mcs_system::{Formula, Name};
 use mcs_trace::Cnf;
 use std::alloc::Global;
-
-/// Whether the default may be named: only `only` may be, if it is given.
-fn may_be(only: Option<u32>, number: u32) -> bool
-    ensures { result ≡ may_be_named only number }
-{
-    match only {
-        Some(one) => number == one,
-        None => true,
-    }
-}
-
-/// The default that the line names as unsupported.
-#[tactic(auto, unfolding(mcs_proof_lines::specs::Walks::unsupported_of))]
-fn read_unsupported(justs: &[usize], only: Option<u32>, line: &[u8]) -> Option<u32>
-    requires { length justs.now ≤ 10 }
-    ensures value { result ≡ unsupported_of justs.now only line.now }
-    ensures within { IfSome result (IsNumberOf justs.now) }
-{
-    let number = number_after(b"unsupported ", justs.len() as u32, line)?;
-    if may_be(only, number) {
-        Some(number)
-    } else {
-        None
-    }
-}
-
-/// Whether the default has a justification with this number.
-fn is_just(justs: &[usize], number: u64, just: u64) -> bool
-    requires { 0 < number }
-    ensures { result ≡ is_just justs.now number just }
-{
-    match justs.get((number - 1) as usize) {
-        Some(count) => just <= *count as u64 && just < 4_294_967_296,
-        None => false,
-    }
-}
-
-/// The default and its justification, if they may be named.
-fn may_block(justs: &[usize], only: Option<u32>, number: u64, just: u64) -> Option<(u32, u32)>
-    requires few { length justs.now ≤ 10 }
-    requires some { 0 < number }
-    requires some_just { 0 < just }
-    ensures value { result ≡ may_block justs.now only number just }
-    ensures within { IfSome result (IsJustOf justs.now) }
-{
-    if is_just(justs, number, just) && may_be(only, number as u32) {
-        Some((number as u32, just as u32))
-    } else {
-        None
-    }
-}
-
-/// The default that the line names as blocked, with its justification.
-#[tactic(auto, unfolding(mcs_proof_lines::specs::Walks::blocked_of))]
-fn read_blocked(justs: &[usize], only: Option<u32>, line: &[u8]) -> Option<(u32, u32)>
-    requires { length justs.now ≤ 10 }
-    ensures value { result ≡ blocked_of justs.now only line.now }
-    ensures within { IfSome result (IsJustOf justs.now) }
-{
-    let rest = strip(line, b"blocked ")?;
-    let space = find(rest, b' ')?;
-    let number = read_number(&rest[..space])?;
-    let just = read_number(&rest[space + 1..])?;
-    may_block(justs, only, number, just)
-}
-
-/// The default that the next line names as unsupported.
-fn next_unsupported(justs: &[usize], only: Option<u32>, lines: &Lines<'_>) -> Option<u32>
-    requires { length justs.now ≤ 10 }
-    ensures value { result ≡ line_at (unsupported_of justs.now only) lines.now }
-    ensures within { IfSome result (IsNumberOf justs.now) }
-{
-    read_unsupported(justs, only, lines.current()?)
-}
-
-/// The default that the next line names as blocked, with its justification.
-fn next_blocked(justs: &[usize], only: Option<u32>, lines: &Lines<'_>) -> Option<(u32, u32)>
-    requires { length justs.now ≤ 10 }
-    ensures value { result ≡ line_at (blocked_of justs.now only) lines.now }
-    ensures within { IfSome result (IsJustOf justs.now) }
-{
-    read_blocked(justs, only, lines.current()?)
-}
 
 /// The number, if what is said of it is shown.
 fn told_if(shown: bool, number: u32) -> Option<u32>

@@ -11,10 +11,10 @@ ghost use Rattle.mcs_evidence.specs.Defaults.{facts_of, AreGrounded, IsEntailmen
 ghost use Rattle.mcs_evidence.specs.Theories.{IsOverDefault};
 ghost use Rattle.mcs_extensions.specs.Checks.{IsNumberIn, AreNumbersOf};
 ghost use Rattle.mcs_spelling.specs.Words.{numbers_of};
-ghost use Rattle.mcs_proof_lines.specs.Walks.{line_at, many_at, yes_at};
+ghost use Rattle.mcs_proof_lines.specs.Walks.{IsNumberOf, line_at, many_at, yes_at};
 ghost use Rattle.mcs_proof_lines.specs.Verdicts.{order_of};
 ghost use Rattle.mcs_steps.specs.Judging.{Judges, PassesBy};
-ghost use Rattle.mcs_judging.specs.Theories.{theory_of, IsPrepared, IsNumberOf, numbers_in, AreNumbers, IsOrderIn, all_within};
+ghost use Rattle.mcs_judging.specs.Theories.{theory_of, IsPrepared, numbers_in, AreNumbers, IsOrderIn, all_within};
 
 use crate::entailments::{both, judge_yes};
 use crate::theory::{Asked, default_numbered};

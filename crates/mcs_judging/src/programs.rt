@@ -1,6 +1,6 @@
 //! Certificates of programs, judged as they are read: model by model, and the steps of each trace one at a time.
 
-ghost use Rattle.std.specs.Prelude.{◌≡◌, ◌≤◌, ◌++◌, ◌↔◌, List, length, codes, map, IsTrue, IfOk};
+ghost use Rattle.std.specs.Prelude.{◌≡◌, ◌≤◌, ◌++◌, ◌↔◌, List, length, map, IsTrue, IfOk};
 ghost use Rattle.std.specs.List.{AllByRecursion, filter_map};
 ghost use Rattle.mcs_system.specs.Faults.{is_atom};
 ghost use Rattle.mcs_system.specs.Logic.{fact_of};
@@ -9,7 +9,7 @@ ghost use Rattle.mcs_trace.specs.Traces.{Inference};
 ghost use Rattle.mcs_cnf.specs.ClauseLists.{AreOver};
 ghost use Rattle.mcs_evidence.specs.Programs.{AreOverRules, IsInRange, IsModelShown, IsAcceptedModel, IsAcceptedProgram};
 ghost use Rattle.mcs_answer_sets.specs.Models.{AreModelsShown};
-ghost use Rattle.mcs_proof_lines.specs.Walks.{line_at, atoms_of_line, trace_at, many_at};
+ghost use Rattle.mcs_proof_lines.specs.Walks.{trace_at, many_at};
 ghost use Rattle.mcs_proof_lines.specs.Programs.{model_at, smaller_at, rest_at, program_at};
 ghost use Rattle.mcs_steps.specs.Judging.{Judges, PassesBy};
 ghost use Rattle.mcs_judging.specs.Judging.{Tells, AreViewsOf};
@@ -19,8 +19,7 @@ use mcs_answer_sets::{are_ascending, rules_hold, view_of};
 use mcs_base::{Memory, Text, Vars};
 use mcs_entailment::is_in_range;
 use mcs_evidence::{rest_clauses, smaller_clauses};
-use mcs_proof_lines::{Lines, ReportFault, expect, take_atoms};
-use mcs_spelling::{read_set, strip};
+use mcs_proof_lines::{Lines, ReportFault, expect, next_atoms, take_atoms};
 use mcs_steps::{judge_trace, pass_trace};
 use mcs_system::{Formula, Name, ProgRule, names_of, with_heads};
 use mcs_trace::Cnf;
@@ -157,15 +156,6 @@ fn judge_models(
     Ok(Some(views))
 }
 
-/// The set of places in the next line, if that is the line of a smaller set.
-fn next_smaller(texts: &[Text], lines: &Lines<'_>) -> Option<Vars>
-    requires { length texts.now ≤ 64 }
-    ensures { result ≡ line_at (atoms_of_line (codes "smaller ") texts.now) lines.now }
-{
-    let line = lines.current()?;
-    read_set(texts, Vars::numbered(u64::MAX), strip(line, b"smaller ")?)
-}
-
 /// Takes smaller sets, as long as the next line is one.
 #[tactic(auto, unfolding(mcs_proof_lines::specs::Programs::smaller_at))]
 fn take_smaller(alloc: Global, texts: &[Text], lines: &mut Lines<'_>) -> Result<Vec<Vars>, Memory>
@@ -173,8 +163,8 @@ fn take_smaller(alloc: Global, texts: &[Text], lines: &mut Lines<'_>) -> Result<
     ensures { IfOk result (λ sets. smaller_at texts.now lines.old ≡ (sets.items, lines.new)) }
 {
     let mut sets = Vec::new(alloc);
-    while let Some(set) = next_smaller(texts, lines) {
-        sets.push(set)?;
+    while let Some(set) = next_atoms(b"smaller ", texts, lines) {
+        sets.push(Vars::numbered(set))?;
         lines.advance();
     }
     Ok(sets)

@@ -5,7 +5,8 @@ ghost use Rattle.mcs_system.specs.Plain as plain;
 ghost use Rattle.mcs_system.specs.Seen.{default_of, formula_of};
 ghost use Rattle.mcs_cnf.specs.ClauseLists.{with_formulas};
 ghost use Rattle.mcs_evidence.specs.Defaults.{defaults_in, generated};
-ghost use Rattle.mcs_judging.specs.Theories.{theory_of, IsPrepared, IsNumberOf};
+ghost use Rattle.mcs_proof_lines.specs.Walks.{IsNumberOf};
+ghost use Rattle.mcs_judging.specs.Theories.{theory_of, IsPrepared};
 ghost use Rattle.mcs_extensions.specs.Checks.{at_number};
 
 use mcs_base::{Memory, Vars};

@@ -7,11 +7,11 @@ ghost use Rattle.mcs_system.specs.Seen.{default_of, formula_of, item_of};
 ghost use Rattle.mcs_cnf.specs.ClauseLists.{clause_list, AreOver};
 ghost use Rattle.mcs_evidence.specs.Defaults.{AreOverItems, AreDenied, IsAcceptedDefault, defaults_of, facts_of, generated, negated_justs};
 ghost use Rattle.mcs_extensions.specs.Checks.{IsNumberIn};
-ghost use Rattle.mcs_proof_lines.specs.Walks.{line_at, many_at, no_at, number_after};
+ghost use Rattle.mcs_proof_lines.specs.Walks.{IsNumberOf, many_at, no_at};
 ghost use Rattle.mcs_proof_lines.specs.Verdicts.{terms_of, defaults_of_line, extension_at, applied_at, ungrounded_at, or_absence, verdict_at, names_set, set_at, verdicts_at};
 ghost use Rattle.mcs_steps.specs.Judging.{Judges};
 ghost use Rattle.mcs_judging.specs.Judging.{Tells, AreViewsOf};
-ghost use Rattle.mcs_judging.specs.Theories.{theory_of, IsPrepared, IsNumberOf, numbers_in, AreNumbers, complete_at, TellsCompletion, shown_if, TellsVerdict, IsNoted};
+ghost use Rattle.mcs_judging.specs.Theories.{theory_of, IsPrepared, numbers_in, AreNumbers, complete_at, TellsCompletion, shown_if, TellsVerdict, IsNoted};
 ghost use Rattle.mcs_system.specs.Plain as plain;
 
 use crate::absences::{judge_absence, judge_absences};
@@ -24,8 +24,9 @@ use mcs_evidence::defaults_of;
 use mcs_extensions::{
     Judged, chosen, facts_with, is_member, judged_as, judged_by, negations, prerequisites,
 };
-use mcs_proof_lines::{Lines, ReportFault, Theory, number_after, out_of_place};
-use mcs_spelling::{read_set, strip};
+use mcs_proof_lines::{
+    Lines, ReportFault, Theory, names_set, next_applied, next_defaults, out_of_place,
+};
 use mcs_system::{Default, Formula, Name, TheoryItem};
 use mcs_trace::Cnf;
 use std::alloc::Global;
@@ -256,42 +257,6 @@ fn judge_ungrounded(
     Ok(judged_by(is_stuck(part, set, denied)))
 }
 
-/// The set of defaults after the word in the line.
-#[tactic(auto, unfolding(mcs_proof_lines::specs::Verdicts::defaults_of_line))]
-fn read_defaults(word: &[u8], theory: &Theory<'_>, line: &[u8]) -> Option<Vars>
-    requires defaults { length theory.now.justs.now ≤ 10 }
-    requires numbers { length theory.now.numbers.now ≤ 64 }
-    ensures { result ≡ defaults_of_line word.now (terms_of theory.now) line.now }
-{
-    let set = read_set(theory.numbers, theory.places(), strip(line, word)?)?;
-    if set.number() < 4_294_967_296 {
-        Some(set)
-    } else {
-        None
-    }
-}
-
-/// The set of defaults after the word in the next line.
-fn next_defaults(word: &[u8], asked: &Asked<'_>, lines: &Lines<'_>) -> Option<Vars>
-    requires { IsPrepared asked.now }
-    ensures { result ≡ line_at (defaults_of_line word.now (terms_of asked.now.terms.now)) lines.now }
-{
-    read_defaults(word, asked.terms, lines.current()?)
-}
-
-/// The default that the next line names as one that applies.
-fn next_applied(asked: &Asked<'_>, lines: &Lines<'_>) -> Option<u32>
-    requires { IsPrepared asked.now }
-    ensures value { result ≡ line_at (number_after (codes "applied ") (length asked.now.terms.now.justs.now)) lines.now }
-    ensures within { IfSome result (IsNumberOf asked.now.terms.now.justs.now) }
-{
-    number_after(
-        b"applied ",
-        asked.terms.justs.len() as u32,
-        lines.current()?,
-    )
-}
-
 /// Judges the verdict on the set. `known` has the clauses of the facts.
 #[tactic(auto, unfolding(mcs_proof_lines::specs::Verdicts::verdict_at))]
 fn judge_verdict(
@@ -308,11 +273,11 @@ fn judge_verdict(
     ensures exact { Tells (TellsVerdict asked.now.atoms.now (theory_of asked.now) (map (λ f. formula_of f.now) asked.now.beliefs.now) set)
         result lines.new (verdict_at (terms_of asked.now.terms.now) set lines.old) }
 {
-    if let Some(number) = next_applied(asked, lines) {
+    if let Some(number) = next_applied(asked.terms, lines) {
         lines.advance();
         return judge_applied(alloc, known, asked, set, number, lines);
     }
-    if let Some(part) = next_defaults(b"ungrounded ", asked, lines) {
+    if let Some(part) = next_defaults(b"ungrounded ", asked.terms, lines) {
         lines.advance();
         return judge_ungrounded(alloc, asked, set, part, lines);
     }
@@ -321,17 +286,6 @@ fn judge_verdict(
         return judge_extension(alloc, known, asked, set, numbers, lines);
     }
     judge_fails(alloc, known, asked, set, lines)
-}
-
-/// Whether the next line names the set.
-fn names_set(asked: &Asked<'_>, set: Vars, lines: &Lines<'_>) -> bool
-    requires { IsPrepared asked.now }
-    ensures { result ≡ names_set (terms_of asked.now.terms.now) set lines.now }
-{
-    match next_defaults(b"set ", asked, lines) {
-        Some(named) => set == named,
-        None => false,
-    }
 }
 
 /// Reads the line of the set, and judges the verdict on it. `known` has the clauses of the facts.
@@ -350,7 +304,7 @@ fn judge_set(
     ensures exact { Tells (TellsVerdict asked.now.atoms.now (theory_of asked.now) (map (λ f. formula_of f.now) asked.now.beliefs.now) set)
         result lines.new (set_at (terms_of asked.now.terms.now) set lines.old) }
 {
-    if !names_set(asked, set, lines) {
+    if !names_set(asked.terms, set, lines) {
         return Err(out_of_place(lines));
     }
     lines.advance();

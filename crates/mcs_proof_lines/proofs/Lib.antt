@@ -1,6 +1,7 @@
 pub mod LineLemmas
 pub mod WalkLemmas
 pub mod VerdictLemmas
+pub mod Justs
 pub mod ProgramLemmas
 pub mod Readings
 pub mod ReadingSequences

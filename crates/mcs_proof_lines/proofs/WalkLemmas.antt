@@ -47,16 +47,16 @@ pub pushed_front : {A : Type 0} (front : List A) (x : A) (r : Reading (List A)) 
 pushed_front {A = A} front x (Ok r) = ap (λ (xs : List A). Ok (xs, r.1)) (append_assoc front (x ∷ []) r.0)
 pushed_front front x (Err k) = refl
 
-module _ {A : Type 0} (p : At → Reading A) where
-  more_of : (front : List A) (x : A) (r : Reading (List A)) → after_front (front ++ x ∷ []) r ≡ after_front front (r >>= λ others. Ok (x ∷ others.0, others.1))
-  more_of front x (Ok r) = ap (λ (xs : List A). Ok (xs, r.1)) (append_assoc front (x ∷ []) r.0)
-  more_of front x (Err k) = refl
+pub front_none : {A : Type 0} (r : Reading (List A)) → after_front [] r ≡ r
+front_none (Ok r) = refl
+front_none (Err k) = refl
 
+module _ {A : Type 0} (p : At → Reading A) where
   pub many_ok : (front : List A) (n : ℕ) (at : At) (x : A) (now : At) → 0 < n → p at ≡ Ok (x, now) → after_front (front ++ x ∷ []) (many_at p (n - 1) now) ≡ after_front front (many_at p n at)
   many_ok front zero at x now h e = absurd (omega arith)
   many_ok front (suc n) at x now h e =
       let less : suc n - 1 ≡ n = omega arith in
-      rw less (more_of front x (many_at p n now) ∙ ap (λ (r : Reading A). after_front front (r >>= λ first. many_at p n first.1 >>= λ others. Ok (first.0 ∷ others.0, others.1))) (sym e))
+      rw less (pushed_front front x (many_at p n now) ∙ ap (λ (r : Reading A). after_front front (r >>= λ first. many_at p n first.1 >>= λ others. Ok (first.0 ∷ others.0, others.1))) (sym e))
 
   pub many_err : (front : List A) (n : ℕ) (at : At) (k : ℕ) → 0 < n → p at ≡ Err k → after_front front (many_at p n at) ≡ Err k
   many_err front zero at k h e = absurd (omega arith)

@@ -1,5 +1,5 @@
 -- How the lines of an answer are read one after the other, as functions by which the code is told.
-use Rattle.std.specs.Prelude.{◌≡◌, ℕ, zero, suc, ◌+◌, ◌-◌, ◌^◌, nat_eq, nat_lt, nat_le, Bool, true, false, ◌&&◌, cond, List, [], ◌∷◌, ◌++◌, length, take, drop, codes, Option, Some, None, Result, Ok, Err, slice_get}
+use Rattle.std.specs.Prelude.{◌≡◌, ◌≤◌, ◌<◌, ℕ, zero, suc, ◌+◌, ◌-◌, ◌^◌, nat_eq, nat_lt, nat_le, Bool, true, false, ◌&&◌, cond, List, [], ◌∷◌, ◌++◌, length, take, drop, codes, Option, Some, None, Result, Ok, Err, slice_get, slice_index}
 use Rattle.std.specs.Option.{option_and_then, option_map_or}
 use Rattle.std.specs.Str.{bytes_eq}
 use Rattle.mcs_trace.specs.Traces.{Inference}
@@ -128,6 +128,15 @@ abbrev pub after_front : {A : Type 0} → List A → Reading (List A) → Readin
 after_front front read = read >>= λ r. Ok (front ++ r.0, r.1)
 
 -- ---- what is said of defaults, where the atoms have these texts, and the defaults these numbers of justifications
+-- the number of a default, and that of one of its justifications; both are counted from 1
+abbrev pub IsNumberOf : List ℕ → ℕ → Type 0
+IsNumberOf justs n = (0 < n) × (n ≤ length justs)
+
+pub record IsJustOf (justs : List ℕ) (b : ℕ × ℕ) : Type 0 where
+  pub number : IsNumberOf justs b.0
+  pub some : 0 < b.1
+  pub enough : b.1 ≤ slice_index justs (b.0 - 1)
+
 -- a number after a word, at most this
 abbrev pub at_most : ℕ → ℕ → Option ℕ
 at_most most n = guarded (nat_le n most) n

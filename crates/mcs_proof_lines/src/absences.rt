@@ -3,7 +3,7 @@
 ghost use Rattle.std.specs.Prelude.{◌≡◌, ◌≤◌, ◌<◌, length, map, IfSome};
 ghost use Rattle.std.specs.List.{AllByRecursion};
 ghost use Rattle.mcs_evidence.specs.Defaults.{absence_of};
-ghost use Rattle.mcs_proof_lines.specs.Walks.{Gives, may_be_named, may_block, is_just, number_after, unsupported_of, blocked_of, absence_at, absence_of_place, each_at, line_at};
+ghost use Rattle.mcs_proof_lines.specs.Walks.{Gives, IsNumberOf, IsJustOf, may_be_named, may_block, is_just, number_after, unsupported_of, blocked_of, absence_at, absence_of_place, each_at, line_at};
 
 use crate::evidence::{out_of_place, take_no, take_yes};
 use crate::fault::ReportFault;
@@ -17,7 +17,7 @@ use std::alloc::Global;
 #[tactic(auto, unfolding(crate::specs::Walks::number_after))]
 pub fn number_after(word: &[u8], most: u32, line: &[u8]) -> Option<u32>
     ensures value { result ≡ number_after word.now most line.now }
-    ensures some { IfSome result (λ n. 0 < n) }
+    ensures within { IfSome result (λ n. (0 < n) × (n ≤ most)) }
 {
     let number = read_number(strip(line, word)?)?;
     if number <= u64::from(most) {
@@ -41,7 +41,8 @@ fn may_be(only: Option<u32>, number: u32) -> bool
 #[tactic(auto, unfolding(crate::specs::Walks::unsupported_of))]
 fn read_unsupported(justs: &[usize], only: Option<u32>, line: &[u8]) -> Option<u32>
     requires { length justs.now ≤ 10 }
-    ensures { result ≡ unsupported_of justs.now only line.now }
+    ensures value { result ≡ unsupported_of justs.now only line.now }
+    ensures within { IfSome result (IsNumberOf justs.now) }
 {
     let number = number_after(b"unsupported ", justs.len() as u32, line)?;
     if may_be(only, number) {
@@ -66,7 +67,9 @@ fn is_just(justs: &[usize], number: u64, just: u64) -> bool
 fn may_block(justs: &[usize], only: Option<u32>, number: u64, just: u64) -> Option<(u32, u32)>
     requires few { length justs.now ≤ 10 }
     requires some { 0 < number }
-    ensures { result ≡ may_block justs.now only number just }
+    requires some_just { 0 < just }
+    ensures value { result ≡ may_block justs.now only number just }
+    ensures within { IfSome result (IsJustOf justs.now) }
 {
     if is_just(justs, number, just) && may_be(only, number as u32) {
         Some((number as u32, just as u32))
@@ -79,7 +82,8 @@ fn may_block(justs: &[usize], only: Option<u32>, number: u64, just: u64) -> Opti
 #[tactic(auto, unfolding(crate::specs::Walks::blocked_of))]
 fn read_blocked(justs: &[usize], only: Option<u32>, line: &[u8]) -> Option<(u32, u32)>
     requires { length justs.now ≤ 10 }
-    ensures { result ≡ blocked_of justs.now only line.now }
+    ensures value { result ≡ blocked_of justs.now only line.now }
+    ensures within { IfSome result (IsJustOf justs.now) }
 {
     let rest = strip(line, b"blocked ")?;
     let space = find(rest, b' ')?;
@@ -88,18 +92,22 @@ fn read_blocked(justs: &[usize], only: Option<u32>, line: &[u8]) -> Option<(u32,
     may_block(justs, only, number, just)
 }
 
-/// The default that the next line names as unsupported.
-fn next_unsupported(justs: &[usize], only: Option<u32>, lines: &Lines<'_>) -> Option<u32>
+/// The number of the default that the next line names as unsupported, counted from 1. `justs` are the numbers of
+/// justifications of each default; if `only` is given, no other default may be named.
+pub fn next_unsupported(justs: &[usize], only: Option<u32>, lines: &Lines<'_>) -> Option<u32>
     requires { length justs.now ≤ 10 }
-    ensures { result ≡ line_at (unsupported_of justs.now only) lines.now }
+    ensures value { result ≡ line_at (unsupported_of justs.now only) lines.now }
+    ensures within { IfSome result (IsNumberOf justs.now) }
 {
     read_unsupported(justs, only, lines.current()?)
 }
 
-/// The default that the next line names as blocked, with its justification.
-fn next_blocked(justs: &[usize], only: Option<u32>, lines: &Lines<'_>) -> Option<(u32, u32)>
+/// The number of the default that the next line names as blocked, and that of its justification, both counted from 1.
+/// `justs` are the numbers of justifications of each default; if `only` is given, no other default may be named.
+pub fn next_blocked(justs: &[usize], only: Option<u32>, lines: &Lines<'_>) -> Option<(u32, u32)>
     requires { length justs.now ≤ 10 }
-    ensures { result ≡ line_at (blocked_of justs.now only) lines.now }
+    ensures value { result ≡ line_at (blocked_of justs.now only) lines.now }
+    ensures within { IfSome result (IsJustOf justs.now) }
 {
     read_blocked(justs, only, lines.current()?)
 }

@@ -3,7 +3,7 @@
 ghost use Rattle.std.specs.Prelude.{◌≡◌, ◌≤◌, ◌<◌, ◌^◌, [], length, map, codes, IfOk, IfSome};
 ghost use Rattle.std.specs.Option.{option_map};
 ghost use Rattle.mcs_evidence.specs.Defaults.{verdict_of};
-ghost use Rattle.mcs_proof_lines.specs.Walks.{Gives, line_at, number_after};
+ghost use Rattle.mcs_proof_lines.specs.Walks.{Gives, IsNumberOf, line_at, number_after};
 ghost use Rattle.mcs_proof_lines.specs.Verdicts.{within_from, order_of, terms_of, defaults_of_line, extension_at, applied_at, ungrounded_at, verdict_at, names_set, set_at, verdicts_at};
 
 use crate::absences::{number_after, take_absence, take_absences};
@@ -33,7 +33,7 @@ fn read_defaults(word: &[u8], theory: &Theory<'_>, line: &[u8]) -> Option<Vars>
 }
 
 /// The set of defaults after the word in the next line.
-fn next_defaults(word: &[u8], theory: &Theory<'_>, lines: &Lines<'_>) -> Option<Vars>
+pub fn next_defaults(word: &[u8], theory: &Theory<'_>, lines: &Lines<'_>) -> Option<Vars>
     requires defaults { length theory.now.justs.now ≤ 10 }
     requires numbers { length theory.now.numbers.now ≤ 64 }
     ensures value { result ≡ line_at (defaults_of_line word.now (terms_of theory.now)) lines.now }
@@ -164,11 +164,11 @@ fn take_ungrounded(
     })
 }
 
-/// The default that the next line names as one that applies.
-fn next_applied(theory: &Theory<'_>, lines: &Lines<'_>) -> Option<u32>
+/// The number of the default that the next line names as one that applies, counted from 1.
+pub fn next_applied(theory: &Theory<'_>, lines: &Lines<'_>) -> Option<u32>
     requires { length theory.now.justs.now ≤ 10 }
     ensures value { result ≡ line_at (number_after (codes "applied ") (length theory.now.justs.now)) lines.now }
-    ensures some { IfSome result (λ n. 0 < n) }
+    ensures within { IfSome result (IsNumberOf theory.now.justs.now) }
 {
     number_after(b"applied ", theory.justs.len() as u32, lines.current()?)
 }
@@ -205,7 +205,7 @@ fn take_verdict(
 }
 
 /// Whether the next line names the set.
-fn names_set(theory: &Theory<'_>, set: Vars, lines: &Lines<'_>) -> bool
+pub fn names_set(theory: &Theory<'_>, set: Vars, lines: &Lines<'_>) -> bool
     requires defaults { length theory.now.justs.now ≤ 10 }
     requires numbers { length theory.now.numbers.now ≤ 64 }
     ensures { result ≡ names_set (terms_of theory.now) set lines.now }

@@ -2,7 +2,6 @@
 use Rattle.std.proofs.Common.{◌≡◌, ℕ, ◌-◌, ◌<◌, ◌≤◌, ◌^◌, zero, suc, Bool, true, false, cond, ◌&&◌, nat_le, nat_lt, is_some, List, ◌++◌, map, length, codes, slice_get, Option, Some, None, Ok, Err, refl, sym, ap, ◌∙◌, subst, arith, inl, inr, true≢false}
 use Rattle.std.proofs.lemmas.Bool.{and_parts}
 use Rattle.std.proofs.lemmas.Bool.Decides.{nat_tests}
-use Rattle.std.proofs.lemmas.List.{length-map}
 use Rattle.std.proofs.lemmas.Option.{cond_some, slice_get-map, slice_get_within}
 use Rattle.std.specs.Fmt.{decimal}
 use Rattle.std.specs.Option.{option_map, option_map_or}
@@ -19,15 +18,13 @@ use Rattle.mcs_proof_lines.specs.Readings.{Stops, Anything, ReadsLines, ReadsLin
 use Rattle.mcs_proof_lines.proofs.Readings.{picked, reads_line, reads_same}
 use Rattle.mcs_proof_lines.proofs.ReadingSequences.{both, paired, reads_made, reads_both, chosen_at, reads_chosen}
 use Rattle.mcs_proof_lines.proofs.WordReadings.{after_line}
+use Rattle.mcs_proof_lines.proofs.Justs.{justs_in, counted}
 use Rattle.mcs_proof_lines.proofs.NumberReadings.{guarded_line, number_after_line, two_spelled, two_read}
 use Rattle.mcs_proof_reader.proofs.EvidenceReadings.{told, reads_no, reads_yes, some_no, some_yes}
 
 -- ---- numbers of defaults and justifications
-abbrev pub justs_in : Default → ℕ
-justs_in d = length d.justs
-
 pub counted_justs : (items : List Item) (justs : List ℕ) → justs ≡ map justs_in (defaults_of items) → length justs ≡ length (defaults_of items)
-counted_justs items justs are = ap length are ∙ length-map (defaults_of items) justs_in
+counted_justs items justs are = counted (defaults_of items) justs are
 
 pub numbered : (items : List Item) (n : ℕ) → 0 < n → numbered_default items n ≡ slice_get (defaults_of items) (n - 1)
 numbered items zero some = absurd (omega (arith, some))

@@ -34,7 +34,8 @@ use Rattle.mcs_proof_lines.proofs.WordReadings.{word_line}
 use Rattle.mcs_proof_reader.specs.Questions.{state_after, comes_after, next_question, state_in_words}
 use Rattle.mcs_proof_reader.specs.Answers.{Shown, terms_for, states_there, classical_at, default_at, models_at, shown_at, shown_of, answer_at, question_in}
 use Rattle.mcs_proof_reader.proofs.EvidenceReadings.{told, reads_either, either_begins, reads_several, some_either}
-use Rattle.mcs_proof_reader.proofs.AbsenceReadings.{justs_in, made_paired}
+use Rattle.mcs_proof_lines.proofs.Justs.{justs_in}
+use Rattle.mcs_proof_reader.proofs.AbsenceReadings.{made_paired}
 use Rattle.mcs_proof_reader.proofs.VerdictReadings.{reads_verdicts, some_verdicts, some_many}
 use Rattle.mcs_proof_reader.proofs.ProgramReadings.{IsProgramOf, reads_program, some_program}
 use Rattle.mcs_proof_reader.proofs.QuestionReadings.{IsQuestion, text_of_question, next_line, state_line}

@@ -8,7 +8,7 @@ use Rattle.mcs_proof_text.specs.Answers.{Answer}
 use Rattle.mcs_proof_lines.specs.declared.fault.ReportFault.{ReportFault}
 use Rattle.mcs_proof_lines.specs.declared.fault.ReportFault.TheVariants as faults
 use Rattle.mcs_proof_lines.specs.Walks.{At, Reading, ◌>>=◌, ReturnsReading, head_line, next_line, advanced, advanced_by, line_at, fault_at, is_next, after_front}
-use Rattle.mcs_proof_lines.proofs.WalkLemmas.{pushed_front}
+use Rattle.mcs_proof_lines.proofs.WalkLemmas.{pushed_front, front_none}
 use Rattle.mcs_proof_reader.specs.Questions.{with_state, states_from, states_at, state_in_words}
 use Rattle.mcs_proof_reader.specs.Answers.{answer_at, answers_at, question_in}
 use Rattle.mcs_proof_reader.specs.Listings.{ends_listing, listing_from, listing_at}
@@ -136,10 +136,6 @@ module _ (m : System) where
       → ReturnsReading fault (answer_at m last at) → after_front old (answers_at m n last at) ≡ goal → ReturnsReading fault goal
   answers_failed old n last at faults.Memory goal test few e known = tt
   answers_failed old n last at (faults.Grammar k) goal test few e known = failed old n k last at goal test few e known
-
-  front_none : (r : Reading (List Answer)) → after_front [] r ≡ r
-  front_none (Ok r) = refl
-  front_none (Err k) = refl
 
   -- none so far
   pub answers_begin : (n : ℕ) (at : At) → after_front [] (answers_at m (n - 0) None at) ≡ answers_at m n None at

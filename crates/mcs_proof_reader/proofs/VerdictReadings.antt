@@ -2,20 +2,20 @@
 use Rattle.std.proofs.Common.{◌≡◌, ℕ, ◌+◌, ◌-◌, ◌<◌, ◌≤◌, ◌^◌, zero, suc, Bool, true, false, cond, not, nat_le, nat_lt, nat_eq, ltb, is_some, List, [], ◌∷◌, ◌++◌, map, length, codes, slice_get, slice_index, Option, Some, None, Ok, Err, refl, sym, ap, ◌∙◌, subst, arith, inl, inr, append_assoc}
 use Rattle.std.proofs.lemmas.Bool.{and_parts}
 use Rattle.std.proofs.lemmas.Bool.Decides.{nat_tests}
-use Rattle.std.proofs.lemmas.List.{length-map, map-append, length-append}
-use Rattle.std.proofs.lemmas.Option.{cond_some, same_Some, slice_get-map, slice_get_within, get_or_from_slice_get}
+use Rattle.std.proofs.lemmas.List.{map-append}
+use Rattle.std.proofs.lemmas.Option.{cond_some, same_Some, slice_get_within}
 use Rattle.std.specs.Fmt.{decimal}
 use Rattle.std.specs.List.{AllByRecursion, AllZip, flat_map, range_with_len}
-use Rattle.std.specs.Option.{option_and_then, option_map, option_map_or}
-use Rattle.mcs_sets.specs.Sets.{has, members, members_from, minus, size, Within}
-use Rattle.mcs_sets.proofs.SetLemmas.{has-minus, has-such_that, members-width, members_below, same_set}
+use Rattle.std.specs.Option.{option_and_then, option_map_or}
+use Rattle.mcs_sets.specs.Sets.{has, members, minus, size, Within}
+use Rattle.mcs_sets.proofs.SetLemmas.{has-minus, has-such_that, members_below, same_set}
 use Rattle.mcs_sets.proofs.Lattice.{below_from_members}
 use Rattle.mcs_base.proofs.ListingLemmas.{members_all_below}
 use Rattle.mcs_base.proofs.Lists.{slice_get_below}
 use Rattle.mcs_base.proofs.Each.{all_weaker, all_from_among}
-use Rattle.mcs_system.specs.Plain.{Name, Default, Item, Not}
+use Rattle.mcs_system.specs.Plain.{Name, Default, Item}
 use Rattle.mcs_cnf.specs.Entailments.{Entailment}
-use Rattle.mcs_evidence.specs.Defaults.{Absence, Unsupported, Blocked, Verdict, Fails, Applied, Ungrounded, Extension, defaults_of, numbered_default, all_defaults, negated_justs, defaults_at}
+use Rattle.mcs_evidence.specs.Defaults.{Absence, Unsupported, Blocked, Verdict, Fails, Applied, Ungrounded, Extension, defaults_of, numbered_default, all_defaults}
 use Rattle.mcs_spelling.specs.Parts.{AreTellable, defaults_text, spaced}
 use Rattle.mcs_spelling.specs.Words.{after_prefix, step_of, guarded}
 use Rattle.mcs_spelling.proofs.NumberTexts.{bound}
@@ -29,8 +29,9 @@ use Rattle.mcs_proof_lines.proofs.Readings.{picked, reads_line, reads_same}
 use Rattle.mcs_proof_lines.proofs.ReadingSequences.{both, paired, reads_made, reads_both, both_stop, chosen_at, reads_chosen}
 use Rattle.mcs_proof_lines.proofs.ReadingLists.{read_onto, each_stop, reads_each}
 use Rattle.mcs_proof_lines.proofs.NumberReadings.{number_after_line}
+use Rattle.mcs_proof_lines.proofs.Justs.{justs_in, just_at, total_justs}
 use Rattle.mcs_proof_reader.proofs.EvidenceReadings.{told, told_all, reads_no, reads_yes, reads_either, some_no, some_yes, some_either, yes_begins, no_begins, either_begins, reads_several}
-use Rattle.mcs_proof_reader.proofs.AbsenceReadings.{justs_in, numbered, made_paired, IsAbsenceFor, reads_absence, absence_begins, counted_justs}
+use Rattle.mcs_proof_reader.proofs.AbsenceReadings.{numbered, made_paired, IsAbsenceFor, reads_absence, absence_begins, counted_justs}
 use Rattle.mcs_proof_reader.specs.Questions.{ten}
 use Rattle.mcs_proof_reader.proofs.DefaultLines.{set_below, set_within, in_all, all_in, outside_all, defaults_line, order_line}
 use Rattle.mcs_base.proofs.Among.{range_among}
@@ -47,29 +48,10 @@ pub some_many : (Is : Entailment → Type 0) → (e : Entailment) × Is e → (n
 some_many Is some zero = ([], record { many = refl; each = tt })
 some_many Is some (suc n) = let (es, are) = some_many Is some n in (some.0 ∷ es, record { many = (let e = are.many in omega (arith, e)); each = (some.1, are.each) })
 
--- ---- justifications of the defaults of a set
-total_is : (all : List ℕ) (set k : ℕ) (ds : List Default) → ((j : ℕ) (d : Default) → slice_get ds j ≡ Some d → slice_index all (k + j) ≡ length d.justs) → just_total all (members_from k (length ds) set) ≡ length (negated_justs (defaults_at k ds set))
-unfolding members_from
-total_is all set k [] known = refl
-total_is all set k (d ∷ ds) known =
-    at (has set k) (total_is all set (k + 1) ds (λ j e is. (let next : k + 1 + j ≡ k + suc j = omega arith in ap (slice_index all) next ∙ known (suc j) e is))) (let here : k ≡ k + 0 = omega arith in ap (slice_index all) here ∙ known 0 d refl)
-  where
-    at : (b : Bool) → just_total all (members_from (k + 1) (length ds) set) ≡ length (negated_justs (defaults_at (k + 1) ds set)) → slice_index all k ≡ length d.justs
-        → just_total all (cond b (k ∷ members_from (k + 1) (length ds) set) (members_from (k + 1) (length ds) set)) ≡ length (negated_justs (cond b (d ∷ defaults_at (k + 1) ds set) (defaults_at (k + 1) ds set)))
-    at true rest first =
-        let long : length (map Not d.justs) ≡ length d.justs = length-map d.justs Not in
-        let joined : length (map Not d.justs ++ negated_justs (defaults_at (k + 1) ds set)) ≡ length (map Not d.justs) + length (negated_justs (defaults_at (k + 1) ds set)) = length-append (map Not d.justs) (negated_justs (defaults_at (k + 1) ds set)) in
-        omega (arith, rest, first, long, joined)
-    at false rest first = rest
-
--- ---- the sets from number k on
 -- ---- where the atoms have these names, and the defaults these numbers of justifications
 module _ (names : List Name) (few : length names ≤ 64) (tells : AreTellable names) (items : List Item) (justs : List ℕ) (justs_are : justs ≡ map justs_in (defaults_of items)) (few_defaults : length justs ≤ 10) (beliefs : ℕ) where
   abbrev terms : Terms
   terms = record { atoms = names; numbers = ten; justs = justs; beliefs = beliefs }
-
-  just_at : (k : ℕ) (d : Default) → slice_get (defaults_of items) k ≡ Some d → slice_index justs k ≡ length d.justs
-  just_at k d e = ap (λ (js : List ℕ). slice_index js k) justs_are ∙ get_or_from_slice_get (map justs_in (defaults_of items)) k (length d.justs) 0 (slice_get-map justs_in (defaults_of items) k ∙ ap (option_map justs_in) e)
 
   abbrev no_lines : List Entailment → List (List ℕ)
   no_lines = told names all_entailment_lines
@@ -423,7 +405,7 @@ module _ (names : List Name) (few : length names ≤ 64) (tells : AreTellable na
         let c = counted_justs items justs justs_are in
         let most : n ≤ length justs = grind (arith, nat_tests) in
         let (d, there) = slice_get_below (defaults_of items) (n - 1) (omega (arith, some, most, c)) in
-        record { default = d; is_it = numbered items n some ∙ there; supported = follows; allowed = subst (λ (m : ℕ). AreMany (IsNo names) m js) (just_at (n - 1) d there) are }
+        record { default = d; is_it = numbered items n some ∙ there; supported = follows; allowed = subst (λ (m : ℕ). AreMany (IsNo names) m js) (just_at (defaults_of items) justs justs_are (n - 1) d there) are }
 
     from_applied : (n : ℕ) (pre : Entailment) (js : List Entailment) → IsAppliedShape names items n pre js → IsAtMost (length justs) n × (IsYes pre × AreMany (IsNo names) (slice_index justs (n - 1)) js)
     from_applied n pre js h =
@@ -433,7 +415,7 @@ module _ (names : List Name) (few : length names ≤ 64) (tells : AreTellable na
         let c = counted_justs items justs justs_are in
         let most : n ≤ length justs = omega (arith, some, within, c) in
         let test : nat_le n (length justs) ≡ true = grind (arith, nat_tests) in
-        ((((some, omega (arith, most, few_defaults)), test)), (h.supported, subst (λ (m : ℕ). AreMany (IsNo names) m js) (sym (just_at (n - 1) h.default there)) h.allowed))
+        ((((some, omega (arith, most, few_defaults)), test)), (h.supported, subst (λ (m : ℕ). AreMany (IsNo names) m js) (sym (just_at (defaults_of items) justs justs_are (n - 1) h.default there)) h.allowed))
       where
         from_some : (n : ℕ) (d : Default) → numbered_default items n ≡ Some d → 0 < n
         from_some zero d e = absurd (cc)
@@ -461,8 +443,7 @@ module _ (names : List Name) (few : length names ≤ 64) (tells : AreTellable na
       total_same =
           let c = counted_justs items justs justs_are in
           let small : set < 2 ^ length (defaults_of items) = below_from_members (length (defaults_of items)) set (λ k member. (let b = set_below items justs (counted_justs items justs justs_are) few_defaults set within k member in omega (arith, b, c))) in
-          ap (just_total justs) (members-width set (length (defaults_of items)) small)
-          ∙ total_is justs set 0 (defaults_of items) (λ j d e. (let here : 0 + j ≡ j = omega arith in ap (slice_index justs) here ∙ just_at j d e))
+          sym (total_justs (defaults_of items) justs justs_are set (subst (λ (n : ℕ). set < 2 ^ n) (sym c) small))
 
       to_number : (n : ℕ) → IsAtMost (length justs) n → IsDefaultNumber items n
       to_number n (small, low) = let c = counted_justs items justs justs_are in let most : n ≤ length justs = grind (arith, nat_tests) in (small.0, omega (arith, most, c))

@@ -47,7 +47,7 @@ module _ (known : List (List ℤ)) (c : List ℤ) (n : ℕ) (ns : List ℕ) (las
   )
 
 -- what is left of numbers after their first one
-with_front_some : (n : ℕ) (o : Option (List ℕ)) (ns : List ℕ) → with_front n o ≡ Some ns → (rest : List ℕ) × (o ≡ Some rest) × (ns ≡ n ∷ rest)
+pub with_front_some : (n : ℕ) (o : Option (List ℕ)) (ns : List ℕ) → with_front n o ≡ Some ns → (rest : List ℕ) × (o ≡ Some rest) × (ns ≡ n ∷ rest)
 with_front_some n None ns e = absurd (cc)
 with_front_some n (Some rest) ns e = (rest, refl, (let same : n ∷ rest ≡ ns = cc in sym same))
 

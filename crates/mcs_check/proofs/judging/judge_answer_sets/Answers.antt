@@ -20,7 +20,7 @@ use Rattle.mcs_asking.proofs.CoverLemmas.{own_over, heads_over, beliefs_over, fe
 use Rattle.mcs_asking.proofs.KindLemmas.{beliefs_of_kind}
 use Rattle.mcs_proof_lines.specs.Programs.{program_at}
 use Rattle.mcs_judging.specs.Judging.{IsTold, AreViewsOf}
-use Rattle.mcs_judging.proofs.Readings.{judged_err}
+use Rattle.mcs_steps.proofs.Judged.{judged_err}
 use Rattle.mcs_check.proofs.JudgedAnswers.{IsShownBy, refused_views, judged_views}
 use Rattle.mcs_check.proofs.JudgedPrograms.{same_program}
 use Rattle.mcs_check.proofs.judging.judge_answer_sets.Goals as goal

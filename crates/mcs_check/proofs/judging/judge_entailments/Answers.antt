@@ -11,7 +11,7 @@ use Rattle.mcs_system.proofs.ValidLemmas.{few_variables}
 use Rattle.mcs_asking.specs.Certificates.{OfFormulas}
 use Rattle.mcs_asking.specs.Kinds.{IsOverKb}
 use Rattle.mcs_asking.proofs.CoverLemmas.{own_over, heads_over, beliefs_over, few_beliefs}
-use Rattle.mcs_judging.proofs.Readings.{judged_err}
+use Rattle.mcs_steps.proofs.Judged.{judged_err}
 use Rattle.mcs_check.proofs.JudgedAnswers.{refused_views, judged_views, fault_there, told_there}
 use Rattle.mcs_check.proofs.judging.judge_entailments.Goals as goal
 

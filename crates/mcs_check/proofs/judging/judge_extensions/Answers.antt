@@ -16,7 +16,7 @@ use Rattle.mcs_asking.proofs.CoverLemmas.{own_over, heads_over, beliefs_over, fe
 use Rattle.mcs_asking.proofs.KindLemmas.{defaults_counted}
 use Rattle.mcs_proof_lines.specs.Verdicts.{Terms}
 use Rattle.mcs_proof_reader.specs.Questions.{ten}
-use Rattle.mcs_judging.proofs.Readings.{judged_err}
+use Rattle.mcs_steps.proofs.Judged.{judged_err}
 use Rattle.mcs_check.proofs.JudgedAnswers.{refused_views, judged_views}
 use Rattle.mcs_check.proofs.JudgedTheories.{verdicts_fault, verdicts_there}
 use Rattle.mcs_check.proofs.judging.judge_extensions.Goals as goal

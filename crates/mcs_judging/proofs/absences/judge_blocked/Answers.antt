@@ -9,7 +9,8 @@ use Rattle.mcs_extensions.proofs.OrderLemmas.{numbered_read}
 use Rattle.mcs_extensions.proofs.VerdictLemmas.{numbered_over, numbered_formula_over}
 use Rattle.mcs_judging.specs.Theories.{theory_of}
 use Rattle.mcs_judging.proofs.AbsenceLemmas.{tells_blocked}
-use Rattle.mcs_judging.proofs.Places.{justs_in, own_justs}
+use Rattle.mcs_proof_lines.proofs.Justs.{justs_in}
+use Rattle.mcs_judging.proofs.Places.{own_justs}
 use Rattle.mcs_judging.proofs.Readings.{told_err}
 use Rattle.mcs_judging.proofs.absences.judge_blocked.Goals as goal
 

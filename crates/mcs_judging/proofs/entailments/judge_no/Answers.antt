@@ -4,7 +4,7 @@ use Rattle.mcs_base.proofs.Booleans.{false_tells, true_tells}
 use Rattle.mcs_system.specs.Seen.{formula_of}
 use Rattle.mcs_cnf.specs.Entailments.{entailment_of}
 use Rattle.mcs_cnf.proofs.ModelLemmas.{model-kept}
-use Rattle.mcs_judging.proofs.Readings.{judged_err}
+use Rattle.mcs_steps.proofs.Judged.{judged_err}
 use Rattle.mcs_judging.proofs.entailments.judge_no.Goals as goal
 
 pub returns-in_err-entail-clause-exact : goal.returns-in_err-entail-clause-exact

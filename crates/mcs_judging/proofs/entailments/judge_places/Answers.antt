@@ -6,7 +6,8 @@ use Rattle.mcs_system.specs.Seen.{formula_of}
 use Rattle.mcs_cnf.specs.ClauseLists.{IsOver}
 use Rattle.mcs_proof_lines.specs.Walks.{entailment_at}
 use Rattle.mcs_cnf.specs.Entailments.{IsAcceptedEntailment}
-use Rattle.mcs_judging.proofs.SoFar.{was_true, was_false, none_told, one_told, judging_failed, places_told, places_refused}
+use Rattle.std.proofs.lemmas.Bool.{not-true, not-false}
+use Rattle.mcs_judging.proofs.SoFar.{none_told, one_told, judging_failed, places_told, places_refused}
 use Rattle.mcs_judging.proofs.entailments.judge_places.Goals as goal
 
 pub loop-index-init : goal.loop-index-init
@@ -42,9 +43,9 @@ returns-in-Err-clause-exact c =
 pub returns-then-not-told-clause-exact : goal.returns-then-not-told-clause-exact
 returns-then-not-told-clause-exact c =
     places_refused c.args.atoms.now (map (λ f. formula_of f.now) c.args.premises.now) (entailment_at c.args.texts.now) (λ f. formula_of f.now) c.args.beliefs.now c.args.lines.now c.loop-index.lines c.loop-index.index c.loop-index.told c.loop-index.invariant.told
-    c.loop-index-test.false (was_false c.loop-index.told.are_right c.if-not-told.true)
+    c.loop-index-test.false (not-true c.loop-index.told.are_right c.if-not-told.true)
 
 pub returns-clause-exact : goal.returns-clause-exact
 returns-clause-exact c =
     places_told c.args.atoms.now (map (λ f. formula_of f.now) c.args.premises.now) (entailment_at c.args.texts.now) (λ f. formula_of f.now) c.args.beliefs.now c.args.lines.now c.loop-index.lines c.loop-index.index c.loop-index.told c.loop-index.invariant.told
-    c.loop-index-test.false (was_true c.loop-index.told.are_right c.if-not-told.false)
+    c.loop-index-test.false (not-false c.loop-index.told.are_right c.if-not-told.false)

@@ -1,5 +1,6 @@
 use Rattle.mcs_system.specs.Seen.{formula_of}
-use Rattle.mcs_judging.proofs.Readings.{judged_err, yes_failed, yes_judged}
+use Rattle.mcs_steps.proofs.Judged.{judged_err}
+use Rattle.mcs_judging.proofs.Readings.{yes_failed, yes_judged}
 use Rattle.mcs_judging.proofs.entailments.judge_yes.Goals as goal
 
 pub returns-in_err-expect-clause-exact : goal.returns-in_err-expect-clause-exact

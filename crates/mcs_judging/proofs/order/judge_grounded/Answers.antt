@@ -3,11 +3,10 @@ use Rattle.std.proofs.lemmas.Bool.{iff_false}
 use Rattle.mcs_cnf.proofs.GrowingLemmas.{cut_fewer, cut_within, cut_back}
 use Rattle.mcs_evidence.specs.Defaults.{facts_of, AreGrounded}
 use Rattle.mcs_extensions.specs.Checks.{AreNumbersOf}
+use Rattle.mcs_steps.proofs.Judged.{judged_err, passed_wrong}
 use Rattle.mcs_judging.specs.Theories.{theory_of, numbers_in}
 use Rattle.mcs_judging.proofs.Orders.{with_numbers}
 use Rattle.mcs_judging.proofs.Places.{numbers_within}
-use Rattle.mcs_judging.proofs.Readings.{judged_err}
-use Rattle.mcs_judging.proofs.Ways.{passed_wrong}
 use Rattle.mcs_judging.proofs.order.judge_grounded.Goals as goal
 
 pub returns-in_err-pass_all_yes-clause-exact : goal.returns-in_err-pass_all_yes-clause-exact

@@ -2,7 +2,7 @@ use Rattle.std.proofs.Common.{◌∙◌, [], ◌∷◌, ap}
 use Rattle.mcs_system.specs.Seen.{default_of}
 use Rattle.mcs_trace.specs.Clauses.{ClauseList}
 use Rattle.mcs_cnf.specs.ClauseLists.{with_formulas}
-use Rattle.mcs_judging.proofs.Readings.{judged_err}
+use Rattle.mcs_steps.proofs.Judged.{judged_err}
 use Rattle.mcs_judging.proofs.order.judge_prerequisite.Goals as goal
 
 pub returns-in_err-shown-clause-exact : goal.returns-in_err-shown-clause-exact

@@ -1,5 +1,5 @@
+use Rattle.mcs_steps.proofs.Judged.{judges_same}
 use Rattle.mcs_judging.specs.Programs.{Refutes}
-use Rattle.mcs_judging.proofs.ProgramLemmas.{judges_same}
 use Rattle.mcs_judging.proofs.programs.judge_minimal.Goals as goal
 
 pub returns : goal.returns

@@ -1,4 +1,5 @@
-use Rattle.mcs_judging.proofs.ProgramLemmas.{judges_same, refutes_some, refutes_none}
+use Rattle.mcs_steps.proofs.Judged.{judges_same}
+use Rattle.mcs_judging.proofs.ProgramLemmas.{refutes_some, refutes_none}
 use Rattle.mcs_judging.proofs.programs.judge_refutation.Goals as goal
 
 pub returns-in-Some : goal.returns-in-Some

@@ -1,6 +1,6 @@
+use Rattle.mcs_steps.proofs.Judged.{judged_err, judges_same}
 use Rattle.mcs_judging.specs.Programs.{Refutes, Completes}
-use Rattle.mcs_judging.proofs.Readings.{judged_err}
-use Rattle.mcs_judging.proofs.ProgramLemmas.{judges_same, rest_read, line_failed}
+use Rattle.mcs_judging.proofs.ProgramLemmas.{rest_read, line_failed}
 use Rattle.mcs_judging.proofs.programs.judge_rest.Goals as goal
 
 pub returns-in_err-expect : goal.returns-in_err-expect

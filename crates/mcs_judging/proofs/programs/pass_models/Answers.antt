@@ -1,5 +1,6 @@
 use Rattle.mcs_proof_lines.specs.Programs.{model_at}
-use Rattle.mcs_judging.proofs.ProgramLemmas.{none_so_far, one_more, one_failed, passed_all, passed_err}
+use Rattle.mcs_steps.proofs.Judged.{passed_err}
+use Rattle.mcs_judging.proofs.ProgramLemmas.{none_so_far, one_more, one_failed, passed_all}
 use Rattle.mcs_judging.proofs.programs.pass_models.Goals as goal
 
 pub loop-left-init : goal.loop-left-init

@@ -8,7 +8,8 @@ use Rattle.mcs_evidence.proofs.TheoryLemmas.{over_defaults}
 use Rattle.mcs_extensions.proofs.VerdictLemmas.{numbered_over}
 use Rattle.mcs_proof_lines.specs.Verdicts.{terms_of}
 use Rattle.mcs_judging.specs.Theories.{theory_of}
-use Rattle.mcs_judging.proofs.Places.{justs_in, one_justs}
+use Rattle.mcs_proof_lines.proofs.Justs.{justs_in}
+use Rattle.mcs_judging.proofs.Places.{one_justs}
 use Rattle.mcs_judging.proofs.Readings.{told_err}
 use Rattle.mcs_judging.proofs.VerdictLemmas.{applied_unread, justs_unread, applied_told, applied_judged}
 use Rattle.mcs_judging.proofs.verdicts.judge_applying.Goals as goal

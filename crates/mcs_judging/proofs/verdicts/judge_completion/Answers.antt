@@ -7,7 +7,8 @@ use Rattle.mcs_evidence.specs.Defaults.{defaults_of, defaults_at, all_defaults, 
 use Rattle.mcs_extensions.specs.Checks.{AreAbsent}
 use Rattle.mcs_proof_lines.specs.Verdicts.{terms_of, all_places, just_total}
 use Rattle.mcs_judging.specs.Theories.{theory_of}
-use Rattle.mcs_judging.proofs.Places.{justs_in, long_as, counted, total_justs, all_places_are}
+use Rattle.mcs_proof_lines.proofs.Justs.{justs_in, counted, total_justs}
+use Rattle.mcs_judging.proofs.Places.{long_as, all_places_are}
 use Rattle.mcs_judging.proofs.Readings.{told_err}
 use Rattle.mcs_judging.proofs.VerdictLemmas.{completion_first, completion_second, completion_third, completion_read, completion_told}
 use Rattle.mcs_judging.proofs.verdicts.judge_completion.Goals as goal

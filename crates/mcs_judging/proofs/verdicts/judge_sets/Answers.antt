@@ -4,7 +4,7 @@ use Rattle.mcs_system.specs.Seen.{formula_of}
 use Rattle.mcs_evidence.specs.Defaults.{defaults_of}
 use Rattle.mcs_proof_lines.specs.Verdicts.{terms_of}
 use Rattle.mcs_judging.specs.Theories.{theory_of}
-use Rattle.mcs_judging.proofs.Places.{counted}
+use Rattle.mcs_proof_lines.proofs.Justs.{counted}
 use Rattle.mcs_judging.proofs.VerdictLemmas.{sets_begin, sets_on, sets_fail, sets_refused, sets_accepted}
 use Rattle.mcs_judging.proofs.verdicts.judge_sets.Goals as goal
 

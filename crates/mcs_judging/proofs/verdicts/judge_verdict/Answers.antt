@@ -13,14 +13,14 @@ returns-in-Some-clause-exact c =
 pub returns-in-Some-next_defaults-clause-exact : goal.returns-in-Some-next_defaults-clause-exact
 returns-in-Some-next_defaults-clause-exact c =
     told_same (TellsVerdict c.args.asked.now.atoms.now (theory_of c.args.asked.now) (map (λ f. formula_of f.now) c.args.asked.now.beliefs.now) c.args.set) c.judge_ungrounded.result c.judge_ungrounded.new.lines _ _
-    (by_ungrounded (terms_of c.args.asked.now.terms.now) c.args.asked.now.atoms.now (theory_of c.args.asked.now) (map (λ f. formula_of f.now) c.args.asked.now.beliefs.now) c.args.set c.args.lines.now c.in_default.ensures.value c.in-Some-next_defaults.part c.in-Some-next_defaults.ensures) (rw c.advance-in-Some-next_defaults.ensures at c.judge_ungrounded.ensures)
+    (by_ungrounded (terms_of c.args.asked.now.terms.now) c.args.asked.now.atoms.now (theory_of c.args.asked.now) (map (λ f. formula_of f.now) c.args.asked.now.beliefs.now) c.args.set c.args.lines.now c.in_default.ensures.value c.in-Some-next_defaults.part c.in-Some-next_defaults.ensures.value) (rw c.advance-in-Some-next_defaults.ensures at c.judge_ungrounded.ensures)
 
 pub returns-in-Some-next_order-clause-exact : goal.returns-in-Some-next_order-clause-exact
 returns-in-Some-next_order-clause-exact c =
     told_same (TellsVerdict c.args.asked.now.atoms.now (theory_of c.args.asked.now) (map (λ f. formula_of f.now) c.args.asked.now.beliefs.now) c.args.set) c.judge_extension.result c.judge_extension.new.lines _ _
-    (by_extension (terms_of c.args.asked.now.terms.now) c.args.asked.now.atoms.now (theory_of c.args.asked.now) (map (λ f. formula_of f.now) c.args.asked.now.beliefs.now) c.args.set c.args.lines.now c.in_default.ensures.value c.in_default-next_defaults.ensures (numbers_in c.in-Some-next_order.numbers.now) c.in-Some-next_order.ensures.0) (rw c.advance-in-Some-next_order.ensures at c.judge_extension.ensures.exact)
+    (by_extension (terms_of c.args.asked.now.terms.now) c.args.asked.now.atoms.now (theory_of c.args.asked.now) (map (λ f. formula_of f.now) c.args.asked.now.beliefs.now) c.args.set c.args.lines.now c.in_default.ensures.value c.in_default-next_defaults.ensures.value (numbers_in c.in-Some-next_order.numbers.now) c.in-Some-next_order.ensures.0) (rw c.advance-in-Some-next_order.ensures at c.judge_extension.ensures.exact)
 
 pub returns-clause-exact : goal.returns-clause-exact
 returns-clause-exact c =
     told_same (TellsVerdict c.args.asked.now.atoms.now (theory_of c.args.asked.now) (map (λ f. formula_of f.now) c.args.asked.now.beliefs.now) c.args.set) c.judge_fails.result c.judge_fails.new.lines _ _
-    (by_failing (terms_of c.args.asked.now.terms.now) c.args.asked.now.atoms.now (theory_of c.args.asked.now) (map (λ f. formula_of f.now) c.args.asked.now.beliefs.now) c.args.set c.args.lines.now c.in_default.ensures.value c.in_default-next_defaults.ensures c.in_default-next_order.ensures) (c.judge_fails.ensures.exact)
+    (by_failing (terms_of c.args.asked.now.terms.now) c.args.asked.now.atoms.now (theory_of c.args.asked.now) (map (λ f. formula_of f.now) c.args.asked.now.beliefs.now) c.args.set c.args.lines.now c.in_default.ensures.value c.in_default-next_defaults.ensures.value c.in_default-next_order.ensures) (c.judge_fails.ensures.exact)

@@ -5,7 +5,7 @@ use Rattle.mcs_system.specs.Seen.{default_of, formula_of, item_of}
 use Rattle.mcs_cnf.specs.ClauseLists.{clause_list, IsOver, AreOver}
 use Rattle.mcs_evidence.specs.Defaults.{defaults_of, facts_of}
 use Rattle.mcs_evidence.proofs.TheoryLemmas.{defaults_with, facts_with, over_facts, over_with_facts}
-use Rattle.mcs_judging.proofs.Places.{counted}
+use Rattle.mcs_proof_lines.proofs.Justs.{counted}
 use Rattle.mcs_judging.proofs.verdicts.judge_verdicts.Goals as goal
 
 pub clauses_of-requires-clause-over : goal.clauses_of-requires-clause-over

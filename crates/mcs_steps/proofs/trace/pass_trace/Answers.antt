@@ -2,11 +2,12 @@ use Rattle.std.proofs.Common.{◌<◌, length, sym, ◌∙◌, subst}
 use Rattle.mcs_spelling.specs.Words.{step_of}
 use Rattle.mcs_proof_lines.specs.Walks.{At, line_at}
 use Rattle.mcs_proof_lines.proofs.WalkLemmas.{fewer_lines}
-use Rattle.mcs_steps.proofs.TraceLemmas.{some_of, none_of, no_trace, passed_first, passed_more, trace_passed}
+use Rattle.mcs_base.proofs.Booleans.{none_from_not_some}
+use Rattle.mcs_steps.proofs.TraceLemmas.{some_of, no_trace, passed_first, passed_more, trace_passed}
 use Rattle.mcs_steps.proofs.trace.pass_trace.Goals as goal
 
 pub returns-then-not-is_step_next : goal.returns-then-not-is_step_next
-returns-then-not-is_step_next c = rw c.out_of_place.ensures (no_trace c.args.lines.now (none_of (line_at step_of c.args.lines.now) (sym c.is_step_next.ensures ∙ c.if-not-is_step_next.true)))
+returns-then-not-is_step_next c = rw c.out_of_place.ensures (no_trace c.args.lines.now (none_from_not_some (line_at step_of c.args.lines.now) (sym c.is_step_next.ensures ∙ c.if-not-is_step_next.true)))
 
 pub loop-lines-init : goal.loop-lines-init
 loop-lines-init c = passed_first c.args.lines.now
@@ -24,4 +25,4 @@ loop-lines-preserved c =
 pub returns : goal.returns
 returns c =
     let (s, e) = some_of (line_at step_of c.args.lines.now) (sym c.is_step_next.ensures ∙ c.if-not-is_step_next.false) in
-    trace_passed c.args.lines.now c.loop-lines.lines s e (none_of (line_at step_of c.loop-lines.lines) (sym c.is_step_next-in-loop-lines.ensures ∙ c.loop-lines-test.false)) c.loop-lines.invariant
+    trace_passed c.args.lines.now c.loop-lines.lines s e (none_from_not_some (line_at step_of c.loop-lines.lines) (sym c.is_step_next-in-loop-lines.ensures ∙ c.loop-lines-test.false)) c.loop-lines.invariant
