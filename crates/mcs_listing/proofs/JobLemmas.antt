@@ -1,8 +1,7 @@
--- The one job that words ask for, and what a shelf tells of its files.
-use Rattle.std.proofs.Common.{◌≡◌, ◌⊎◌, ℕ, List, [], ◌∷◌, Option, Some, None, IfSome, IsSome, refl, inl, inr, subst}
-use Rattle.mcs_words.specs.Commands.{Word, Request, IsJobOf}
-use Rattle.mcs_words.proofs.JobLemmas.{asked_once}
-use Rattle.mcs_listing.specs.Jobs.{File, files_in, told_all, IfJob, OfOneFile, OfFirstFile, OfTwoFiles, LacksOneOfTwo}
+-- What a shelf tells of the files of a job.
+use Rattle.std.proofs.Common.{◌≡◌, ◌⊎◌, ℕ, List, [], ◌∷◌, Option, Some, None, IfSome, IsSome, refl, inl, inr}
+use Rattle.mcs_words.specs.Commands.{Word}
+use Rattle.mcs_listing.specs.Jobs.{File, told_all, OfOneFile, OfFirstFile, OfTwoFiles, LacksOneOfTwo}
 
 -- what holds of one file
 pub told_one : (held : Option (Word → File)) (name : Word) (P : List File → Type 0) → IfSome held (λ files. P (files name ∷ [])) → IfSome (told_all held (name ∷ [])) P
@@ -100,8 +99,3 @@ fault_of_one (Some files) name told failed is h = at (files name) h
     at : (file : File) → (IsSome file → told → failed) → (file ∷ [] ≡ None ∷ []) ⊎ failed
     at None broke = inl refl
     at (Some bytes) broke = inr (broke refl is)
-
--- what holds of the job that was found holds of each that the words ask for, since that is one
-pub if_job : (words : List Word) (job : Request) → IsJobOf words job → (held : Option (Word → File)) (P : Request → List File → Type 0)
-    → IfSome (told_all held (files_in job)) (P job) → IfJob words held P
-if_job words job asked held P there other other_asked = subst (λ (j : Request). IfSome (told_all held (files_in j)) (P j)) (asked_once words job other asked other_asked) there

@@ -75,14 +75,18 @@ pub record PrintsFront (P : List ℕ → Type 0) (before now : Option (List ℕ)
   pub front : WritesFront text before now
 
 -- ---- the work on a system
--- why the work on a system stops, and what was written then
+-- why the work on a system stops that prints such stages, and what was written then
+abbrev pub StopsStages : (System → List ℕ → Type 0) → Stop → Task → ℕ → System → Type 0 → Option (List ℕ) → Option (List ℕ) → Type 0
+StopsStages IsPart stops.Usage task budget m sink_rose before now = ⊥
+StopsStages IsPart (stops.Refused why) task budget m sink_rose before now = ⊥
+StopsStages IsPart (stops.Unfinished level limit) task budget m sink_rose before now = (limit ≡ budget) × Prints (λ text. IsListedBefore task budget level text m) before now
+StopsStages IsPart stops.ReadFault task budget m sink_rose before now = ⊥
+StopsStages IsPart stops.WriteFault task budget m sink_rose before now = sink_rose × PrintsFront (IsPart m) before now
+StopsStages IsPart stops.Memory task budget m sink_rose before now = PrintsFront (IsPart m) before now
+
+-- the same of the stages of a task
 abbrev pub StopsWork : Stop → Task → ℕ → System → Type 0 → Option (List ℕ) → Option (List ℕ) → Type 0
-StopsWork stops.Usage task budget m sink_rose before now = ⊥
-StopsWork (stops.Refused why) task budget m sink_rose before now = ⊥
-StopsWork (stops.Unfinished level limit) task budget m sink_rose before now = (limit ≡ budget) × Prints (λ text. IsListedBefore task budget level text m) before now
-StopsWork stops.ReadFault task budget m sink_rose before now = ⊥
-StopsWork stops.WriteFault task budget m sink_rose before now = sink_rose × PrintsFront (IsTaskStage task m) before now
-StopsWork stops.Memory task budget m sink_rose before now = PrintsFront (IsTaskStage task m) before now
+StopsWork stop task budget m sink_rose before now = StopsStages (IsTaskStage task) stop task budget m sink_rose before now
 
 -- the same where its number was printed before
 abbrev pub StopsGenerated : Stop → ℕ → ℕ → Type 0 → Option (List ℕ) → Option (List ℕ) → Type 0

@@ -16,7 +16,8 @@ use Rattle.mcs_listing.specs.Endings.{stop_for_unwritten}
 use Rattle.mcs_listing.specs.Jobs.{File, told_all, OfOneFile, OfFirstFile, OfTwoFiles}
 use Rattle.mcs_proof_text.specs.Reports.{most_report_bytes}
 use Rattle.mcs_listing.specs.Texts.{IsTextOf, IsRefusedFor, StopsReading, StopsReport}
-use Rattle.mcs_top.specs.Promise.{OfReport, IsToldValid, IsToldFailing, FailsATest, IsReportTooLong, IsCheckRefusal, WritesStage, IsStopCause, LeavesText, EndsSo, outcome_of}
+use Rattle.mcs_top.specs.Meaning.{OfReport, IsToldValid, IsToldFailing, FailsATest, IsReportTooLong, IsCheckRefusal, meaning}
+use Rattle.mcs_top.specs.Promise.{WritesStage, IsStopCause, LeavesText, EndsSo, outcome_of}
 use Rattle.mcs_listing.specs.declared.ending.Refusal.{Refusal}
 use Rattle.mcs_listing.specs.declared.ending.Refusal.TheVariants as refusals
 use Rattle.mcs_listing.specs.declared.ending.Stop.{Stop}
@@ -35,7 +36,7 @@ first_refused refusals.ReportTooLong files h = absurd (never_first files h)
 first_refused (refusals.Text number offset limit) files h = h
 
 module _ (held : Option (Word → File)) (file report : Word) where
-  pub check_read_cause : (shelf-rose failed sink-rose : Type 0) (stop : Stop) → StopsReading stop shelf-rose failed (told_all held (file ∷ [])) → IsStopCause stop shelf-rose failed sink-rose (check file report) (told_all held (file ∷ report ∷ []))
+  pub check_read_cause : (shelf-rose failed sink-rose : Type 0) (stop : Stop) → StopsReading stop shelf-rose failed (told_all held (file ∷ [])) → IsStopCause stop shelf-rose failed sink-rose (meaning (check file report)) (told_all held (file ∷ report ∷ []))
   check_read_cause shelf-rose failed sink-rose stops.Usage h = h
   check_read_cause shelf-rose failed sink-rose (stops.Refused why) h = told_also (told_all held (file ∷ report ∷ [])) _ _ (first_refused why) (told_first held file report (IsRefusedFor why) h)
   check_read_cause shelf-rose failed sink-rose (stops.Unfinished level limit) h = absurd h
@@ -49,7 +50,7 @@ module _ (held : Option (Word → File)) (file report : Word) where
         (told_two held file report (IsTextOf m) (λ bytes. ¬ (length bytes ≤ most_report_bytes)) read long)
 
     pub report_cause : (shelf-rose failed sink-rose more-rose more-failed : Type 0) → (more-rose → shelf-rose) → (more-failed → failed) → (stop : Stop) → StopsReport stop more-rose more-failed (told_all held (report ∷ []))
-        → IsStopCause stop shelf-rose failed sink-rose (check file report) (told_all held (file ∷ report ∷ []))
+        → IsStopCause stop shelf-rose failed sink-rose (meaning (check file report)) (told_all held (file ∷ report ∷ []))
     report_cause shelf-rose failed sink-rose more-rose more-failed up higher stops.Usage h = h
     report_cause shelf-rose failed sink-rose more-rose more-failed up higher (stops.Refused refusals.TooLong) h = absurd h
     report_cause shelf-rose failed sink-rose more-rose more-failed up higher (stops.Refused refusals.ReportTooLong) h = too_long h
@@ -59,7 +60,7 @@ module _ (held : Option (Word → File)) (file report : Word) where
     report_cause shelf-rose failed sink-rose more-rose more-failed up higher stops.WriteFault h = absurd h
     report_cause shelf-rose failed sink-rose more-rose more-failed up higher stops.Memory h = tt
 
-    pub report_left : (more-rose more-failed : Type 0) (now : Option (List ℕ)) (stop : Stop) → StopsReport stop more-rose more-failed (told_all held (report ∷ [])) → LeavesText stop (check file report) (told_all held (file ∷ report ∷ [])) now now
+    pub report_left : (more-rose more-failed : Type 0) (now : Option (List ℕ)) (stop : Stop) → StopsReport stop more-rose more-failed (told_all held (report ∷ [])) → LeavesText stop (meaning (check file report)) (told_all held (file ∷ report ∷ [])) now now
     report_left more-rose more-failed now stops.Usage h = refl
     report_left more-rose more-failed now (stops.Refused why) h = refl
     report_left more-rose more-failed now (stops.Unfinished level limit) h = absurd h
@@ -83,7 +84,7 @@ module _ (held : Option (Word → File)) (file report : Word) where
           (λ text more (spelled, same) (n, again, short, holds). never (subst (λ (b : List ℕ). P m b) same (subst (λ (s : System). P s more) (texts-unambiguous text n m again.spelled spelled.spelled) holds))) fs
 
       pub told_finding : (found : Finding) → IsReportFinding m bytes found → RulesOut m bytes found → (before now : Option (List ℕ)) → now ≡ appended before (finding_line found)
-          → IfSome (told_all held (file ∷ report ∷ [])) (EndsSo (outcome_of found) before now (check file report))
+          → IfSome (told_all held (file ∷ report ∷ [])) (EndsSo (outcome_of found) before now (meaning (check file report)))
       told_finding Valid is only before now written = told_also (told_all held (file ∷ report ∷ [])) _ _ (λ fs h. record {
         writes = record { text = finding_line Valid; holds = of_report (IsToldValid (finding_line Valid)) (is, refl) fs h; written = written };
         only = not_of_report FailsATest (λ (line, reason, fails). only line reason fails) fs h;
@@ -93,7 +94,7 @@ module _ (held : Option (Word → File)) (file report : Word) where
         only = not_of_report IsValidReport only fs h;
       }) both_read
 
-      finding_stage : (found : Finding) → IsReportFinding m bytes found → (before now : Option (List ℕ)) → WritesFront (finding_line found) before now → IfSome (told_all held (file ∷ report ∷ [])) (WritesStage before now (check file report))
+      finding_stage : (found : Finding) → IsReportFinding m bytes found → (before now : Option (List ℕ)) → WritesFront (finding_line found) before now → IfSome (told_all held (file ∷ report ∷ [])) (WritesStage before now (meaning (check file report)))
       finding_stage Valid is before now front = told_also (told_all held (file ∷ report ∷ [])) _ _ (λ fs h. record {
         text = finding_line Valid;
         holds = inl (of_report (IsToldValid (finding_line Valid)) (is, refl) fs h);
@@ -107,11 +108,11 @@ module _ (held : Option (Word → File)) (file report : Word) where
 
       -- its line was not written whole
       pub finding_cause : (found : Finding) (shelf-rose failed : Type 0) (before now : Device) (why : Unwritten) → Writes {T = Unit {0}} (finding_line found) before now (Err why)
-          → IsStopCause (stop_for_unwritten why) shelf-rose failed (Rose before.faults now.faults) (check file report) (told_all held (file ∷ report ∷ []))
+          → IsStopCause (stop_for_unwritten why) shelf-rose failed (Rose before.faults now.faults) (meaning (check file report)) (told_all held (file ∷ report ∷ []))
       finding_cause found shelf-rose failed before now unwritten.Fault w = w.due
       finding_cause found shelf-rose failed before now unwritten.Memory w = tt
 
       pub finding_left : (found : Finding) → IsReportFinding m bytes found → (before now : Device) (why : Unwritten) → Writes {T = Unit {0}} (finding_line found) before now (Err why)
-          → LeavesText (stop_for_unwritten why) (check file report) (told_all held (file ∷ report ∷ [])) before.written now.written
+          → LeavesText (stop_for_unwritten why) (meaning (check file report)) (told_all held (file ∷ report ∷ [])) before.written now.written
       finding_left found is before now unwritten.Fault w = finding_stage found is before.written now.written w.front
       finding_left found is before now unwritten.Memory w = inr (finding_stage found is before.written now.written w.front)

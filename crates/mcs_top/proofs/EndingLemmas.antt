@@ -1,7 +1,6 @@
 -- What a run answers, notes and leaves where it stops.
 use Rattle.std.proofs.Common.{◌≡◌, ◌⊎◌, ℕ, List, Option, Some, None, Result, Err, IfSome, inl, inr, refl, sym, ap, ◌∙◌, subst}
 use Rattle.mcs_ports.specs.Pieces.{Device, noted}
-use Rattle.mcs_words.specs.Commands.{Request}
 use Rattle.mcs_words.specs.declared.job.WordsFault.{WordsFault}
 use Rattle.mcs_words.specs.declared.job.WordsFault.TheVariants as words
 use Rattle.mcs_listing.specs.declared.ending.Refusal.{Refusal}
@@ -11,9 +10,10 @@ use Rattle.mcs_listing.specs.declared.status.Status.{Status}
 use Rattle.mcs_listing.specs.declared.status.Status.TheVariants as statuses
 use Rattle.mcs_listing.specs.Jobs.{File}
 use Rattle.mcs_listing.specs.Endings.{line_of, status_of, refusal_line, unfinished_line, stop_for_words, IsEndingTold, IsToldAs}
-use Rattle.mcs_top.specs.Promise.{IsRefusal, LacksBudget, budget_of, WritesBeyond, StopsBeyond, LacksFile, CanBeDone, CanBeRejected, EndsSo, WritesOutput, WritesRejection, WritesStage, TellsRefusal, Notes, IsUnlessMemory, CannotBeRead, IsStopCause, LeavesText, as_done}
+use Rattle.mcs_top.specs.Meaning.{JobMeaning}
+use Rattle.mcs_top.specs.Promise.{IsRefusal, LacksBudget, WritesBeyond, StopsBeyond, LacksFile, CanBeDone, CanBeRejected, EndsSo, WritesOutput, WritesRejection, WritesStage, TellsRefusal, Notes, IsUnlessMemory, CannotBeRead, IsStopCause, LeavesText, as_done}
 use Rattle.mcs_top.specs.declared.outcome.Outcome.TheVariants as outcomes
-use Rattle.mcs_top.proofs.RefusalLemmas.{whole_front, output_not_short, short_not_refused, beyond_not_refused, beyond_not_missing, beyond_is_stage, can_not_beyond, output_not_refused, output_not_missing, stage_not_refused, can_not_refused, can_not_missing, rejected_not_missing, short_not_missing, stage_not_missing, refusal_not_missing, rejection_not_refused, rejection_not_short, rejection_not_missing, rejected_not_refused, rejected_not_beyond}
+use Rattle.mcs_top.proofs.RefusalLemmas.{KeepsApart, whole_front}
 
 -- ---- what a stop is told as
 pub told_status : (stop : Stop) (status : Status) (before now : Device) → IsEndingTold stop status before now → IsUnlessMemory (status_of stop) status
@@ -52,7 +52,7 @@ words_told fault stop status before now is told = at fault (told_status (stop_fo
     at words.Memory (inr want) = inr want
 
 -- ---- a job that stops
-module _ (stop : Stop) (status : Status) (before now : Device) (told : IsEndingTold stop status before now) (shelf-rose failed sink-rose : Type 0) (job : Request) (files : Option (List File)) (cause : IsStopCause stop shelf-rose failed sink-rose job files) where
+module _ (stop : Stop) (status : Status) (before now : Device) (told : IsEndingTold stop status before now) (shelf-rose failed sink-rose : Type 0) (job : JobMeaning) (files : Option (List File)) (cause : IsStopCause stop shelf-rose failed sink-rose job files) where
   pub never_usage : status ≡ statuses.Usage → ⊥
   never_usage is = at stop (own_line stop status statuses.Usage before now told is (λ e. cc)).0 cause
     where
@@ -135,7 +135,7 @@ module _ (stop : Stop) (status : Status) (before now : Device) (told : IsEndingT
       at stops.Memory e line h = absurd (cc)
 
   -- ---- and what it leaves
-  module _ (first last : Option (List ℕ)) (leaves : LeavesText stop job files first last) where
+  module _ (first last : Option (List ℕ)) (leaves : LeavesText stop job files first last) (laws : KeepsApart job) where
     pub stop_refuses : IfSome files (λ fs. (why : Refusal) → IsRefusal why job fs → ¬ failed → IsUnlessMemory statuses.Refused status)
     stop_refuses = at stop files (told_status stop status before now told) cause leaves
       where
@@ -144,9 +144,9 @@ module _ (stop : Stop) (status : Status) (before now : Device) (told : IsEndingT
         at s None due h left = tt
         at stops.Usage (Some fs) due h left = absurd h
         at (stops.Refused r) (Some fs) due h left = λ why reason calm. due
-        at (stops.Unfinished level budget) (Some fs) due h left = λ why reason calm. absurd (beyond_not_refused left.text level why job fs left.holds reason)
-        at stops.ReadFault (Some fs) due h left = λ why reason calm. absurd (elim h.1 [ inl lacks ↦ refusal_not_missing why job fs reason lacks | inr broken ↦ calm broken ])
-        at stops.WriteFault (Some fs) due h left = λ why reason calm. absurd (stage_not_refused left.text why job fs left.holds reason)
+        at (stops.Unfinished level budget) (Some fs) due h left = λ why reason calm. absurd (laws.not_refused why fs (laws.beyond_fits left.text level fs left.holds) reason)
+        at stops.ReadFault (Some fs) due h left = λ why reason calm. absurd (elim h.1 [ inl lacks ↦ laws.refusal_not_lacking why fs reason lacks | inr broken ↦ calm broken ])
+        at stops.WriteFault (Some fs) due h left = λ why reason calm. absurd (laws.not_refused why fs (laws.stage_fits left.text fs left.holds) reason)
         at stops.Memory (Some fs) due h left = λ why reason calm. elim due [ inl is ↦ inr is | inr is ↦ inr is ]
 
     pub stop_misses : IfSome files (λ fs. LacksFile job fs → IsUnlessMemory statuses.ReadFault status)
@@ -156,10 +156,10 @@ module _ (stop : Stop) (status : Status) (before now : Device) (told : IsEndingT
             → IfSome fs (λ gs. LacksFile job gs → IsUnlessMemory statuses.ReadFault status)
         at s None due h left = tt
         at stops.Usage (Some fs) due h left = absurd h
-        at (stops.Refused r) (Some fs) due h left = λ lacks. absurd (refusal_not_missing r job fs h lacks)
-        at (stops.Unfinished level budget) (Some fs) due h left = λ lacks. absurd (beyond_not_missing left.text level job fs left.holds lacks)
+        at (stops.Refused r) (Some fs) due h left = λ lacks. absurd (laws.refusal_not_lacking r fs h lacks)
+        at (stops.Unfinished level budget) (Some fs) due h left = λ lacks. absurd (laws.not_lacking fs (laws.beyond_fits left.text level fs left.holds) lacks)
         at stops.ReadFault (Some fs) due h left = λ lacks. due
-        at stops.WriteFault (Some fs) due h left = λ lacks. absurd (stage_not_missing left.text job fs left.holds lacks)
+        at stops.WriteFault (Some fs) due h left = λ lacks. absurd (laws.not_lacking fs (laws.stage_fits left.text fs left.holds) lacks)
         at stops.Memory (Some fs) due h left = λ lacks. elim due [ inl is ↦ inr is | inr is ↦ inr is ]
 
     pub stop_completes : IfSome files (λ fs. CanBeDone job fs → ¬ failed → ¬ sink-rose → IsUnlessMemory statuses.Done status)
@@ -169,9 +169,9 @@ module _ (stop : Stop) (status : Status) (before now : Device) (told : IsEndingT
             → IfSome fs (λ gs. CanBeDone job gs → ¬ failed → ¬ sink-rose → IsUnlessMemory statuses.Done status)
         at s None due h left = tt
         at stops.Usage (Some fs) due h left = absurd h
-        at (stops.Refused r) (Some fs) due h left = λ can calm quiet. absurd (can_not_refused r job fs can h)
-        at (stops.Unfinished level budget) (Some fs) due h left = λ can calm quiet. absurd (can_not_beyond left.text level job fs can left.holds)
-        at stops.ReadFault (Some fs) due h left = λ can calm quiet. absurd (elim h.1 [ inl lacks ↦ can_not_missing job fs can lacks | inr broken ↦ calm broken ])
+        at (stops.Refused r) (Some fs) due h left = λ can calm quiet. absurd (laws.not_refused r fs (laws.possible_fits fs can) h)
+        at (stops.Unfinished level budget) (Some fs) due h left = λ can calm quiet. absurd (laws.possible_not_beyond left.text level fs can left.holds)
+        at stops.ReadFault (Some fs) due h left = λ can calm quiet. absurd (elim h.1 [ inl lacks ↦ laws.not_lacking fs (laws.possible_fits fs can) lacks | inr broken ↦ calm broken ])
         at stops.WriteFault (Some fs) due h left = λ can calm quiet. absurd (quiet h)
         at stops.Memory (Some fs) due h left = λ can calm quiet. elim due [ inl is ↦ inr is | inr is ↦ inr is ]
 
@@ -182,9 +182,9 @@ module _ (stop : Stop) (status : Status) (before now : Device) (told : IsEndingT
             → IfSome fs (λ gs. CanBeRejected job gs → ¬ failed → ¬ sink-rose → IsUnlessMemory statuses.NotValid status)
         at s None due h left = tt
         at stops.Usage (Some fs) due h left = absurd h
-        at (stops.Refused r) (Some fs) due h left = λ can calm quiet. absurd (rejected_not_refused r job fs can h)
-        at (stops.Unfinished level budget) (Some fs) due h left = λ can calm quiet. absurd (rejected_not_beyond left.text level job fs can left.holds)
-        at stops.ReadFault (Some fs) due h left = λ can calm quiet. absurd (elim h.1 [ inl lacks ↦ rejected_not_missing job fs can lacks | inr broken ↦ calm broken ])
+        at (stops.Refused r) (Some fs) due h left = λ can calm quiet. absurd (laws.not_refused r fs (laws.invalid_fits fs can) h)
+        at (stops.Unfinished level budget) (Some fs) due h left = λ can calm quiet. absurd (laws.invalid_not_beyond left.text level fs can left.holds)
+        at stops.ReadFault (Some fs) due h left = λ can calm quiet. absurd (elim h.1 [ inl lacks ↦ laws.not_lacking fs (laws.invalid_fits fs can) lacks | inr broken ↦ calm broken ])
         at stops.WriteFault (Some fs) due h left = λ can calm quiet. absurd (quiet h)
         at stops.Memory (Some fs) due h left = λ can calm quiet. elim due [ inl is ↦ inr is | inr is ↦ inr is ]
 
@@ -195,16 +195,16 @@ module _ (stop : Stop) (status : Status) (before now : Device) (told : IsEndingT
             → IfSome fs (λ gs. LacksBudget job gs → ¬ failed → ¬ sink-rose → IsUnlessMemory statuses.Unfinished status)
         at s None due h = tt
         at stops.Usage (Some fs) due h = absurd h
-        at (stops.Refused r) (Some fs) due h = λ short calm quiet. absurd (short_not_refused r job fs short h)
+        at (stops.Refused r) (Some fs) due h = λ short calm quiet. absurd (laws.not_refused r fs (laws.short_fits fs short) h)
         at (stops.Unfinished at_level budget) (Some fs) due h = λ short calm quiet. due
-        at stops.ReadFault (Some fs) due h = λ short calm quiet. absurd (elim h.1 [ inl lacks ↦ short_not_missing job fs short lacks | inr broken ↦ calm broken ])
+        at stops.ReadFault (Some fs) due h = λ short calm quiet. absurd (elim h.1 [ inl lacks ↦ laws.not_lacking fs (laws.short_fits fs short) lacks | inr broken ↦ calm broken ])
         at stops.WriteFault (Some fs) due h = λ short calm quiet. absurd (quiet h)
         at stops.Memory (Some fs) due h = λ short calm quiet. elim due [ inl is ↦ inr is | inr is ↦ inr is ]
 
     pub stops_beyond : status ≡ statuses.Unfinished → IfSome files (StopsBeyond first last before.notes now.notes job)
     stops_beyond is = let own = own_line stop status statuses.Unfinished before now told is (λ e. cc) in at stop own.0 own.1 cause leaves
       where
-        of : (level budget : ℕ) (fs : Option (List File)) → now.notes ≡ noted before.notes (unfinished_line level budget) → budget ≡ budget_of job → IfSome fs (WritesBeyond level first last job)
+        of : (level budget : ℕ) (fs : Option (List File)) → now.notes ≡ noted before.notes (unfinished_line level budget) → budget ≡ job.budget → IfSome fs (WritesBeyond level first last job)
             → IfSome fs (StopsBeyond first last before.notes now.notes job)
         of level budget None line same left = tt
         of level budget (Some fs) line same left = record { level = level; writes = left; line = subst (λ (n : ℕ). now.notes ≡ noted before.notes (unfinished_line level n)) same line }
@@ -234,7 +234,7 @@ module _ (stop : Stop) (status : Status) (before now : Device) (told : IsEndingT
       where
         staged : (level : ℕ) (fs : Option (List File)) → IfSome fs (WritesBeyond level first last job) → IfSome fs (WritesStage first last job)
         staged level None left = tt
-        staged level (Some fs) left = record { text = left.text; holds = beyond_is_stage left.text level job fs left.holds; front = whole_front left.text first last left.written }
+        staged level (Some fs) left = record { text = left.text; holds = laws.beyond_is_stage left.text level fs left.holds; front = whole_front left.text first last left.written }
 
         at : (s : Stop) → LeavesText s job files first last → (last ≡ first) ⊎ IfSome files (WritesStage first last job)
         at stops.Usage left = inl left
@@ -266,7 +266,7 @@ module _ (stop : Stop) (status : Status) (before now : Device) (told : IsEndingT
         at stops.Memory e left = absurd (cc)
 
 -- ---- a run that wants memory, whatever the job
-module _ (status : Status) (want : status ≡ statuses.OutOfMemory) (job : Request) where
+module _ (status : Status) (want : status ≡ statuses.OutOfMemory) (job : JobMeaning) where
   pub memory_refuses : (files : Option (List File)) (failed : Type 0) → IfSome files (λ fs. (why : Refusal) → IsRefusal why job fs → ¬ failed → IsUnlessMemory statuses.Refused status)
   memory_refuses None failed = tt
   memory_refuses (Some fs) failed = λ why reason calm. inr want
@@ -289,20 +289,20 @@ module _ (status : Status) (want : status ≡ statuses.OutOfMemory) (job : Reque
   memory_rejects (Some fs) failed sink-rose = λ can calm quiet. inr want
 
 -- ---- a job that was done
-module _ (status : Status) (job : Request) (first last : Option (List ℕ)) where
+module _ (status : Status) (job : JobMeaning) (first last : Option (List ℕ)) (laws : KeepsApart job) where
   pub done_refuses : (files : Option (List File)) (failed : Type 0) → IfSome files (EndsSo outcomes.Done first last job)
       → IfSome files (λ fs. (why : Refusal) → IsRefusal why job fs → ¬ failed → IsUnlessMemory statuses.Refused status)
   done_refuses None failed h = tt
-  done_refuses (Some fs) failed h = λ why reason calm. absurd (output_not_refused h.writes.text why job fs h.writes.holds reason)
+  done_refuses (Some fs) failed h = λ why reason calm. absurd (laws.not_refused why fs (laws.output_fits h.writes.text fs h.writes.holds) reason)
 
   pub done_misses : (files : Option (List File)) → IfSome files (EndsSo outcomes.Done first last job) → IfSome files (λ fs. LacksFile job fs → IsUnlessMemory statuses.ReadFault status)
   done_misses None h = tt
-  done_misses (Some fs) h = λ lacks. absurd (output_not_missing h.writes.text job fs h.writes.holds lacks)
+  done_misses (Some fs) h = λ lacks. absurd (laws.not_lacking fs (laws.output_fits h.writes.text fs h.writes.holds) lacks)
 
   pub done_spends : (files : Option (List File)) (failed sink-rose : Type 0) → IfSome files (EndsSo outcomes.Done first last job)
       → IfSome files (λ fs. LacksBudget job fs → ¬ failed → ¬ sink-rose → IsUnlessMemory statuses.Unfinished status)
   done_spends None failed sink-rose h = tt
-  done_spends (Some fs) failed sink-rose h = λ short calm quiet. absurd (output_not_short h.writes.text job fs h.writes.holds short)
+  done_spends (Some fs) failed sink-rose h = λ short calm quiet. absurd (laws.output_not_short h.writes.text fs h.writes.holds short)
 
   pub done_rejects : (files : Option (List File)) (failed sink-rose : Type 0) → IfSome files (EndsSo outcomes.Done first last job)
       → IfSome files (λ fs. CanBeRejected job fs → ¬ failed → ¬ sink-rose → IsUnlessMemory statuses.NotValid status)
@@ -314,20 +314,20 @@ module _ (status : Status) (job : Request) (first last : Option (List ℕ)) wher
   done_writes (Some fs) h = h.writes
 
 -- ---- a job that found a report not valid
-module _ (status : Status) (job : Request) (first last : Option (List ℕ)) where
+module _ (status : Status) (job : JobMeaning) (first last : Option (List ℕ)) (laws : KeepsApart job) where
   pub rejected_refuses : (files : Option (List File)) (failed : Type 0) → IfSome files (EndsSo outcomes.NotValid first last job)
       → IfSome files (λ fs. (why : Refusal) → IsRefusal why job fs → ¬ failed → IsUnlessMemory statuses.Refused status)
   rejected_refuses None failed h = tt
-  rejected_refuses (Some fs) failed h = λ why reason calm. absurd (rejection_not_refused h.writes.text why job fs h.writes.holds reason)
+  rejected_refuses (Some fs) failed h = λ why reason calm. absurd (laws.not_refused why fs (laws.rejection_fits h.writes.text fs h.writes.holds) reason)
 
   pub rejected_misses : (files : Option (List File)) → IfSome files (EndsSo outcomes.NotValid first last job) → IfSome files (λ fs. LacksFile job fs → IsUnlessMemory statuses.ReadFault status)
   rejected_misses None h = tt
-  rejected_misses (Some fs) h = λ lacks. absurd (rejection_not_missing h.writes.text job fs h.writes.holds lacks)
+  rejected_misses (Some fs) h = λ lacks. absurd (laws.not_lacking fs (laws.rejection_fits h.writes.text fs h.writes.holds) lacks)
 
   pub rejected_spends : (files : Option (List File)) (failed sink-rose : Type 0) → IfSome files (EndsSo outcomes.NotValid first last job)
       → IfSome files (λ fs. LacksBudget job fs → ¬ failed → ¬ sink-rose → IsUnlessMemory statuses.Unfinished status)
   rejected_spends None failed sink-rose h = tt
-  rejected_spends (Some fs) failed sink-rose h = λ short calm quiet. absurd (rejection_not_short h.writes.text job fs h.writes.holds short)
+  rejected_spends (Some fs) failed sink-rose h = λ short calm quiet. absurd (laws.rejection_not_short h.writes.text fs h.writes.holds short)
 
   pub rejected_completes : (files : Option (List File)) (failed sink-rose : Type 0) → IfSome files (EndsSo outcomes.NotValid first last job)
       → IfSome files (λ fs. CanBeDone job fs → ¬ failed → ¬ sink-rose → IsUnlessMemory statuses.Done status)

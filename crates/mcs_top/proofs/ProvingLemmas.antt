@@ -23,10 +23,11 @@ use Rattle.mcs_work.specs.Work.{IsDone}
 use Rattle.mcs_work.specs.declared.task.Task.TheVariants.{Solve}
 use Rattle.mcs_words.specs.Commands.{Word, solve}
 use Rattle.mcs_listing.specs.Jobs.{File, OfOneFile}
-use Rattle.mcs_listing.specs.Texts.{IsTextOf, StopsReading}
+use Rattle.mcs_listing.specs.Texts.{IsTextOf}
 use Rattle.mcs_top.specs.Evaluating.{HasListed}
-use Rattle.mcs_top.specs.Promise.{IsListedProved, IsSolved, IsSolutionStage, WritesOutput, WritesStage, StopsProof, IsStopCause, LeavesText}
-use Rattle.mcs_listing.specs.Listings.{OfSystem, IsListedBefore, Prints, PrintsFront, StopsWork, StopsAnswers, IsNewEvaluator, HaveOrigin}
+use Rattle.mcs_top.specs.Meaning.{IsSolution, IsSolutionStage, IsWithinBudget, meaning}
+use Rattle.mcs_top.specs.Promise.{WritesOutput}
+use Rattle.mcs_listing.specs.Listings.{OfSystem, Prints, PrintsFront, StopsStages, StopsWork, StopsAnswers, IsNewEvaluator, HaveOrigin}
 use Rattle.mcs_listing.specs.declared.ending.Stop.{Stop}
 use Rattle.mcs_listing.specs.declared.ending.Stop.TheVariants as stops
 use Rattle.mcs_listing.proofs.JobLemmas.{told_also, of_file}
@@ -40,7 +41,7 @@ front_of_stage m before now p = record { text = p.text; holds = inl p.holds; fro
 pub nothing_proved : (m : System) (now : Option (List ℕ)) → PrintsFront (IsSolutionStage true m) now now
 nothing_proved m now = front_of_stage m now now (nothing_left Solve m now)
 
-pub work_stops_proof : (budget : ℕ) (m : System) (sink-rose : Type 0) (before now : Option (List ℕ)) (stop : Stop) → StopsWork stop Solve budget m sink-rose before now → StopsProof stop budget m sink-rose before now
+pub work_stops_proof : (budget : ℕ) (m : System) (sink-rose : Type 0) (before now : Option (List ℕ)) (stop : Stop) → StopsWork stop Solve budget m sink-rose before now → StopsStages (IsSolutionStage true) stop Solve budget m sink-rose before now
 work_stops_proof budget m sink-rose before now stops.Usage h = h
 work_stops_proof budget m sink-rose before now (stops.Refused why) h = h
 work_stops_proof budget m sink-rose before now (stops.Unfinished level limit) h = h
@@ -99,7 +100,7 @@ module _ (m : System) (budget : ℕ) (e e' : EvaluatorState) (fresh : IsNewEvalu
   proof_front now (inl same) = subst (λ (w : Option (List ℕ)). PrintsFront (IsSolutionStage true m) before w) (sym same) listing_left
   proof_front now (inr begun) = proof_begun now begun
 
-  proof_written : (now : Option (List ℕ)) → HasProved m d.level mid now → Prints (λ text. IsListedProved budget text m) before now
+  proof_written : (now : Option (List ℕ)) → HasProved m d.level mid now → Prints (λ text. IsWithinBudget IsProvedListing Solve budget text m) before now
   proof_written now p =
       let listed = listed_done Solve m budget e e' fresh before mid d in
       record {
@@ -108,11 +109,11 @@ module _ (m : System) (budget : ℕ) (e e' : EvaluatorState) (fresh : IsNewEvalu
         written = after_listing p.answers p.proof (text_of_lines (proof_lines m p.answers)) now p.written;
       }
 
-  pub proof_done : (now : Option (List ℕ)) (r : Result (Unit {0}) Stop) → OnOk r (HasProved m d.level mid now) → OnOk r (Prints (λ text. IsListedProved budget text m) before now)
+  pub proof_done : (now : Option (List ℕ)) (r : Result (Unit {0}) Stop) → OnOk r (HasProved m d.level mid now) → OnOk r (Prints (λ text. IsWithinBudget IsProvedListing Solve budget text m) before now)
   proof_done now (Ok x) p = proof_written now p
   proof_done now (Err stop) p = tt
 
-  proof_stopped : (first middle last : ℕ) → first ≤ middle → (now : Option (List ℕ)) (stop : Stop) → StopsAnswers stop m d.level (Rose middle last) mid now → StopsProof stop budget m (Rose first last) before now
+  proof_stopped : (first middle last : ℕ) → first ≤ middle → (now : Option (List ℕ)) (stop : Stop) → StopsAnswers stop m d.level (Rose middle last) mid now → StopsStages (IsSolutionStage true) stop Solve budget m (Rose first last) before now
   proof_stopped first middle last up now stops.Usage h = h
   proof_stopped first middle last up now (stops.Refused why) h = h
   proof_stopped first middle last up now (stops.Unfinished level limit) h = absurd h
@@ -121,83 +122,38 @@ module _ (m : System) (budget : ℕ) (e e' : EvaluatorState) (fresh : IsNewEvalu
   proof_stopped first middle last up now stops.Memory h = proof_front now h
 
   pub proof_stops : (first middle last : ℕ) → first ≤ middle → (now : Option (List ℕ)) (r : Result (Unit {0}) Stop) → IfErr r (λ stop. StopsAnswers stop m d.level (Rose middle last) mid now)
-      → IfErr r (λ stop. StopsProof stop budget m (Rose first last) before now)
+      → IfErr r (λ stop. StopsStages (IsSolutionStage true) stop Solve budget m (Rose first last) before now)
   proof_stops first middle last up now (Ok x) h = tt
   proof_stops first middle last up now (Err stop) h = proof_stopped first middle last up now stop h
 
--- ---- the job of a command
-module _ (name : Word) (budget workers : ℕ) where
-  pub proof_read_cause : (shelf-rose failed sink-rose : Type 0) (files : Option (List File)) (stop : Stop) → StopsReading stop shelf-rose failed files → IsStopCause stop shelf-rose failed sink-rose (solve name budget workers true) files
-  proof_read_cause shelf-rose failed sink-rose files stops.Usage h = h
-  proof_read_cause shelf-rose failed sink-rose files (stops.Refused why) h = told_also files _ _ (λ fs k. k) h
-  proof_read_cause shelf-rose failed sink-rose files (stops.Unfinished level limit) h = absurd h
-  proof_read_cause shelf-rose failed sink-rose files stops.ReadFault h = h
-  proof_read_cause shelf-rose failed sink-rose files stops.WriteFault h = absurd h
-  proof_read_cause shelf-rose failed sink-rose files stops.Memory h = tt
+-- ---- the listing of a file with its proof is a valid report
+module _ (name : Word) (budget workers : ℕ) (m : System) (files : Option (List File)) (read : IfSome files (OfOneFile (IsTextOf m))) (valid : IsValid m) (named : IsSystemNamed m) where
+  proved : (bytes text : List ℕ) → IsTextOf m bytes → IsWithinBudget IsProvedListing Solve budget text m → IsWithinBudget (IsSolution true) Solve budget text m
+  proved bytes text is listed = (
+    listed.0,
+    record {
+      listing = listed.1;
+      valid = λ few. proved_listings_valid m (length bytes) text valid named (let short = is.fits in omega (arith, short)) (defaults-short bytes m is.spelled) few listed.1;
+    },
+  )
 
-  module _ (m : System) (files : Option (List File)) (read : IfSome files (OfOneFile (IsTextOf m))) where
-    solution_stage : (before now : Option (List ℕ)) → PrintsFront (IsSolutionStage true m) before now → IfSome files (WritesStage before now (solve name budget workers true))
-    solution_stage before now p = told_also files _ _ (λ fs h. record {
-      text = p.text;
-      holds = of_file (IsTextOf m) (OfSystem (λ n. IsSolutionStage true n p.text)) (λ bytes spelled. (m, spelled, p.holds)) fs h;
-      front = p.front;
-    }) read
-
-    proved : IsValid m → IsSystemNamed m → (bytes text : List ℕ) → IsTextOf m bytes → IsListedProved budget text m → IsSolved true budget text m
-    proved valid named bytes text spelled listed = (
-      listed.0,
-      record {
-        listing = listed.1;
-        valid = λ few. proved_listings_valid m (length bytes) text valid named (let short = spelled.fits in omega (arith, short)) (defaults-short bytes m spelled.spelled) few listed.1;
-      },
-    )
-
-    pub file_proved : IsValid m → IsSystemNamed m → (before now : Option (List ℕ)) (r : Result (Unit {0}) Stop) → OnOk r (Prints (λ text. IsListedProved budget text m) before now) → OnOk r (IfSome files (WritesOutput before now (solve name budget workers true)))
-    file_proved valid named before now (Err stop) p = tt
-    file_proved valid named before now (Ok x) p = told_also files _ _ (λ fs h. record {
-      text = p.text;
-      holds = of_file (IsTextOf m) (OfSystem (IsSolved true budget p.text)) (λ bytes spelled. (m, spelled, proved valid named bytes p.text spelled p.holds)) fs h;
-      written = p.written;
-    }) read
-
-    proof_cause : (shelf-rose failed sink-rose : Type 0) (before now : Option (List ℕ)) (stop : Stop) → StopsProof stop budget m sink-rose before now → IsStopCause stop shelf-rose failed sink-rose (solve name budget workers true) files
-    proof_cause shelf-rose failed sink-rose before now stops.Usage h = h
-    proof_cause shelf-rose failed sink-rose before now (stops.Refused why) h = absurd h
-    proof_cause shelf-rose failed sink-rose before now (stops.Unfinished level limit) h = h.0
-    proof_cause shelf-rose failed sink-rose before now stops.ReadFault h = absurd h
-    proof_cause shelf-rose failed sink-rose before now stops.WriteFault h = h.0
-    proof_cause shelf-rose failed sink-rose before now stops.Memory h = tt
-
-    proof_left : (sink-rose : Type 0) (before now : Option (List ℕ)) (stop : Stop) → StopsProof stop budget m sink-rose before now → LeavesText stop (solve name budget workers true) files before now
-    proof_left sink-rose before now stops.Usage h = absurd h
-    proof_left sink-rose before now (stops.Refused why) h = absurd h
-    proof_left sink-rose before now (stops.Unfinished level limit) h = told_also files _ _ (λ fs k. record {
-      text = h.1.text;
-      holds = of_file (IsTextOf m) (OfSystem (IsListedBefore Solve budget level h.1.text)) (λ bytes spelled. (m, spelled, h.1.holds)) fs k;
-      written = h.1.written;
-    }) read
-    proof_left sink-rose before now stops.ReadFault h = absurd h
-    proof_left sink-rose before now stops.WriteFault h = solution_stage before now h.1
-    proof_left sink-rose before now stops.Memory h = inr (solution_stage before now h)
-
-    pub proof_causes : (shelf-rose failed sink-rose : Type 0) (before now : Option (List ℕ)) (r : Result (Unit {0}) Stop) → IfErr r (λ stop. StopsProof stop budget m sink-rose before now)
-        → IfErr r (λ stop. IsStopCause stop shelf-rose failed sink-rose (solve name budget workers true) files)
-    proof_causes shelf-rose failed sink-rose before now (Ok x) h = tt
-    proof_causes shelf-rose failed sink-rose before now (Err stop) h = proof_cause shelf-rose failed sink-rose before now stop h
-
-    pub proof_leaves : (sink-rose : Type 0) (before now : Option (List ℕ)) (r : Result (Unit {0}) Stop) → IfErr r (λ stop. StopsProof stop budget m sink-rose before now)
-        → IfErr r (λ stop. LeavesText stop (solve name budget workers true) files before now)
-    proof_leaves sink-rose before now (Ok x) h = tt
-    proof_leaves sink-rose before now (Err stop) h = proof_left sink-rose before now stop h
+  pub file_proved : (before now : Option (List ℕ)) (r : Result (Unit {0}) Stop) → OnOk r (Prints (λ text. IsWithinBudget IsProvedListing Solve budget text m) before now)
+      → OnOk r (IfSome files (WritesOutput before now (meaning (solve name budget workers true))))
+  file_proved before now (Err stop) p = tt
+  file_proved before now (Ok x) p = told_also files _ _ (λ fs h. record {
+    text = p.text;
+    holds = of_file (IsTextOf m) (OfSystem (IsWithinBudget (IsSolution true) Solve budget p.text)) (λ bytes is. (m, is, proved bytes p.text is p.holds)) fs h;
+    written = p.written;
+  }) read
 
 -- ---- after the evaluation of a system
 module _ (m : System) (budget : ℕ) (oracles : List OracleState) (before mid : Option (List ℕ)) (h : HasListed Solve budget true m oracles before mid) where
   pub listed_asked : AreAsked m h.whole.level oracles
   listed_asked = subst (λ (os : List OracleState). AreAsked m h.whole.level os) h.oracles_are (solvers_asked m budget h.first h.state h.fresh h.rest before mid h.whole h.keeps)
 
-  pub listed_proved : (now : Option (List ℕ)) (r : Result (Unit {0}) Stop) → OnOk r (HasProved m h.whole.level mid now) → OnOk r (Prints (λ text. IsListedProved budget text m) before now)
+  pub listed_proved : (now : Option (List ℕ)) (r : Result (Unit {0}) Stop) → OnOk r (HasProved m h.whole.level mid now) → OnOk r (Prints (λ text. IsWithinBudget IsProvedListing Solve budget text m) before now)
   listed_proved now r p = proof_done m budget h.first h.state h.fresh h.rest before mid h.whole now r p
 
   pub listed_stops : (first middle last : ℕ) → first ≤ middle → (now : Option (List ℕ)) (r : Result (Unit {0}) Stop) → IfErr r (λ stop. StopsAnswers stop m h.whole.level (Rose middle last) mid now)
-      → IfErr r (λ stop. StopsProof stop budget m (Rose first last) before now)
+      → IfErr r (λ stop. StopsStages (IsSolutionStage true) stop Solve budget m (Rose first last) before now)
   listed_stops first middle last up now r stops = proof_stops m budget h.first h.state h.fresh h.rest before mid h.whole first middle last up now r stops

@@ -1,4 +1,4 @@
--- A job that can be done is refused for nothing, lacks no file, and does not stop at a level.
+-- What of a job excludes what: one that can be done is refused for nothing, lacks no file, and does not stop at a level.
 use Rattle.std.proofs.Common.{◌≡◌, ℕ, zero, suc, Bool, true, false, List, [], ◌∷◌, Option, Some, None, inl, inr, subst}
 use Rattle.std.proofs.lemmas.List.{append-nil}
 use Rattle.mcs_ports.specs.Pieces.{appended}
@@ -8,18 +8,18 @@ use Rattle.mcs_reader.proofs.Unambiguous.{texts-unambiguous}
 use Rattle.mcs_grammar.proofs.OneFault.{no-fault}
 use Rattle.mcs_report.specs.Solutions.{first, below}
 use Rattle.mcs_generator.specs.Generated.{generated_system}
-use Rattle.mcs_work.specs.Tasks.{IsTaskStage, IsTaskUpTo}
+use Rattle.mcs_work.specs.Tasks.{IsTaskText, IsTaskStage, IsTaskUpTo}
 use Rattle.mcs_work.specs.declared.task.Task.{Task}
 use Rattle.mcs_work.specs.declared.task.Task.TheVariants.{Equilibria, Solve, Make}
-use Rattle.mcs_words.specs.Commands.{Request, equilibria, solve, check, make}
+use Rattle.mcs_words.specs.Commands.{Word, Request, equilibria, solve, check, make}
 use Rattle.mcs_check.specs.Validity.{IsValidReport}
 use Rattle.mcs_listing.specs.Jobs.{File, OfOneFile, OfFirstFile, OfTwoFiles, LacksOneOfTwo}
 use Rattle.mcs_listing.specs.Texts.{IsTextOf, IsRefusedFor}
-use Rattle.mcs_top.specs.Promise.{OfReport, IsReportTooLong, IsToldValid, IsToldFailing, FailsATest, IsSolved, IsSolutionStage, IsOutput, IsRejection, IsOutputBeyond, IsStage, LacksBudget, IsRefusal, IsCheckRefusal, LacksFile, CanBeDone, CanBeRejected}
-use Rattle.mcs_listing.specs.Listings.{Suffices, IsShort, OfSystem, IsListingText, IsListedBefore}
+use Rattle.mcs_top.specs.Meaning.{JobMeaning, OfReport, IsReportTooLong, IsToldValid, IsToldFailing, FailsATest, IsSolution, IsSolutionStage, IsCheckRefusal, IsWithinBudget, file_job, report_job, made_job, meaning}
+use Rattle.mcs_listing.specs.Listings.{Suffices, IsShort, OfSystem, IsListedBefore}
 use Rattle.mcs_listing.specs.declared.ending.Refusal.{Refusal}
 use Rattle.mcs_listing.specs.declared.ending.Refusal.TheVariants as refusals
-use Rattle.mcs_listing.proofs.JobLemmas.{apart_of_file, of_file, apart_of_two, apart_of_first}
+use Rattle.mcs_listing.proofs.JobLemmas.{apart_of_file, of_file, of_two, apart_of_two, apart_of_first}
 
 -- a text that was written whole is a front of itself
 pub whole_front : (text : List ℕ) (before now : Option (List ℕ)) → now ≡ appended before text → WritesFront text before now
@@ -45,23 +45,18 @@ up_to_stage Solve m zero text is = first is
 up_to_stage Solve m (suc level) text h = below (suc level) h
 up_to_stage Make m level text is = inl is
 
+-- also of the whole listing, with its proof or not
+solution_up_to : (proof : Bool) (m : System) (level : ℕ) (text : List ℕ) → IsTaskUpTo Solve m level text → IsSolutionStage proof m text
+solution_up_to false m level text is = up_to_stage Solve m level text is
+solution_up_to true m level text is = inl (up_to_stage Solve m level text is)
+
+-- a budget can't both suffice and not
 module _ (task : Task) (budget : ℕ) (m : System) where
   short_apart : Suffices task budget m → IsShort task budget m → ⊥
   short_apart suffices short = suffices short.level short.taken short.beyond
 
-  listed_short : (text : List ℕ) → IsListingText task budget text m → IsShort task budget m → ⊥
-  listed_short text listed short = short_apart listed.0 short
-
   before_apart : (level : ℕ) (text : List ℕ) → Suffices task budget m → IsListedBefore task budget level text m → ⊥
   before_apart level text suffices before = suffices level before.0.taken before.0.beyond
-
-  before_stage : (level : ℕ) (text : List ℕ) → IsListedBefore task budget level text m → IsTaskStage task m text
-  before_stage level text before = up_to_stage task m level text before.1
-
--- the stages of a whole listing, with its proof or not
-solution_before : (proof : Bool) (budget level : ℕ) (m : System) (text : List ℕ) → IsListedBefore Solve budget level text m → IsSolutionStage proof m text
-solution_before false budget level m text before = before_stage Solve budget m level text before
-solution_before true budget level m text before = inl (before_stage Solve budget m level text before)
 
 -- ---- a report on the system of a file
 -- it is refused for nothing
@@ -98,126 +93,109 @@ check_refusal_not_missing (refusals.Text number offset limit) files = first_lack
 missing : (P : List ℕ → Type 0) (files : List File) → files ≡ None ∷ [] → OfOneFile P files → ⊥
 missing P files is h = subst (OfOneFile P) is h
 
--- ---- by cases of the job
-pub output_not_refused : (text : List ℕ) (why : Refusal) (job : Request) (files : List File) → IsOutput text job files → IsRefusal why job files → ⊥
-output_not_refused text why (equilibria file budget workers) files h k = of_system_apart (IsListingText Equilibria budget text) why files h k
-output_not_refused text why (solve file budget workers proof) files h k = of_system_apart (IsSolved proof budget text) why files h k
-output_not_refused text why (check file report) files h k = report_not_refused (IsToldValid text) why files h k
-output_not_refused text why (make number budget workers) files h k = k
+-- ---- what a job keeps apart
+-- the files of which it may print something are there and refused for nothing, and so on
+pub record KeepsApart (job : JobMeaning) : Type 1 where
+  -- its files are there, and of the kind that it reads
+  pub fits : List File → Type 0
+  pub output_fits : (text : List ℕ) (files : List File) → job.output text files → fits files
+  pub rejection_fits : (text : List ℕ) (files : List File) → job.rejection text files → fits files
+  pub stage_fits : (text : List ℕ) (files : List File) → job.stage text files → fits files
+  pub beyond_fits : (text : List ℕ) (level : ℕ) (files : List File) → job.beyond text level files → fits files
+  pub short_fits : (files : List File) → job.short files → fits files
+  pub possible_fits : (files : List File) → job.possible files → fits files
+  pub invalid_fits : (files : List File) → job.invalid files → fits files
+  -- then it is refused for nothing, and lacks none; and one that is refused lacks none
+  pub not_refused : (why : Refusal) (files : List File) → fits files → job.refusal why files → ⊥
+  pub not_lacking : (files : List File) → fits files → job.lacking files → ⊥
+  pub refusal_not_lacking : (why : Refusal) (files : List File) → job.refusal why files → job.lacking files → ⊥
+  -- what stops at a level is neither done nor rejected
+  pub output_not_short : (text : List ℕ) (files : List File) → job.output text files → job.short files → ⊥
+  pub rejection_not_short : (text : List ℕ) (files : List File) → job.rejection text files → job.short files → ⊥
+  pub possible_not_beyond : (text : List ℕ) (level : ℕ) (files : List File) → job.possible files → job.beyond text level files → ⊥
+  pub invalid_not_beyond : (text : List ℕ) (level : ℕ) (files : List File) → job.invalid files → job.beyond text level files → ⊥
+  -- what is printed before a level is a stage
+  pub beyond_is_stage : (text : List ℕ) (level : ℕ) (files : List File) → job.beyond text level files → job.stage text files
 
-pub output_not_short : (text : List ℕ) (job : Request) (files : List File) → IsOutput text job files → LacksBudget job files → ⊥
-output_not_short text (equilibria file budget workers) files h k = two_systems_apart (IsListingText Equilibria budget text) (IsShort Equilibria budget) (λ m. listed_short Equilibria budget m text) files h k
-output_not_short text (solve file budget workers proof) files h k = two_systems_apart (IsSolved proof budget text) (IsShort Solve budget) (λ m solved short. short_apart Solve budget m solved.0 short) files h k
-output_not_short text (check file report) files h k = k
-output_not_short text (make number budget workers) files h k = listed_short Make budget (generated_system number) h.0 h.1 k
+-- ---- a job for the system of one file
+abbrev AnySystem : System → Type 0
+AnySystem m = Unit {0}
 
-pub stage_not_refused : (text : List ℕ) (why : Refusal) (job : Request) (files : List File) → IsStage text job files → IsRefusal why job files → ⊥
-stage_not_refused text why (equilibria file budget workers) files h k = of_system_apart (λ m. IsTaskStage Equilibria m text) why files h k
-stage_not_refused text why (solve file budget workers proof) files h k = of_system_apart (λ m. IsSolutionStage proof m text) why files h k
-stage_not_refused text why (check file report) files (inl h) k = report_not_refused (IsToldValid text) why files h k
-stage_not_refused text why (check file report) files (inr h) k = report_not_refused (IsToldFailing text) why files h k
-stage_not_refused text why (make number budget workers) files h k = k
+any_system : (P : System → Type 0) (files : List File) → OfOneFile (OfSystem P) files → OfOneFile (OfSystem AnySystem) files
+any_system P files = of_file (OfSystem P) (OfSystem AnySystem) (λ bytes (m, read, holds). (m, read, tt)) files
 
-pub beyond_not_refused : (text : List ℕ) (level : ℕ) (why : Refusal) (job : Request) (files : List File) → IsOutputBeyond text level job files → IsRefusal why job files → ⊥
-beyond_not_refused text level why (equilibria file budget workers) files h k = of_system_apart (IsListedBefore Equilibria budget level text) why files h k
-beyond_not_refused text level why (solve file budget workers proof) files h k = of_system_apart (IsListedBefore Solve budget level text) why files h k
-beyond_not_refused text level why (check file report) files h k = h
-beyond_not_refused text level why (make number budget workers) files h k = k
+file_apart : (IsText IsPart : System → List ℕ → Type 0) (task : Task) → ((m : System) (level : ℕ) (text : List ℕ) → IsTaskUpTo task m level text → IsPart m text) → (file : Word) (budget workers : ℕ)
+    → KeepsApart (file_job IsText IsPart task file budget workers)
+file_apart IsText IsPart task up_to file budget workers = record {
+  fits = OfOneFile (OfSystem AnySystem);
+  output_fits = λ text files h. any_system (IsWithinBudget IsText task budget text) files h;
+  rejection_fits = λ text files h. absurd h;
+  stage_fits = λ text files h. any_system (λ m. IsPart m text) files h;
+  beyond_fits = λ text level files h. any_system (IsListedBefore task budget level text) files h;
+  short_fits = λ files h. any_system (IsShort task budget) files h;
+  possible_fits = λ files h. any_system (Suffices task budget) files h;
+  invalid_fits = λ files h. absurd h;
+  not_refused = λ why files h k. of_system_apart AnySystem why files h k;
+  not_lacking = λ files h k. missing (OfSystem AnySystem) files k h;
+  refusal_not_lacking = λ why files h k. missing (IsRefusedFor why) files k h;
+  output_not_short = λ text files h k. two_systems_apart (IsWithinBudget IsText task budget text) (IsShort task budget) (λ m printed short. short_apart task budget m printed.0 short) files h k;
+  rejection_not_short = λ text files h k. h;
+  possible_not_beyond = λ text level files h k. two_systems_apart (Suffices task budget) (IsListedBefore task budget level text) (λ m. before_apart task budget m level text) files h k;
+  invalid_not_beyond = λ text level files h k. h;
+  beyond_is_stage = λ text level files h. of_file (OfSystem (IsListedBefore task budget level text)) (OfSystem (λ m. IsPart m text)) (λ bytes (m, read, before). (m, read, up_to m level text before.1)) files h;
+}
 
-pub short_not_refused : (why : Refusal) (job : Request) (files : List File) → LacksBudget job files → IsRefusal why job files → ⊥
-short_not_refused why (equilibria file budget workers) files h k = of_system_apart (IsShort Equilibria budget) why files h k
-short_not_refused why (solve file budget workers proof) files h k = of_system_apart (IsShort Solve budget) why files h k
-short_not_refused why (check file report) files h k = h
-short_not_refused why (make number budget workers) files h k = k
+-- ---- a job that checks a report
+abbrev AnyReport : System → List ℕ → Type 0
+AnyReport m report = Unit {0}
 
-pub beyond_is_stage : (text : List ℕ) (level : ℕ) (job : Request) (files : List File) → IsOutputBeyond text level job files → IsStage text job files
-beyond_is_stage text level (equilibria file budget workers) files h = of_file (OfSystem (IsListedBefore Equilibria budget level text)) (OfSystem (λ m. IsTaskStage Equilibria m text)) (λ bytes (m, read, before). (m, read, before_stage Equilibria budget m level text before)) files h
-beyond_is_stage text level (solve file budget workers proof) files h = of_file (OfSystem (IsListedBefore Solve budget level text)) (OfSystem (λ m. IsSolutionStage proof m text)) (λ bytes (m, read, before). (m, read, solution_before proof budget level m text before)) files h
-beyond_is_stage text level (check file report) files h = absurd h
-beyond_is_stage text level (make number budget workers) files h = (h.0, before_stage Make budget (generated_system number) level h.0 h.1, h.2)
+any_report : (P : System → List ℕ → Type 0) (files : List File) → OfTwoFiles (OfReport P) files → OfTwoFiles (OfReport AnyReport) files
+any_report P files = of_two (OfReport P) (OfReport AnyReport) (λ bytes more (m, read, few, holds). (m, read, few, tt)) files
 
-pub can_not_refused : (why : Refusal) (job : Request) (files : List File) → CanBeDone job files → IsRefusal why job files → ⊥
-can_not_refused why (equilibria file budget workers) files h k = of_system_apart (Suffices Equilibria budget) why files h k
-can_not_refused why (solve file budget workers proof) files h k = of_system_apart (Suffices Solve budget) why files h k
-can_not_refused why (check file report) files h k = report_not_refused IsValidReport why files h k
-can_not_refused why (make number budget workers) files h k = k
+report_apart : (IsTold : List ℕ → System → List ℕ → Type 0) (file report : Word) → KeepsApart (report_job IsTold file report)
+report_apart IsTold file report = record {
+  fits = OfTwoFiles (OfReport AnyReport);
+  output_fits = λ text files h. any_report (IsTold text) files h;
+  rejection_fits = λ text files h. any_report (IsToldFailing text) files h;
+  stage_fits = λ text files h. elim h [ inl told ↦ any_report (IsTold text) files told | inr failing ↦ any_report (IsToldFailing text) files failing ];
+  beyond_fits = λ text level files h. absurd h;
+  short_fits = λ files h. absurd h;
+  possible_fits = λ files h. any_report IsValidReport files h;
+  invalid_fits = λ files h. any_report FailsATest files h;
+  not_refused = λ why files h k. report_not_refused AnyReport why files h k;
+  not_lacking = λ files h k. both_there (OfReport AnyReport) (λ bytes. (m : System) × IsTextOf m bytes) files h k;
+  refusal_not_lacking = λ why files h k. check_refusal_not_missing why files h k;
+  output_not_short = λ text files h k. k;
+  rejection_not_short = λ text files h k. k;
+  possible_not_beyond = λ text level files h k. k;
+  invalid_not_beyond = λ text level files h k. k;
+  beyond_is_stage = λ text level files h. absurd h;
+}
 
-pub can_not_beyond : (text : List ℕ) (level : ℕ) (job : Request) (files : List File) → CanBeDone job files → IsOutputBeyond text level job files → ⊥
-can_not_beyond text level (equilibria file budget workers) files h k = two_systems_apart (Suffices Equilibria budget) (IsListedBefore Equilibria budget level text) (λ m. before_apart Equilibria budget m level text) files h k
-can_not_beyond text level (solve file budget workers proof) files h k = two_systems_apart (Suffices Solve budget) (IsListedBefore Solve budget level text) (λ m. before_apart Solve budget m level text) files h k
-can_not_beyond text level (check file report) files h k = k
-can_not_beyond text level (make number budget workers) files h k = before_apart Make budget (generated_system number) level k.0 h k.1
+-- ---- a generated system, which is of no file
+made_apart : (number budget workers : ℕ) → KeepsApart (made_job number budget workers)
+made_apart number budget workers = record {
+  fits = λ files. Unit {0};
+  output_fits = λ text files h. tt;
+  rejection_fits = λ text files h. tt;
+  stage_fits = λ text files h. tt;
+  beyond_fits = λ text level files h. tt;
+  short_fits = λ files h. tt;
+  possible_fits = λ files h. tt;
+  invalid_fits = λ files h. tt;
+  not_refused = λ why files h k. k;
+  not_lacking = λ files h k. k;
+  refusal_not_lacking = λ why files h k. k;
+  output_not_short = λ text files h k. short_apart Make budget (generated_system number) h.1.0 k;
+  rejection_not_short = λ text files h k. h;
+  possible_not_beyond = λ text level files h k. before_apart Make budget (generated_system number) level k.0 h k.1;
+  invalid_not_beyond = λ text level files h k. h;
+  beyond_is_stage = λ text level files h. (h.0, up_to_stage Make (generated_system number) level h.0 h.1.1, h.2);
+}
 
-pub output_not_missing : (text : List ℕ) (job : Request) (files : List File) → IsOutput text job files → LacksFile job files → ⊥
-output_not_missing text (equilibria file budget workers) files h is = missing _ files is h
-output_not_missing text (solve file budget workers proof) files h is = missing _ files is h
-output_not_missing text (check file report) files h k = both_there (OfReport (IsToldValid text)) (λ bytes. (m : System) × IsTextOf m bytes) files h k
-output_not_missing text (make number budget workers) files h k = k
-
-pub stage_not_missing : (text : List ℕ) (job : Request) (files : List File) → IsStage text job files → LacksFile job files → ⊥
-stage_not_missing text (equilibria file budget workers) files h is = missing _ files is h
-stage_not_missing text (solve file budget workers proof) files h is = missing _ files is h
-stage_not_missing text (check file report) files (inl h) k = both_there (OfReport (IsToldValid text)) (λ bytes. (m : System) × IsTextOf m bytes) files h k
-stage_not_missing text (check file report) files (inr h) k = both_there (OfReport (IsToldFailing text)) (λ bytes. (m : System) × IsTextOf m bytes) files h k
-stage_not_missing text (make number budget workers) files h k = k
-
-pub beyond_not_missing : (text : List ℕ) (level : ℕ) (job : Request) (files : List File) → IsOutputBeyond text level job files → LacksFile job files → ⊥
-beyond_not_missing text level (equilibria file budget workers) files h is = missing _ files is h
-beyond_not_missing text level (solve file budget workers proof) files h is = missing _ files is h
-beyond_not_missing text level (check file report) files h k = h
-beyond_not_missing text level (make number budget workers) files h k = k
-
-pub refusal_not_missing : (why : Refusal) (job : Request) (files : List File) → IsRefusal why job files → LacksFile job files → ⊥
-refusal_not_missing why (equilibria file budget workers) files h is = missing _ files is h
-refusal_not_missing why (solve file budget workers proof) files h is = missing _ files is h
-refusal_not_missing why (check file report) files h k = check_refusal_not_missing why files h k
-refusal_not_missing why (make number budget workers) files h k = k
-
-pub can_not_missing : (job : Request) (files : List File) → CanBeDone job files → LacksFile job files → ⊥
-can_not_missing (equilibria file budget workers) files h is = missing _ files is h
-can_not_missing (solve file budget workers proof) files h is = missing _ files is h
-can_not_missing (check file report) files h k = both_there (OfReport IsValidReport) (λ bytes. (m : System) × IsTextOf m bytes) files h k
-can_not_missing (make number budget workers) files h k = k
-
-pub short_not_missing : (job : Request) (files : List File) → LacksBudget job files → LacksFile job files → ⊥
-short_not_missing (equilibria file budget workers) files h is = missing _ files is h
-short_not_missing (solve file budget workers proof) files h is = missing _ files is h
-short_not_missing (check file report) files h k = h
-short_not_missing (make number budget workers) files h k = k
-
--- ---- that a report is not valid
-pub rejection_not_refused : (text : List ℕ) (why : Refusal) (job : Request) (files : List File) → IsRejection text job files → IsRefusal why job files → ⊥
-rejection_not_refused text why (equilibria file budget workers) files h k = h
-rejection_not_refused text why (solve file budget workers proof) files h k = h
-rejection_not_refused text why (check file report) files h k = report_not_refused (IsToldFailing text) why files h k
-rejection_not_refused text why (make number budget workers) files h k = h
-
-pub rejection_not_short : (text : List ℕ) (job : Request) (files : List File) → IsRejection text job files → LacksBudget job files → ⊥
-rejection_not_short text (equilibria file budget workers) files h k = h
-rejection_not_short text (solve file budget workers proof) files h k = h
-rejection_not_short text (check file report) files h k = k
-rejection_not_short text (make number budget workers) files h k = h
-
-pub rejection_not_missing : (text : List ℕ) (job : Request) (files : List File) → IsRejection text job files → LacksFile job files → ⊥
-rejection_not_missing text (equilibria file budget workers) files h k = h
-rejection_not_missing text (solve file budget workers proof) files h k = h
-rejection_not_missing text (check file report) files h k = both_there (OfReport (IsToldFailing text)) (λ bytes. (m : System) × IsTextOf m bytes) files h k
-rejection_not_missing text (make number budget workers) files h k = h
-
-pub rejected_not_refused : (why : Refusal) (job : Request) (files : List File) → CanBeRejected job files → IsRefusal why job files → ⊥
-rejected_not_refused why (equilibria file budget workers) files h k = h
-rejected_not_refused why (solve file budget workers proof) files h k = h
-rejected_not_refused why (check file report) files h k = report_not_refused FailsATest why files h k
-rejected_not_refused why (make number budget workers) files h k = h
-
-pub rejected_not_beyond : (text : List ℕ) (level : ℕ) (job : Request) (files : List File) → CanBeRejected job files → IsOutputBeyond text level job files → ⊥
-rejected_not_beyond text level (equilibria file budget workers) files h k = h
-rejected_not_beyond text level (solve file budget workers proof) files h k = h
-rejected_not_beyond text level (check file report) files h k = k
-rejected_not_beyond text level (make number budget workers) files h k = h
-
-pub rejected_not_missing : (job : Request) (files : List File) → CanBeRejected job files → LacksFile job files → ⊥
-rejected_not_missing (equilibria file budget workers) files h k = h
-rejected_not_missing (solve file budget workers proof) files h k = h
-rejected_not_missing (check file report) files h k = both_there (OfReport FailsATest) (λ bytes. (m : System) × IsTextOf m bytes) files h k
-rejected_not_missing (make number budget workers) files h k = h
+-- ---- each job; one to come adds its case here
+pub apart : (job : Request) → KeepsApart (meaning job)
+apart (equilibria file budget workers) = file_apart (IsTaskText Equilibria) (IsTaskStage Equilibria) Equilibria (up_to_stage Equilibria) file budget workers
+apart (solve file budget workers proof) = file_apart (IsSolution proof) (IsSolutionStage proof) Solve (solution_up_to proof) file budget workers
+apart (check file report) = report_apart IsToldValid file report
+apart (make number budget workers) = made_apart number budget workers

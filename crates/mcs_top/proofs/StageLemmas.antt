@@ -1,22 +1,21 @@
 -- What a job leaves that lists the system of a file or a generated one, and why it stops.
-use Rattle.std.proofs.Common.{◌≡◌, ℕ, true, false, List, [], ◌∷◌, Option, Some, None, Result, Ok, Err, IfSome, IfOk, IfErr, OnOk, inl, inr, ◌⊎◌, refl, sym, ◌∙◌, subst}
+use Rattle.std.proofs.Common.{ℕ, List, [], Option, Some, None, Result, Ok, Err, IfSome, IfOk, IfErr, OnOk, inl, inr, refl}
 use Rattle.mcs_system.specs.Plain.{System}
-use Rattle.mcs_work.specs.Tasks.{IsTaskStage}
 use Rattle.mcs_work.specs.declared.task.Task.{Task}
-use Rattle.mcs_work.specs.declared.task.Task.TheVariants.{Equilibria, Solve, Make}
-use Rattle.mcs_words.specs.Commands.{Word, Request, equilibria, solve, check, make}
+use Rattle.mcs_work.specs.declared.task.Task.TheVariants.{Make}
+use Rattle.mcs_words.specs.Commands.{Word}
 use Rattle.mcs_listing.specs.Jobs.{File, OfOneFile}
-use Rattle.mcs_listing.specs.Texts.{IsTextOf, IsRefusedFor, StopsReading}
-use Rattle.mcs_top.specs.Promise.{IsOutput, IsOutputBeyond, IsStage, WritesOutput, WritesStage, LacksFile, CannotBeRead, IsStopCause, LeavesText, IsRefusal, ListsFile, budget_of, Excludes, EndsSo, as_done}
-use Rattle.mcs_listing.specs.Listings.{OfSystem, IsListingText, IsListedBefore, AfterNumber, Prints, PrintsFront, StopsWork, StopsGenerated}
+use Rattle.mcs_listing.specs.Texts.{IsTextOf, StopsReading}
+use Rattle.mcs_top.specs.Meaning.{JobMeaning, IsWithinBudget, file_job, made_job}
+use Rattle.mcs_top.specs.Promise.{WritesOutput, WritesStage, IsStopCause, LeavesText, Excludes, EndsSo, as_done}
+use Rattle.mcs_listing.specs.Listings.{OfSystem, IsListingText, IsListedBefore, AfterNumber, Prints, PrintsFront, StopsStages, StopsGenerated}
 use Rattle.mcs_top.specs.declared.outcome.Outcome.TheVariants as outcomes
-use Rattle.mcs_listing.specs.declared.ending.Refusal.{Refusal}
 use Rattle.mcs_listing.specs.declared.ending.Stop.{Stop}
 use Rattle.mcs_listing.specs.declared.ending.Stop.TheVariants as stops
 use Rattle.mcs_listing.proofs.JobLemmas.{told_also, of_file}
 
 -- ---- a file that could not be read, whatever the job
-pub read_left : (job : Request) (shelf-rose failed : Type 0) (told files : Option (List File)) (now : Option (List ℕ)) (stop : Stop) → StopsReading stop shelf-rose failed told → LeavesText stop job files now now
+pub read_left : (job : JobMeaning) (shelf-rose failed : Type 0) (told files : Option (List File)) (now : Option (List ℕ)) (stop : Stop) → StopsReading stop shelf-rose failed told → LeavesText stop job files now now
 read_left job shelf-rose failed told files now stops.Usage h = refl
 read_left job shelf-rose failed told files now (stops.Refused why) h = refl
 read_left job shelf-rose failed told files now (stops.Unfinished level limit) h = absurd h
@@ -24,134 +23,64 @@ read_left job shelf-rose failed told files now stops.ReadFault h = refl
 read_left job shelf-rose failed told files now stops.WriteFault h = absurd h
 read_left job shelf-rose failed told files now stops.Memory h = inl refl
 
--- ---- a job that lists the system of a file
-same_task : (P : Task → ℕ → Type 0) (task due : Task) (budget most : ℕ) → task ≡ due → budget ≡ most → P task most → P due budget
-same_task P task due budget most is own h = subst (λ (t : Task). P t budget) is (subst (λ (n : ℕ). P task n) (sym own) h)
+-- what holds of the system that was read holds of the one that the file spells
+pub spelled : (m : System) (files : Option (List File)) → IfSome files (OfOneFile (IsTextOf m)) → (P : System → Type 0) → P m → IfSome files (OfOneFile (OfSystem P))
+spelled m files read P holds = told_also files (OfOneFile (IsTextOf m)) (OfOneFile (OfSystem P)) (of_file (IsTextOf m) (OfSystem P) (λ bytes is. (m, is, holds))) read
 
-module _ (job : Request) (task : Task) (name : Word) (most : ℕ) (lists : ListsFile job task name most) where
-  output_of : (text : List ℕ) (files : List File) → OfOneFile (OfSystem (IsListingText task most text)) files → IsOutput text job files
-  output_of text files = at job lists
-    where
-      at : (j : Request) → ListsFile j task name most → OfOneFile (OfSystem (IsListingText task most text)) files → IsOutput text j files
-      at (equilibria file budget workers) (is, same, own) h = same_task (λ t n. OfOneFile (OfSystem (IsListingText t n text)) files) task Equilibria budget most is own h
-      at (solve file budget workers false) (is, same, own) h = same_task (λ t n. OfOneFile (OfSystem (IsListingText t n text)) files) task Solve budget most is own h
-      at (solve file budget workers true) is h = absurd is
-      at (check file report) is h = absurd is
-      at (make number budget workers) is h = absurd is
+-- ---- a job for the system of one file
+module _ (IsText IsPart : System → List ℕ → Type 0) (task : Task) (name : Word) (budget workers : ℕ) where
+  abbrev means : JobMeaning
+  means = file_job IsText IsPart task name budget workers
 
-  stage_of : (text : List ℕ) (files : List File) → OfOneFile (OfSystem (λ n. IsTaskStage task n text)) files → IsStage text job files
-  stage_of text files = at job lists
-    where
-      at : (j : Request) → ListsFile j task name most → OfOneFile (OfSystem (λ n. IsTaskStage task n text)) files → IsStage text j files
-      at (equilibria file budget workers) (is, same, own) h = same_task (λ t k. OfOneFile (OfSystem (λ n. IsTaskStage t n text)) files) task Equilibria budget most is own h
-      at (solve file budget workers false) (is, same, own) h = same_task (λ t k. OfOneFile (OfSystem (λ n. IsTaskStage t n text)) files) task Solve budget most is own h
-      at (solve file budget workers true) is h = absurd is
-      at (check file report) is h = absurd is
-      at (make number budget workers) is h = absurd is
-
-  beyond_of : (text : List ℕ) (level : ℕ) (files : List File) → OfOneFile (OfSystem (IsListedBefore task most level text)) files → IsOutputBeyond text level job files
-  beyond_of text level files = at job lists
-    where
-      at : (j : Request) → ListsFile j task name most → OfOneFile (OfSystem (IsListedBefore task most level text)) files → IsOutputBeyond text level j files
-      at (equilibria file budget workers) (is, same, own) h = same_task (λ t n. OfOneFile (OfSystem (IsListedBefore t n level text)) files) task Equilibria budget most is own h
-      at (solve file budget workers false) (is, same, own) h = same_task (λ t n. OfOneFile (OfSystem (IsListedBefore t n level text)) files) task Solve budget most is own h
-      at (solve file budget workers true) is h = absurd is
-      at (check file report) is h = absurd is
-      at (make number budget workers) is h = absurd is
-
-  own_budget : most ≡ budget_of job
-  own_budget = at job lists
-    where
-      at : (j : Request) → ListsFile j task name most → most ≡ budget_of j
-      at (equilibria file budget workers) (is, same, own) = sym own
-      at (solve file budget workers false) (is, same, own) = sym own
-      at (solve file budget workers true) is = absurd is
-      at (check file report) is = absurd is
-      at (make number budget workers) is = absurd is
-
-  refusal_of : (why : Refusal) (files : List File) → OfOneFile (IsRefusedFor why) files → IsRefusal why job files
-  refusal_of why files = at job lists
-    where
-      at : (j : Request) → ListsFile j task name most → OfOneFile (IsRefusedFor why) files → IsRefusal why j files
-      at (equilibria file budget workers) is h = h
-      at (solve file budget workers false) is h = h
-      at (solve file budget workers true) is h = absurd is
-      at (check file report) is h = absurd is
-      at (make number budget workers) is h = absurd is
-
-  absent_of : (files : List File) → files ≡ None ∷ [] → LacksFile job files
-  absent_of files = at job lists
-    where
-      at : (j : Request) → ListsFile j task name most → files ≡ None ∷ [] → LacksFile j files
-      at (equilibria file budget workers) is absent = absent
-      at (solve file budget workers false) is absent = absent
-      at (solve file budget workers true) is absent = absurd is
-      at (check file report) is absent = absurd is
-      at (make number budget workers) is absent = absurd is
-
-  unread_of : (failed : Type 0) (files : List File) → (files ≡ None ∷ []) ⊎ failed → CannotBeRead failed job files
-  unread_of failed files (inl absent) = inl (absent_of files absent)
-  unread_of failed files (inr broken) = inr broken
-
-  pub read_cause : (shelf-rose failed sink-rose : Type 0) (files : Option (List File)) (stop : Stop) → StopsReading stop shelf-rose failed files → IsStopCause stop shelf-rose failed sink-rose job files
+  pub read_cause : (shelf-rose failed sink-rose : Type 0) (files : Option (List File)) (stop : Stop) → StopsReading stop shelf-rose failed files → IsStopCause stop shelf-rose failed sink-rose means files
   read_cause shelf-rose failed sink-rose files stops.Usage h = h
-  read_cause shelf-rose failed sink-rose files (stops.Refused why) h = told_also files _ _ (refusal_of why) h
+  read_cause shelf-rose failed sink-rose files (stops.Refused why) h = h
   read_cause shelf-rose failed sink-rose files (stops.Unfinished level limit) h = absurd h
-  read_cause shelf-rose failed sink-rose files stops.ReadFault h = (h.0, told_also files _ _ (unread_of failed) h.1)
+  read_cause shelf-rose failed sink-rose files stops.ReadFault h = h
   read_cause shelf-rose failed sink-rose files stops.WriteFault h = absurd h
   read_cause shelf-rose failed sink-rose files stops.Memory h = tt
 
   module _ (m : System) (files : Option (List File)) (read : IfSome files (OfOneFile (IsTextOf m))) where
-    stage_written : (before now : Option (List ℕ)) → PrintsFront (IsTaskStage task m) before now → IfSome files (WritesStage before now job)
-    stage_written before now p = told_also files _ _ (λ fs h. record {
-      text = p.text;
-      holds = stage_of p.text fs (of_file (IsTextOf m) (OfSystem (λ n. IsTaskStage task n p.text)) (λ bytes spelled. (m, spelled, p.holds)) fs h);
-      front = p.front;
-    }) read
+    stage_written : (before now : Option (List ℕ)) → PrintsFront (IsPart m) before now → IfSome files (WritesStage before now means)
+    stage_written before now p = told_also files _ _ (λ fs h. record { text = p.text; holds = h; front = p.front }) (spelled m files read (λ n. IsPart n p.text) p.holds)
 
-    pub file_listed : (before now : Option (List ℕ)) (r : Result (Unit {0}) Stop) → OnOk r (Prints (λ text. IsListingText task most text m) before now) → OnOk r (IfSome files (WritesOutput before now job))
+    pub file_listed : (before now : Option (List ℕ)) (r : Result (Unit {0}) Stop) → OnOk r (Prints (λ text. IsWithinBudget IsText task budget text m) before now) → OnOk r (IfSome files (WritesOutput before now means))
     file_listed before now (Err stop) p = tt
-    file_listed before now (Ok x) p = told_also files _ _ (λ fs h. record {
-      text = p.text;
-      holds = output_of p.text fs (of_file (IsTextOf m) (OfSystem (IsListingText task most p.text)) (λ bytes spelled. (m, spelled, p.holds)) fs h);
-      written = p.written;
-    }) read
+    file_listed before now (Ok x) p = told_also files _ _ (λ fs h. record { text = p.text; holds = h; written = p.written }) (spelled m files read (IsWithinBudget IsText task budget p.text) p.holds)
 
-    file_cause : (shelf-rose failed sink-rose : Type 0) (before now : Option (List ℕ)) (stop : Stop) → StopsWork stop task most m sink-rose before now → IsStopCause stop shelf-rose failed sink-rose job files
+    file_cause : (shelf-rose failed sink-rose : Type 0) (before now : Option (List ℕ)) (stop : Stop) → StopsStages IsPart stop task budget m sink-rose before now → IsStopCause stop shelf-rose failed sink-rose means files
     file_cause shelf-rose failed sink-rose before now stops.Usage h = h
     file_cause shelf-rose failed sink-rose before now (stops.Refused why) h = absurd h
-    file_cause shelf-rose failed sink-rose before now (stops.Unfinished level limit) h = h.0 ∙ own_budget
+    file_cause shelf-rose failed sink-rose before now (stops.Unfinished level limit) h = h.0
     file_cause shelf-rose failed sink-rose before now stops.ReadFault h = absurd h
     file_cause shelf-rose failed sink-rose before now stops.WriteFault h = h.0
     file_cause shelf-rose failed sink-rose before now stops.Memory h = tt
 
-    file_left : (sink-rose : Type 0) (before now : Option (List ℕ)) (stop : Stop) → StopsWork stop task most m sink-rose before now → LeavesText stop job files before now
+    file_left : (sink-rose : Type 0) (before now : Option (List ℕ)) (stop : Stop) → StopsStages IsPart stop task budget m sink-rose before now → LeavesText stop means files before now
     file_left sink-rose before now stops.Usage h = absurd h
     file_left sink-rose before now (stops.Refused why) h = absurd h
-    file_left sink-rose before now (stops.Unfinished level limit) h = told_also files _ _ (λ fs k. record {
-      text = h.1.text;
-      holds = beyond_of h.1.text level fs (of_file (IsTextOf m) (OfSystem (IsListedBefore task most level h.1.text)) (λ bytes spelled. (m, spelled, h.1.holds)) fs k);
-      written = h.1.written;
-    }) read
+    file_left sink-rose before now (stops.Unfinished level limit) h =
+        told_also files _ _ (λ fs k. record { text = h.1.text; holds = k; written = h.1.written }) (spelled m files read (IsListedBefore task budget level h.1.text) h.1.holds)
     file_left sink-rose before now stops.ReadFault h = absurd h
     file_left sink-rose before now stops.WriteFault h = stage_written before now h.1
     file_left sink-rose before now stops.Memory h = inr (stage_written before now h)
 
-    pub file_causes : (shelf-rose failed sink-rose : Type 0) (before now : Option (List ℕ)) (r : Result (Unit {0}) Stop) → IfErr r (λ stop. StopsWork stop task most m sink-rose before now) → IfErr r (λ stop. IsStopCause stop shelf-rose failed sink-rose job files)
+    pub file_causes : (shelf-rose failed sink-rose : Type 0) (before now : Option (List ℕ)) (r : Result (Unit {0}) Stop) → IfErr r (λ stop. StopsStages IsPart stop task budget m sink-rose before now)
+        → IfErr r (λ stop. IsStopCause stop shelf-rose failed sink-rose means files)
     file_causes shelf-rose failed sink-rose before now (Ok x) h = tt
     file_causes shelf-rose failed sink-rose before now (Err stop) h = file_cause shelf-rose failed sink-rose before now stop h
 
-    pub file_leaves : (sink-rose : Type 0) (before now : Option (List ℕ)) (r : Result (Unit {0}) Stop) → IfErr r (λ stop. StopsWork stop task most m sink-rose before now) → IfErr r (λ stop. LeavesText stop job files before now)
+    pub file_leaves : (sink-rose : Type 0) (before now : Option (List ℕ)) (r : Result (Unit {0}) Stop) → IfErr r (λ stop. StopsStages IsPart stop task budget m sink-rose before now) → IfErr r (λ stop. LeavesText stop means files before now)
     file_leaves sink-rose before now (Ok x) h = tt
     file_leaves sink-rose before now (Err stop) h = file_left sink-rose before now stop h
 
 -- ---- a generated system, as the job of a command, which reads no file
 module _ (number budget workers : ℕ) (before now : Option (List ℕ)) where
-  pub made_output : (r : Result (Unit {0}) Stop) → OnOk r (Prints (AfterNumber (IsListingText Make budget) number) before now) → OnOk r (WritesOutput before now (make number budget workers) [])
+  pub made_output : (r : Result (Unit {0}) Stop) → OnOk r (Prints (AfterNumber (IsListingText Make budget) number) before now) → OnOk r (WritesOutput before now (made_job number budget workers) [])
   made_output (Err stop) p = tt
   made_output (Ok x) p = record { text = p.text; holds = p.holds; written = p.written }
 
-  made_cause : (shelf-rose failed sink-rose : Type 0) (stop : Stop) → StopsGenerated stop number budget sink-rose before now → IsStopCause stop shelf-rose failed sink-rose (make number budget workers) (Some [])
+  made_cause : (shelf-rose failed sink-rose : Type 0) (stop : Stop) → StopsGenerated stop number budget sink-rose before now → IsStopCause stop shelf-rose failed sink-rose (made_job number budget workers) (Some [])
   made_cause shelf-rose failed sink-rose stops.Usage h = h
   made_cause shelf-rose failed sink-rose (stops.Refused why) h = absurd h
   made_cause shelf-rose failed sink-rose (stops.Unfinished level limit) h = h.0
@@ -159,7 +88,7 @@ module _ (number budget workers : ℕ) (before now : Option (List ℕ)) where
   made_cause shelf-rose failed sink-rose stops.WriteFault h = h.0
   made_cause shelf-rose failed sink-rose stops.Memory h = tt
 
-  made_left : (sink-rose : Type 0) (stop : Stop) → StopsGenerated stop number budget sink-rose before now → LeavesText stop (make number budget workers) (Some []) before now
+  made_left : (sink-rose : Type 0) (stop : Stop) → StopsGenerated stop number budget sink-rose before now → LeavesText stop (made_job number budget workers) (Some []) before now
   made_left sink-rose stops.Usage h = absurd h
   made_left sink-rose (stops.Refused why) h = absurd h
   made_left sink-rose (stops.Unfinished level limit) h = record { text = h.1.text; holds = h.1.holds; written = h.1.written }
@@ -168,16 +97,17 @@ module _ (number budget workers : ℕ) (before now : Option (List ℕ)) where
   made_left sink-rose stops.Memory (inl same) = inl same
   made_left sink-rose stops.Memory (inr h) = inr (record { text = h.text; holds = h.holds; front = h.front })
 
-  pub made_causes : (shelf-rose failed sink-rose : Type 0) (r : Result (Unit {0}) Stop) → IfErr r (λ stop. StopsGenerated stop number budget sink-rose before now) → IfErr r (λ stop. IsStopCause stop shelf-rose failed sink-rose (make number budget workers) (Some []))
+  pub made_causes : (shelf-rose failed sink-rose : Type 0) (r : Result (Unit {0}) Stop) → IfErr r (λ stop. StopsGenerated stop number budget sink-rose before now)
+      → IfErr r (λ stop. IsStopCause stop shelf-rose failed sink-rose (made_job number budget workers) (Some []))
   made_causes shelf-rose failed sink-rose (Ok x) h = tt
   made_causes shelf-rose failed sink-rose (Err stop) h = made_cause shelf-rose failed sink-rose stop h
 
-  pub made_leaves : (sink-rose : Type 0) (r : Result (Unit {0}) Stop) → IfErr r (λ stop. StopsGenerated stop number budget sink-rose before now) → IfErr r (λ stop. LeavesText stop (make number budget workers) (Some []) before now)
+  pub made_leaves : (sink-rose : Type 0) (r : Result (Unit {0}) Stop) → IfErr r (λ stop. StopsGenerated stop number budget sink-rose before now) → IfErr r (λ stop. LeavesText stop (made_job number budget workers) (Some []) before now)
   made_leaves sink-rose (Ok x) h = tt
   made_leaves sink-rose (Err stop) h = made_left sink-rose stop h
 
 -- ---- a job that was done unless it stopped
-pub done_ends : (job : Request) (files : Option (List File)) (before now : Option (List ℕ)) → ((fs : List File) → Excludes outcomes.Done job fs) → (r : Result (Unit {0}) Stop) → OnOk r (IfSome files (WritesOutput before now job))
+pub done_ends : (job : JobMeaning) (files : Option (List File)) (before now : Option (List ℕ)) → ((fs : List File) → Excludes outcomes.Done job fs) → (r : Result (Unit {0}) Stop) → OnOk r (IfSome files (WritesOutput before now job))
     → IfOk (as_done r) (λ outcome. IfSome files (EndsSo outcome before now job))
 done_ends job None before now never (Ok x) w = tt
 done_ends job (Some fs) before now never (Ok x) w = record { writes = w; only = never fs }

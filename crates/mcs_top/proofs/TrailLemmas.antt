@@ -1,12 +1,10 @@
 -- What the work on a task leaves to be seen of its last round.
-use Rattle.std.proofs.Common.{◌≡◌, ℕ, ◌<◌, ◌≤◌, min, Bool, true, false, cond, List, [], ◌∷◌, length, Option, Some, None, Result, Ok, Err, IfErr, OnOk, refl, sym, ap, ◌∙◌, inl, inr, ◌⊎◌, subst, arith}
+use Rattle.std.proofs.Common.{◌≡◌, ℕ, ◌<◌, ◌≤◌, Bool, true, false, cond, List, [], ◌∷◌, length, Option, Some, None, Result, Ok, Err, IfErr, OnOk, refl, sym, ap, ◌∙◌, inl, inr, ◌⊎◌, subst, arith}
 use Rattle.std.specs.Result.{IsErrAnd}
 use Rattle.std.proofs.lemmas.Bool.{cases_lt}
-use Rattle.std.proofs.lemmas.Option.{same_Some}
 use Rattle.mcs_ports.specs.Pieces.{Device}
 use Rattle.mcs_system.specs.Plain.{System}
 use Rattle.mcs_states.specs.Oracles.{OracleState}
-use Rattle.mcs_states.specs.Evaluators.{EvaluatorState}
 use Rattle.mcs_states.specs.declared.halt.Halt.{Halt}
 use Rattle.mcs_states.specs.declared.halt.Halt.TheVariants as halts
 use Rattle.mcs_node.specs.Nodes.{NodeData}
@@ -29,7 +27,7 @@ use Rattle.mcs_text.specs.declared.unwritten.Unwritten.{Unwritten}
 use Rattle.mcs_text.specs.declared.unwritten.Unwritten.TheVariants as unwritten
 use Rattle.mcs_listing.specs.declared.ending.Stop.{Stop}
 use Rattle.mcs_listing.specs.declared.ending.Stop.TheVariants as stops
-use Rattle.mcs_top.specs.Trails.{ShowsBeyond, ShowsEnd, ShowsStop, ShowsTask, UsesFew, UsesMany, done_by_few, done_by_many, spent_by_few, spent_by_many}
+use Rattle.mcs_top.specs.TaskTrails.{ShowsBeyond, ShowsEnd, ShowsStop, ShowsTask, UsesFew, UsesMany, done_by_few, done_by_many, spent_by_few, spent_by_many}
 use Rattle.mcs_top.specs.Evaluating.{HasListed, ShowsWork}
 
 -- ---- fewer than two workers

@@ -9,7 +9,7 @@ use Rattle.mcs_work.specs.declared.task.WorkStop.{WorkStop}
 use Rattle.mcs_crew.specs.Trails.{TrailData}
 use Rattle.mcs_listing.specs.Endings.{stop_for_work}
 use Rattle.mcs_listing.specs.Listings.{HaveOrigin, IsNewEvaluator}
-use Rattle.mcs_top.specs.Trails.{ShowsStop, ShowsTask}
+use Rattle.mcs_top.specs.TaskTrails.{ShowsStop, ShowsTask}
 
 -- what the work leaves to be seen, by how it ended
 abbrev pub ShowsWork : Task → ℕ → ℕ → System → TrailData → Result (Unit {0}) WorkStop → Type 0

@@ -1,3 +1,5 @@
+pub mod TaskTrails
+pub mod Meaning
 pub mod Promise
 pub mod Programs
 pub mod Trails

@@ -6,6 +6,7 @@ ghost use Rattle.mcs_text.specs.Writes.{Writes};
 ghost use Rattle.mcs_words.specs.Commands as commands;
 ghost use Rattle.mcs_check.specs.Findings.{finding_line};
 ghost use Rattle.mcs_listing.specs.Jobs.{told_all};
+ghost use Rattle.mcs_top.specs.Meaning.{meaning};
 ghost use Rattle.mcs_top.specs.Promise.{EndsSo, IsStopCause, LeavesText, outcome_of};
 
 use crate::outcome::Outcome;
@@ -30,13 +31,13 @@ pub(crate) fn check<H: Shelf, K: Sink>(
     ensures unfailed { ¬ IsErrOf result Stop.WriteFault → (K.device sink.new).faults ≡ (K.device sink.old).faults }
     ensures notes { (K.device sink.new).notes ≡ (K.device sink.old).notes }
     ensures ok { IfOk result (λ outcome. IfSome (told_all (H.held shelf.old) (file.now ∷ report.now ∷ []))
-        (EndsSo outcome (K.device sink.old).written (K.device sink.new).written (commands.check file.now report.now))) }
+        (EndsSo outcome (K.device sink.old).written (K.device sink.new).written (meaning (commands.check file.now report.now)))) }
     ensures cause { IfErr result (λ stop. IsStopCause stop
         (Rose (H.faults shelf.old) (H.faults shelf.new)) (Rose (H.failures shelf.old) (H.failures shelf.new))
         (Rose (K.device sink.old).faults (K.device sink.new).faults)
-        (commands.check file.now report.now) (told_all (H.held shelf.old) (file.now ∷ report.now ∷ []))) }
+        (meaning (commands.check file.now report.now)) (told_all (H.held shelf.old) (file.now ∷ report.now ∷ []))) }
     ensures leaves { IfErr result (λ stop. LeavesText stop
-        (commands.check file.now report.now) (told_all (H.held shelf.old) (file.now ∷ report.now ∷ []))
+        (meaning (commands.check file.now report.now)) (told_all (H.held shelf.old) (file.now ∷ report.now ∷ []))
         (K.device sink.old).written (K.device sink.new).written) }
 {
     let read = system_in(alloc, file, shelf)?;

@@ -8,7 +8,7 @@ ghost use Rattle.mcs_crew.specs.Trails.{IsNoTrail, trail_of};
 ghost use Rattle.mcs_listing.specs.Listings.{IsListingText, Prints, StopsWork};
 ghost use Rattle.mcs_listing.specs.Working.{Begins, IsWorked};
 ghost use Rattle.mcs_top.specs.Evaluating.{HasListed, ShowsWork};
-ghost use Rattle.mcs_top.specs.Trails.{ShowsEnd};
+ghost use Rattle.mcs_top.specs.TaskTrails.{ShowsEnd};
 
 use crate::assignment::Assignment;
 use crate::threads::{Worked, work_in_threads};

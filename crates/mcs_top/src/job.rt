@@ -3,8 +3,9 @@
 ghost use Rattle.std.specs.Prelude.{◌≡◌, ◌≤◌, [], IfSome, IfOk, IfErr, IsErrOf};
 ghost use Rattle.mcs_ports.specs.Causes.{Rose};
 ghost use Rattle.mcs_words.specs.Reading.{request_of};
-ghost use Rattle.mcs_listing.specs.Jobs.{told_all, files_in};
+ghost use Rattle.mcs_listing.specs.Jobs.{told_all};
 ghost use Rattle.mcs_crew.specs.Trails.{IsNoTrail, trail_of};
+ghost use Rattle.mcs_top.specs.Meaning.{files_in, meaning};
 ghost use Rattle.mcs_top.specs.Promise.{EndsSo, IsStopCause, LeavesText, as_done};
 ghost use Rattle.mcs_top.specs.Trails.{LeavesTrail};
 
@@ -40,15 +41,15 @@ pub(crate) fn do_job<H: Shelf, K: Sink, G: Gate + Sync, R: Threads + Wait + Sync
     ensures unfailed { ¬ IsErrOf result Stop.WriteFault → (K.device sink.new).faults ≡ (K.device sink.old).faults }
     ensures notes { (K.device sink.new).notes ≡ (K.device sink.old).notes }
     ensures ok { IfOk result (λ outcome. IfSome (told_all (H.held shelf.old) (files_in (request_of job.now)))
-        (EndsSo outcome (K.device sink.old).written (K.device sink.new).written (request_of job.now))) }
+        (EndsSo outcome (K.device sink.old).written (K.device sink.new).written (meaning (request_of job.now)))) }
     ensures cause { IfErr result (λ stop. IsStopCause stop
         (Rose (H.faults shelf.old) (H.faults shelf.new)) (Rose (H.failures shelf.old) (H.failures shelf.new))
         (Rose (K.device sink.old).faults (K.device sink.new).faults)
-        (request_of job.now) (told_all (H.held shelf.old) (files_in (request_of job.now)))) }
+        (meaning (request_of job.now)) (told_all (H.held shelf.old) (files_in (request_of job.now)))) }
     ensures leaves { IfErr result (λ stop. LeavesText stop
-        (request_of job.now) (told_all (H.held shelf.old) (files_in (request_of job.now)))
+        (meaning (request_of job.now)) (told_all (H.held shelf.old) (files_in (request_of job.now)))
         (K.device sink.old).written (K.device sink.new).written) }
-    ensures trail { IsNoTrail (trail_of trail.old) → LeavesTrail (request_of job.now) (told_all (H.held shelf.old) (files_in (request_of job.now))) (trail_of trail.new) result }
+    ensures trail { IsNoTrail (trail_of trail.old) → LeavesTrail (meaning (request_of job.now)) (told_all (H.held shelf.old) (files_in (request_of job.now))) (trail_of trail.new) result }
 {
     match job {
         Job::Equilibria {

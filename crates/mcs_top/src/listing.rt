@@ -2,11 +2,11 @@
 
 ghost use Rattle.std.specs.Prelude.{◌≡◌, ◌≤◌, [], ◌∷◌, IfSome, OnOk, IfErr, IsErrOf};
 ghost use Rattle.mcs_ports.specs.Causes.{Rose};
-ghost use Rattle.mcs_words.specs.Commands.{Request};
 ghost use Rattle.mcs_listing.specs.Jobs.{told_all};
 ghost use Rattle.mcs_crew.specs.Trails.{IsNoTrail, trail_of};
-ghost use Rattle.mcs_top.specs.Promise.{IsStopCause, LeavesText, ListsFile, WritesOutput, as_done};
-ghost use Rattle.mcs_top.specs.Trails.{LeavesTrail, workers_of};
+ghost use Rattle.mcs_top.specs.Meaning.{task_job};
+ghost use Rattle.mcs_top.specs.Promise.{IsStopCause, LeavesText, WritesOutput, as_done};
+ghost use Rattle.mcs_top.specs.Trails.{LeavesTrail};
 
 use crate::assignment::Assignment;
 use crate::evaluating::list_system;
@@ -33,17 +33,17 @@ pub(crate) fn evaluate<H: Shelf, K: Sink, G: Gate + Sync, R: Threads + Wait + Sy
     ensures sink_later { (K.device sink.old).faults ≤ (K.device sink.new).faults }
     ensures unfailed { ¬ IsErrOf result Stop.WriteFault → (K.device sink.new).faults ≡ (K.device sink.old).faults }
     ensures notes { (K.device sink.new).notes ≡ (K.device sink.old).notes }
-    ensures ok { (job : Request) → ListsFile job assignment.task file.now assignment.budget → OnOk result (IfSome (told_all (H.held shelf.old) (file.now ∷ []))
-        (WritesOutput (K.device sink.old).written (K.device sink.new).written job)) }
-    ensures cause { (job : Request) → ListsFile job assignment.task file.now assignment.budget → IfErr result (λ stop. IsStopCause stop
+    ensures ok { OnOk result (IfSome (told_all (H.held shelf.old) (file.now ∷ []))
+        (WritesOutput (K.device sink.old).written (K.device sink.new).written (task_job assignment.task file.now assignment.budget assignment.workers))) }
+    ensures cause { IfErr result (λ stop. IsStopCause stop
         (Rose (H.faults shelf.old) (H.faults shelf.new)) (Rose (H.failures shelf.old) (H.failures shelf.new))
         (Rose (K.device sink.old).faults (K.device sink.new).faults)
-        job (told_all (H.held shelf.old) (file.now ∷ []))) }
-    ensures leaves { (job : Request) → ListsFile job assignment.task file.now assignment.budget → IfErr result (λ stop. LeavesText stop
-        job (told_all (H.held shelf.old) (file.now ∷ []))
+        (task_job assignment.task file.now assignment.budget assignment.workers) (told_all (H.held shelf.old) (file.now ∷ []))) }
+    ensures leaves { IfErr result (λ stop. LeavesText stop
+        (task_job assignment.task file.now assignment.budget assignment.workers) (told_all (H.held shelf.old) (file.now ∷ []))
         (K.device sink.old).written (K.device sink.new).written) }
-    ensures trail { (job : Request) → ListsFile job assignment.task file.now assignment.budget → workers_of job ≡ assignment.workers → IsNoTrail (trail_of trail.old)
-        → LeavesTrail job (told_all (H.held shelf.old) (file.now ∷ [])) (trail_of trail.new) (as_done result) }
+    ensures trail { IsNoTrail (trail_of trail.old) → LeavesTrail (task_job assignment.task file.now assignment.budget assignment.workers)
+        (told_all (H.held shelf.old) (file.now ∷ [])) (trail_of trail.new) (as_done result) }
 {
     let system = system_in(alloc, file, shelf)?;
     list_system(rt, alloc, assignment, system, sink, gate, trail)

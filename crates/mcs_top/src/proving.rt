@@ -1,14 +1,17 @@
 //! The listing of a system with its proof.
 
-ghost use Rattle.std.specs.Prelude.{◌≡◌, ◌≤◌, ℕ, true, [], ◌∷◌, IfSome, OnOk, IfErr, IsErrOf};
+ghost use Rattle.std.specs.Prelude.{◌≡◌, ◌≤◌, true, [], ◌∷◌, IfSome, OnOk, IfErr, IsErrOf};
 ghost use Rattle.mcs_ports.specs.Causes.{Rose};
 ghost use Rattle.mcs_words.specs.Commands.{solve};
 ghost use Rattle.mcs_listing.specs.Jobs.{told_all};
 ghost use Rattle.mcs_work.specs.declared.task.Task.TheVariants.{Solve};
 ghost use Rattle.mcs_crew.specs.Trails.{IsNoTrail, trail_of};
-ghost use Rattle.mcs_top.specs.Promise.{IsStopCause, IsListedProved, LeavesText, StopsProof, WritesOutput, as_done};
-ghost use Rattle.mcs_top.specs.Trails.{LeavesTrail, ShowsEnd};
-ghost use Rattle.mcs_listing.specs.Listings.{Prints};
+ghost use Rattle.mcs_check.specs.Validity.{IsProvedListing};
+ghost use Rattle.mcs_listing.specs.Listings.{Prints, StopsStages};
+ghost use Rattle.mcs_top.specs.Meaning.{IsSolutionStage, IsWithinBudget, meaning};
+ghost use Rattle.mcs_top.specs.Promise.{IsStopCause, LeavesText, WritesOutput, as_done};
+ghost use Rattle.mcs_top.specs.TaskTrails.{ShowsEnd};
+ghost use Rattle.mcs_top.specs.Trails.{LeavesTrail};
 
 use crate::assignment::Assignment;
 use crate::evaluating::evaluate_system;
@@ -40,15 +43,15 @@ pub(crate) fn prove<H: Shelf, K: Sink, G: Gate + Sync, R: Threads + Wait + Sync>
     ensures unfailed { ¬ IsErrOf result Stop.WriteFault → (K.device sink.new).faults ≡ (K.device sink.old).faults }
     ensures notes { (K.device sink.new).notes ≡ (K.device sink.old).notes }
     ensures ok { OnOk result (IfSome (told_all (H.held shelf.old) (file.now ∷ []))
-        (WritesOutput (K.device sink.old).written (K.device sink.new).written (solve file.now budget workers true))) }
+        (WritesOutput (K.device sink.old).written (K.device sink.new).written (meaning (solve file.now budget workers true)))) }
     ensures cause { IfErr result (λ stop. IsStopCause stop
         (Rose (H.faults shelf.old) (H.faults shelf.new)) (Rose (H.failures shelf.old) (H.failures shelf.new))
         (Rose (K.device sink.old).faults (K.device sink.new).faults)
-        (solve file.now budget workers true) (told_all (H.held shelf.old) (file.now ∷ []))) }
+        (meaning (solve file.now budget workers true)) (told_all (H.held shelf.old) (file.now ∷ []))) }
     ensures leaves { IfErr result (λ stop. LeavesText stop
-        (solve file.now budget workers true) (told_all (H.held shelf.old) (file.now ∷ []))
+        (meaning (solve file.now budget workers true)) (told_all (H.held shelf.old) (file.now ∷ []))
         (K.device sink.old).written (K.device sink.new).written) }
-    ensures trail { IsNoTrail (trail_of trail.old) → LeavesTrail (solve file.now budget workers true) (told_all (H.held shelf.old) (file.now ∷ [])) (trail_of trail.new) (as_done result) }
+    ensures trail { IsNoTrail (trail_of trail.old) → LeavesTrail (meaning (solve file.now budget workers true)) (told_all (H.held shelf.old) (file.now ∷ [])) (trail_of trail.new) (as_done result) }
 {
     let system = system_in(alloc, file, shelf)?;
     // The contract of `contexts` ensures that the system is valid and its names are names, so the output is a valid
@@ -71,8 +74,8 @@ fn prove_system<K: Sink, G: Gate + Sync, R: Threads + Wait + Sync>(
     ensures later { (K.device sink.old).faults ≤ (K.device sink.new).faults }
     ensures unfailed { ¬ IsErrOf result Stop.WriteFault → (K.device sink.new).faults ≡ (K.device sink.old).faults }
     ensures notes { (K.device sink.new).notes ≡ (K.device sink.old).notes }
-    ensures ok { OnOk result (Prints (λ text. IsListedProved budget text system) (K.device sink.old).written (K.device sink.new).written) }
-    ensures stop { IfErr result (λ stop. StopsProof stop budget system
+    ensures ok { OnOk result (Prints (λ text. IsWithinBudget IsProvedListing Solve budget text system) (K.device sink.old).written (K.device sink.new).written) }
+    ensures stop { IfErr result (λ stop. StopsStages (IsSolutionStage true) stop Solve budget system
         (Rose (K.device sink.old).faults (K.device sink.new).faults) (K.device sink.old).written (K.device sink.new).written) }
     ensures trail { IsNoTrail (trail_of trail.old) → ShowsEnd Solve budget workers system (trail_of trail.new) result }
 {

@@ -1,12 +1,11 @@
 use Rattle.std.proofs.Common.{◌≤◌, ◌∙◌, ℕ, List, Option, sym, subst, inl, inr, arith}
 use Rattle.mcs_ports.specs.Causes.{Rose}
 use Rattle.mcs_words.specs.Reading.{texts_of, request_of}
-use Rattle.mcs_listing.specs.Jobs.{files_in, told_all}
+use Rattle.mcs_listing.specs.Jobs.{told_all}
+use Rattle.mcs_top.specs.Meaning.{files_in, meaning}
 use Rattle.mcs_top.specs.Promise.{IsStopCause, LeavesText}
 use Rattle.mcs_top.proofs.PromiseLemmas.{told_since, words_kept, done_kept, rejected_kept, stop_kept}
 use Rattle.mcs_crew.specs.Trails.{trail_of}
-use Rattle.mcs_listing.specs.declared.status.Status.{Status}
-use Rattle.mcs_listing.specs.declared.status.Status.TheVariants as statuses
 use Rattle.mcs_top.proofs.JobTrails as trails
 use Rattle.mcs_top.proofs.EndingLemmas.{words_told}
 use Rattle.mcs_top.proofs.command.run_job.Goals as goal
@@ -52,8 +51,8 @@ returns-clause-kept g c =
     stop_kept (texts_of c.args.words.now) (g.H.Shelf.held c.args.shelf.now) (g.H.Shelf.faults c.args.shelf.now) (g.H.Shelf.faults c.do_job.new.shelf) (g.H.Shelf.failures c.args.shelf.now) (g.H.Shelf.failures c.do_job.new.shelf)
     before now c.in-Err-do_job.ensures.shelf_later job c.in-Ok.ensures stop c.tell-in-Err-do_job.result
     (told_since stop c.tell-in-Err-do_job.result before mid now c.in-Err-do_job.ensures.notes c.tell-in-Err-do_job.ensures.told)
-    (subst (λ (n : ℕ). IsStopCause stop rose failed (Rose before.faults n) job files) (sym c.tell-in-Err-do_job.ensures.faults) c.in-Err-do_job.ensures.cause)
-    (subst (λ (w : Option (List ℕ)). LeavesText stop job files before.written w) (sym c.tell-in-Err-do_job.ensures.written) c.in-Err-do_job.ensures.leaves)
+    (subst (λ (n : ℕ). IsStopCause stop rose failed (Rose before.faults n) (meaning job) files) (sym c.tell-in-Err-do_job.ensures.faults) c.in-Err-do_job.ensures.cause)
+    (subst (λ (w : Option (List ℕ)). LeavesText stop (meaning job) files before.written w) (sym c.tell-in-Err-do_job.ensures.written) c.in-Err-do_job.ensures.leaves)
     (subst (λ (n : ℕ). before.faults ≤ n) (sym c.tell-in-Err-do_job.ensures.faults) c.in-Err-do_job.ensures.sink_later)
     (λ other. c.tell-in-Err-do_job.ensures.faults ∙ c.in-Err-do_job.ensures.unfailed (λ is. other (c.tell-in-Err-do_job.ensures.fault (cc is))))
 

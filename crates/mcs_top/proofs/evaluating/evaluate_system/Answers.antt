@@ -1,4 +1,4 @@
-use Rattle.std.proofs.Common.{◌∙◌, Ok, Err, ap, subst, sym}
+use Rattle.std.proofs.Common.{◌∙◌, Ok, Err, ap}
 use Rattle.mcs_base.proofs.Results.{err_told}
 use Rattle.mcs_listing.specs.declared.ending.Stop.{Stop}
 use Rattle.mcs_listing.specs.declared.ending.Stop.TheVariants as stops

@@ -1,24 +1,29 @@
 use Rattle.std.proofs.Common.{[], ◌∷◌}
 use Rattle.mcs_ports.specs.Causes.{Rose}
+use Rattle.mcs_base.proofs.Results.{err_told}
+use Rattle.mcs_work.specs.Tasks.{IsTaskText, IsTaskStage}
 use Rattle.mcs_listing.specs.Jobs.{told_all}
+use Rattle.mcs_crew.specs.Trails.{trail_of}
+use Rattle.mcs_top.specs.Meaning.{task_job}
 use Rattle.mcs_top.specs.Promise.{IsStopCause, LeavesText}
 use Rattle.mcs_top.proofs.StageLemmas.{read_cause, read_left, file_listed, file_causes, file_leaves}
-use Rattle.mcs_base.proofs.Results.{err_told}
-use Rattle.mcs_crew.specs.Trails.{trail_of}
 use Rattle.mcs_top.proofs.JobTrails.{err_left, file_left, unread_left}
 use Rattle.mcs_top.proofs.listing.evaluate.Goals as goal
 
 pub returns-in_err-system-clause-cause : goal.returns-in_err-system-clause-cause
-returns-in_err-system-clause-cause g c job lists =
+returns-in_err-system-clause-cause g c =
+    let a = c.args.assignment in
     let files = told_all (g.H.Shelf.held c.args.shelf.now) (c.args.file.now ∷ []) in
     let rose = Rose (g.H.Shelf.faults c.args.shelf.now) (g.H.Shelf.faults c.system_in.new.shelf) in
     let failed = Rose (g.H.Shelf.failures c.args.shelf.now) (g.H.Shelf.failures c.system_in.new.shelf) in
     let same = Rose (g.K.Sink.device c.args.sink.now).faults (g.K.Sink.device c.args.sink.now).faults in
-    err_told (λ stop. IsStopCause stop rose failed same job files) _ _ c.from_residual.ensures.1
-    (read_cause job c.args.assignment.task c.args.file.now c.args.assignment.budget lists rose failed same files c.in_err-system.field-0.0 c.in_err-system.ensures.stop)
+    err_told (λ stop. IsStopCause stop rose failed same (task_job a.task c.args.file.now a.budget a.workers) files) _ _ c.from_residual.ensures.1
+    (read_cause (IsTaskText a.task) (IsTaskStage a.task) a.task c.args.file.now a.budget a.workers rose failed same files c.in_err-system.field-0.0 c.in_err-system.ensures.stop)
 
 pub returns-in_err-system-clause-leaves : goal.returns-in_err-system-clause-leaves
-returns-in_err-system-clause-leaves g c job lists =
+returns-in_err-system-clause-leaves g c =
+    let a = c.args.assignment in
+    let job = task_job a.task c.args.file.now a.budget a.workers in
     let files = told_all (g.H.Shelf.held c.args.shelf.now) (c.args.file.now ∷ []) in
     let rose = Rose (g.H.Shelf.faults c.args.shelf.now) (g.H.Shelf.faults c.system_in.new.shelf) in
     let failed = Rose (g.H.Shelf.failures c.args.shelf.now) (g.H.Shelf.failures c.system_in.new.shelf) in
@@ -27,18 +32,31 @@ returns-in_err-system-clause-leaves g c job lists =
     (read_left job rose failed files files at c.in_err-system.field-0.0 c.in_err-system.ensures.stop)
 
 pub returns-clause-ok : goal.returns-clause-ok
-returns-clause-ok g c job lists = file_listed job c.args.assignment.task c.args.file.now c.args.assignment.budget lists c.in_ok-system.system _ c.in_ok-system.ensures.system (g.K.Sink.device c.args.sink.now).written (g.K.Sink.device c.list_system.new.sink).written c.list_system.result c.list_system.ensures.ok
+returns-clause-ok g c =
+    let a = c.args.assignment in
+    file_listed (IsTaskText a.task) (IsTaskStage a.task) a.task c.args.file.now a.budget a.workers c.in_ok-system.system _ c.in_ok-system.ensures.system
+    (g.K.Sink.device c.args.sink.now).written (g.K.Sink.device c.list_system.new.sink).written c.list_system.result c.list_system.ensures.ok
 
 pub returns-clause-cause : goal.returns-clause-cause
-returns-clause-cause g c job lists = file_causes job c.args.assignment.task c.args.file.now c.args.assignment.budget lists c.in_ok-system.system _ c.in_ok-system.ensures.system _ _ _ (g.K.Sink.device c.args.sink.now).written (g.K.Sink.device c.list_system.new.sink).written c.list_system.result c.list_system.ensures.stop
+returns-clause-cause g c =
+    let a = c.args.assignment in
+    file_causes (IsTaskText a.task) (IsTaskStage a.task) a.task c.args.file.now a.budget a.workers c.in_ok-system.system _ c.in_ok-system.ensures.system _ _ _
+    (g.K.Sink.device c.args.sink.now).written (g.K.Sink.device c.list_system.new.sink).written c.list_system.result c.list_system.ensures.stop
 
 pub returns-clause-leaves : goal.returns-clause-leaves
-returns-clause-leaves g c job lists = file_leaves job c.args.assignment.task c.args.file.now c.args.assignment.budget lists c.in_ok-system.system _ c.in_ok-system.ensures.system _ (g.K.Sink.device c.args.sink.now).written (g.K.Sink.device c.list_system.new.sink).written c.list_system.result c.list_system.ensures.stop
+returns-clause-leaves g c =
+    let a = c.args.assignment in
+    file_leaves (IsTaskText a.task) (IsTaskStage a.task) a.task c.args.file.now a.budget a.workers c.in_ok-system.system _ c.in_ok-system.ensures.system _
+    (g.K.Sink.device c.args.sink.now).written (g.K.Sink.device c.list_system.new.sink).written c.list_system.result c.list_system.ensures.stop
 
 pub returns-in_err-system-clause-trail : goal.returns-in_err-system-clause-trail
-returns-in_err-system-clause-trail g c job lists used none =
+returns-in_err-system-clause-trail g c none =
+    let a = c.args.assignment in
+    let job = task_job a.task c.args.file.now a.budget a.workers in
     let files = told_all (g.H.Shelf.held c.args.shelf.now) (c.args.file.now ∷ []) in
     err_left job files (trail_of c.args.trail.now) _ _ c.from_residual.ensures.1 (unread_left job files files (trail_of c.args.trail.now) _ _ c.in_err-system.field-0.0 none c.in_err-system.ensures.stop)
 
 pub returns-clause-trail : goal.returns-clause-trail
-returns-clause-trail g c job lists used none = file_left job c.args.assignment.task c.args.file.now c.args.assignment.budget c.args.assignment.workers lists used c.in_ok-system.system _ c.in_ok-system.ensures.system (trail_of c.list_system.new.trail) c.list_system.result (c.list_system.ensures.trail none)
+returns-clause-trail g c none =
+    let a = c.args.assignment in
+    file_left (IsTaskText a.task) (IsTaskStage a.task) a.task c.args.file.now a.budget a.workers c.in_ok-system.system _ c.in_ok-system.ensures.system (trail_of c.list_system.new.trail) c.list_system.result (c.list_system.ensures.trail none)

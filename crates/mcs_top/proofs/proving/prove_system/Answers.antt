@@ -1,22 +1,22 @@
-use Rattle.std.proofs.Common.{◌∙◌}
+use Rattle.std.proofs.Common.{◌∙◌, true}
 use Rattle.mcs_base.proofs.Results.{err_told}
 use Rattle.mcs_listing.specs.declared.ending.Stop.TheVariants as stops
 use Rattle.mcs_crew.specs.Trails.{trail_of}
-use Rattle.mcs_top.specs.Promise.{StopsProof}
-use Rattle.mcs_top.specs.Trails.{ShowsStop}
+use Rattle.mcs_listing.specs.Listings.{StopsStages}
+use Rattle.mcs_top.specs.Meaning.{IsSolutionStage}
 use Rattle.mcs_work.specs.declared.task.Task.TheVariants.{Solve}
 use Rattle.mcs_top.proofs.ProvingLemmas.{nothing_proved, work_stops_proof, listed_asked, listed_proved, listed_stops}
 use Rattle.mcs_top.proofs.TrailLemmas.{answered_end, nothing_end, stop_end}
 use Rattle.mcs_top.proofs.proving.prove_system.Goals as goal
 
 pub returns-in_err-system-clause-stop : goal.returns-in_err-system-clause-stop
-returns-in_err-system-clause-stop g c = err_told (λ stop. StopsProof stop c.args.budget c.args.system _ _ _) _ _ c.from_residual.ensures.1 (nothing_proved c.args.system (g.K.Sink.device c.args.sink.now).written)
+returns-in_err-system-clause-stop g c = err_told (λ stop. StopsStages (IsSolutionStage true) stop Solve c.args.budget c.args.system _ _ _) _ _ c.from_residual.ensures.1 (nothing_proved c.args.system (g.K.Sink.device c.args.sink.now).written)
 
 pub returns-in_err-system-clause-trail : goal.returns-in_err-system-clause-trail
 returns-in_err-system-clause-trail g c none = nothing_end Solve c.args.budget c.args.workers c.args.system (trail_of c.args.trail.now) none stops.Memory (λ level limit e. cc) _ c.from_residual.ensures.1
 
 pub returns-in_err-nodes-clause-stop : goal.returns-in_err-nodes-clause-stop
-returns-in_err-nodes-clause-stop g c = err_told (λ stop. StopsProof stop c.args.budget c.args.system _ _ _) _ _ c.from_residual-in_err-nodes.ensures.1 (work_stops_proof c.args.budget c.args.system _ _ _ _ (rw c.in_ok-system.ensures at c.in_err-nodes.ensures.stop))
+returns-in_err-nodes-clause-stop g c = err_told (λ stop. StopsStages (IsSolutionStage true) stop Solve c.args.budget c.args.system _ _ _) _ _ c.from_residual-in_err-nodes.ensures.1 (work_stops_proof c.args.budget c.args.system _ _ _ _ (rw c.in_ok-system.ensures at c.in_err-nodes.ensures.stop))
 
 pub returns-in_err-nodes-clause-trail : goal.returns-in_err-nodes-clause-trail
 returns-in_err-nodes-clause-trail g c none = stop_end Solve c.args.budget c.args.workers c.args.system (trail_of c.evaluate_system.new.trail) _ (rw c.in_ok-system.ensures at c.in_err-nodes.ensures.trail none) _ c.from_residual-in_err-nodes.ensures.1

@@ -1,4 +1,4 @@
-use Rattle.std.proofs.Common.{◌∙◌, Option, None, ap, unwrap_or}
+use Rattle.std.proofs.Common.{◌∙◌, Option, ap, unwrap_or}
 use Rattle.std.specs.Arc.{arc_value}
 use Rattle.mcs_mesh.specs.Players.{oracles_of}
 use Rattle.mcs_crew.specs.Trails.{trail_of}
