@@ -15,7 +15,7 @@ class Families(Ground):
     def test_each_is_a_text_and_the_same_each_time(self):
         status, listed, _ = self.ran("bench/families")
         self.assertEqual(status, 0)
-        for name, sizes, most in re.findall(r"^(\w+) +([\d, ]+); at most (\d+)", listed, re.MULTILINE):
+        for name, sizes, most in re.findall(r"^([\w-]+) +([\d, ]+); at most (\d+)", listed, re.MULTILINE):
             for size in sizes.split(", ") + [most]:
                 status, text, noted = self.ran("bench/families", name, size)
                 self.assertEqual((status, noted), (0, ""))
