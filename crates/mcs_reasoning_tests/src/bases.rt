@@ -7,7 +7,6 @@ use mcs_base::Memory;
 use mcs_sat::{ClauseBase, Outcome};
 use mcs_trace::{Cnf, check};
 use std::alloc::Global;
-use std::test::Fail;
 
 /// Whether a search with a trace tells this of the base's clauses, which are those of the list. A trace is accepted.
 fn is_shown(alloc: Global, base: &mut ClauseBase, whole: &Cnf, wanted: bool) -> Result<bool, Memory>
@@ -135,10 +134,10 @@ static DEFINED: Asked = Asked {
 };
 
 /// The first clauses, and more.
-fn front_and(alloc: Global, asked: &Asked, more: &[&[i64]]) -> Result<Cnf, Fail> {
+fn front_and(alloc: Global, asked: &Asked, more: &[&[i64]]) -> Option<Cnf> {
     let mut whole = list(alloc, u32::from(asked.vars) + 1, asked.front)?;
     push_all(alloc, &mut whole, more)?;
-    Ok(whole)
+    Some(whole)
 }
 
 /// Whether the base's clauses, which are the first ones, have an assignment with some more exactly where it is said.
@@ -148,12 +147,12 @@ fn is_answered(
     asked: &Asked,
     more: &[&[i64]],
     wanted: bool,
-) -> Result<bool, Fail> {
+) -> Option<bool> {
     let own = list(alloc, u32::from(asked.vars) + 1, more)?;
     let whole = front_and(alloc, asked, more)?;
     let is_right = are_told(alloc, base, &own, &whole, wanted);
     drop((own, whole));
-    Ok(is_right?)
+    is_right.ok()
 }
 
 /// Whether the base has so many variables and clauses.
@@ -162,44 +161,42 @@ fn has(base: &ClauseBase, vars: u64, count: usize) -> bool {
 }
 
 /// Whether the base of the first clauses answers each question, and then has these clauses alone.
-fn are_answered(alloc: Global, base: &mut ClauseBase, asked: &Asked) -> Result<bool, Fail> {
+fn are_answered(alloc: Global, base: &mut ClauseBase, asked: &Asked) -> bool {
+    let mut are_right = true;
     for (more, wanted) in asked.questions {
-        if !is_answered(alloc, base, asked, more, *wanted)? {
-            return Ok(false);
-        }
+        are_right &= is_answered(alloc, base, asked, more, *wanted) == Some(true);
     }
-    Ok(has(base, u64::from(asked.vars), asked.front.len()))
+    are_right && has(base, u64::from(asked.vars), asked.front.len())
 }
 
 /// A base of the first clauses.
-fn front(alloc: Global, asked: &Asked) -> Result<ClauseBase, Fail> {
+fn front(alloc: Global, asked: &Asked) -> Option<ClauseBase> {
     let front = list(alloc, u32::from(asked.vars), asked.front)?;
     let base = ClauseBase::of(alloc, &front);
     drop(front);
-    Ok(base?)
+    base.ok()
 }
 
 /// Whether the base answers each question before it is settled and then.
-fn are_answered_twice(alloc: Global, base: &mut ClauseBase, asked: &Asked) -> Result<bool, Fail> {
-    let is_right = are_answered(alloc, base, asked)?;
-    base.settle()?;
-    Ok(is_right && are_answered(alloc, base, asked)?)
+fn are_answered_twice(alloc: Global, base: &mut ClauseBase, asked: &Asked) -> bool {
+    are_answered(alloc, base, asked) && base.settle().is_ok() && are_answered(alloc, base, asked)
 }
 
 /// Whether a base of the clauses answers each question, and once it is settled too.
-fn is_right(alloc: Global, asked: &Asked) -> Result<bool, Fail> {
-    let mut base = front(alloc, asked)?;
+fn is_right(alloc: Global, asked: &Asked) -> bool {
+    let Some(mut base) = front(alloc, asked) else {
+        return false;
+    };
     let is_right = are_answered_twice(alloc, &mut base, asked);
     drop(base);
     is_right
 }
 
 #[test]
-fn each_question_is_answered_as_if_it_were_the_only_one(rt: HostRuntime) -> Result<(), Fail> {
+fn each_question_is_answered_as_if_it_were_the_only_one(rt: HostRuntime) {
     for asked in [&ORDERED, &EITHER, &DEFINED] {
-        assert!(rt; is_right(rt.alloc(), asked)?);
+        assert!(rt; is_right(rt.alloc(), asked));
     }
-    Ok(())
 }
 
 /// All disjunctions of 1, 2 and 3, each as it is or denied.
@@ -216,13 +213,9 @@ static DISJUNCTIONS: [[i8; 3]; 8] = [
 
 /// Adds what says that the disjunction is true, where the variable of the number stands for the last two, and the next
 /// one for the whole.
-fn push_disjunction(
-    alloc: Global,
-    whole: &mut Cnf,
-    literals: [i8; 3],
-    number: u8,
-) -> Result<(), Fail> {
-    let [first, second, third] = literals.map(i64::from);
+fn push_disjunction(alloc: Global, whole: &mut Cnf, literals: [i8; 3], number: u8) -> Option<()> {
+    let [first, second, third] = literals;
+    let (first, second, third) = (i64::from(first), i64::from(second), i64::from(third));
     let (last_two, all) = (i64::from(number), i64::from(number) + 1);
     push_all(
         alloc,
@@ -240,14 +233,14 @@ fn push_disjunction(
 }
 
 /// What says that the first ones of the disjunctions are true.
-fn disjunctions(alloc: Global, count: usize) -> Result<Cnf, Fail> {
+fn disjunctions(alloc: Global, count: usize) -> Option<Cnf> {
     let mut whole = list(alloc, 19, &[])?;
     let mut number = 4;
     for literals in DISJUNCTIONS.iter().take(count) {
         push_disjunction(alloc, &mut whole, *literals, number)?;
         number = number.saturating_add(2);
     }
-    Ok(whole)
+    Some(whole)
 }
 
 /// Whether the base, once it is settled, has an assignment exactly where it is said. Its clauses are those of the list.
@@ -269,15 +262,21 @@ fn are_satisfied(alloc: Global, whole: &Cnf, wanted: bool) -> Result<bool, Memor
     is_right
 }
 
+/// Whether the first ones of the disjunctions have an assignment exactly where they are not all.
+fn are_disjunctions_told(alloc: Global, count: usize) -> bool {
+    let Some(whole) = disjunctions(alloc, count) else {
+        return false;
+    };
+    let is_right = are_satisfied(alloc, &whole, count < DISJUNCTIONS.len());
+    drop(whole);
+    is_right == Ok(true)
+}
+
 #[test]
-fn disjunctions_have_a_model_until_all_are_there(rt: HostRuntime) -> Result<(), Fail> {
+fn disjunctions_have_a_model_until_all_are_there(rt: HostRuntime) {
     for count in 0..=DISJUNCTIONS.len() {
-        let whole = disjunctions(rt.alloc(), count)?;
-        let is_right = are_satisfied(rt.alloc(), &whole, count < DISJUNCTIONS.len());
-        drop(whole);
-        assert!(rt; is_right?);
+        assert!(rt; are_disjunctions_told(rt.alloc(), count));
     }
-    Ok(())
 }
 
 /// Whether the settled base of `EITHER`, cut down to what 3 stands for, has assignments in which 3 is false.
@@ -294,13 +293,19 @@ fn is_cut(base: &mut ClauseBase) -> Result<bool, Memory> {
     Ok(is_denied && !has_model(base)? && has(base, 5, 5))
 }
 
-#[test]
-fn a_settled_base_is_cut(rt: HostRuntime) -> Result<(), Fail> {
-    let mut base = front(rt.alloc(), &EITHER)?;
+/// The same with this base.
+fn is_either_cut(alloc: Global) -> bool {
+    let Some(mut base) = front(alloc, &EITHER) else {
+        return false;
+    };
     let is_cut = is_cut(&mut base);
     drop(base);
-    assert!(rt; is_cut?);
-    Ok(())
+    is_cut == Ok(true)
+}
+
+#[test]
+fn a_settled_base_is_cut(rt: HostRuntime) {
+    assert!(rt; is_either_cut(rt.alloc()));
 }
 
 /// Whether the base has one variable and so many clauses, which have an assignment exactly where it is said.
@@ -324,11 +329,15 @@ fn is_told_as_it_grows(base: &mut ClauseBase) -> Result<bool, Memory>
     Ok(is_told(base, 1, true)? && number == 1 && is_first_right && is_second_right)
 }
 
-#[test]
-fn variables_and_clauses_are_added(rt: HostRuntime) -> Result<(), Fail> {
-    let mut base = ClauseBase::new(rt.alloc(), 0)?;
+/// The same with such a base.
+fn is_new_told(alloc: Global) -> Result<bool, Memory> {
+    let mut base = ClauseBase::new(alloc, 0)?;
     let is_right = is_told_as_it_grows(&mut base);
     drop(base);
-    assert!(rt; is_right == Ok(true));
-    Ok(())
+    is_right
+}
+
+#[test]
+fn variables_and_clauses_are_added(rt: HostRuntime) {
+    assert!(rt; is_new_told(rt.alloc()) == Ok(true));
 }

@@ -7,14 +7,13 @@ ghost use Rattle.mcs_system.specs.Seen.{formula_of};
 ghost use Rattle.mcs_cnf.specs.ClauseLists.{AreOver};
 ghost use Rattle.mcs_classical.specs.declared.assumptions.Assumption as declared;
 
-use crate::contexts::{atoms_of, formulas_of, may_be_asked, system_of};
+use crate::contexts::{Claim, holds, may_be_asked};
 use mcs_base::{Active, Memory};
 use mcs_classical::{Assumption, Consequences};
 use mcs_cnf::{clauses, is_over};
 use mcs_sat::ClauseBase;
 use mcs_system::{Formula, Name};
 use std::alloc::Global;
-use std::test::Fail;
 
 /// Two formulas that are known, three that are assumed by the numbers 0, 3 and 5, and three goals.
 const FORMULAS: &str = "context c classical { p -> q. r & s -> t. p. r. s. q. t. p | r. }";
@@ -100,7 +99,11 @@ fn are_answered(
 }
 
 /// The same, of the formulas of a text.
-fn are_kept(alloc: Global, formulas: &[Formula], atoms: &[Name]) -> Result<bool, Memory> {
+pub(crate) fn are_kept(
+    alloc: Global,
+    formulas: &[Formula],
+    atoms: &[Name],
+) -> Result<bool, Memory> {
     let [_, _, p, r, s, q, t, either] = formulas else {
         return Ok(false);
     };
@@ -134,10 +137,6 @@ fn are_kept(alloc: Global, formulas: &[Formula], atoms: &[Name]) -> Result<bool,
 }
 
 #[test]
-fn what_was_found_is_told_again(rt: HostRuntime) -> Result<(), Fail> {
-    let system = system_of(rt.alloc(), FORMULAS.as_bytes())?;
-    let are_kept = are_kept(rt.alloc(), formulas_of(&system), atoms_of(&system));
-    drop(system);
-    assert!(rt; are_kept == Ok(true));
-    Ok(())
+fn what_was_found_is_told_again(rt: HostRuntime) {
+    assert!(rt; holds(rt.alloc(), FORMULAS.as_bytes(), &Claim::AreKept));
 }

@@ -1,13 +1,12 @@
 //! What follows from formulas, and what is shown of it.
 
-use crate::contexts::{atoms_of, formulas_of, may_be_asked, system_of};
+use crate::contexts::{Claim, holds, may_be_asked};
 use mcs_base::{Memory, Vars};
 use mcs_classical::{entails, entails_from, outputs};
 use mcs_cnf::{are_over, clauses, is_over};
 use mcs_system::{Formula, Name};
 use mcs_trace::Entail;
 use std::alloc::Global;
-use std::test::Fail;
 
 /// Whether it is shown that the goal follows, where no places are given; else that it does not where just the atoms
 /// at these places are true.
@@ -60,7 +59,7 @@ fn is_told_by_clauses(
 
 /// Whether the third formula is told to follow from the two before it, from these and from their clauses, and the
 /// fourth one not to, where just the first two atoms are true.
-fn are_told(alloc: Global, formulas: &[Formula], atoms: &[Name]) -> Result<bool, Memory> {
+pub(crate) fn follow(alloc: Global, formulas: &[Formula], atoms: &[Name]) -> Result<bool, Memory> {
     let [_, _, third, fourth] = formulas else {
         return Ok(false);
     };
@@ -72,12 +71,9 @@ fn are_told(alloc: Global, formulas: &[Formula], atoms: &[Name]) -> Result<bool,
 }
 
 #[test]
-fn goals_follow_or_are_refuted(rt: HostRuntime) -> Result<(), Fail> {
-    let system = system_of(rt.alloc(), b"context c classical { a. a -> b. b. b -> c. }")?;
-    let told = are_told(rt.alloc(), formulas_of(&system), atoms_of(&system));
-    drop(system);
-    assert!(rt; told == Ok(true));
-    Ok(())
+fn goals_follow_or_are_refuted(rt: HostRuntime) {
+    let text: &[u8] = b"context c classical { a. a -> b. b. b -> c. }";
+    assert!(rt; holds(rt.alloc(), text, &Claim::Follow));
 }
 
 /// Whether what is shown is of those that follow as it is said, one after the other.
@@ -90,7 +86,7 @@ fn are_shown(entails: &[Entail], follow: &[bool]) -> bool {
 }
 
 /// Two formulas and then beliefs: which of these follow, by their places, and one after the other.
-struct Beliefs {
+pub(crate) struct Beliefs {
     text: &'static str,
     places: u64,
     follow: &'static [bool],
@@ -114,7 +110,7 @@ static BELIEFS: [Beliefs; 2] = [
 
 /// Whether just those of the formulas after the first two follow from these that are said to, with what shows it of
 /// each.
-fn are_believed(
+pub(crate) fn are_believed(
     alloc: Global,
     formulas: &[Formula],
     atoms: &[Name],
@@ -134,12 +130,8 @@ fn are_believed(
 }
 
 #[test]
-fn what_follows_is_believed(rt: HostRuntime) -> Result<(), Fail> {
+fn what_follows_is_believed(rt: HostRuntime) {
     for said in &BELIEFS {
-        let system = system_of(rt.alloc(), said.text.as_bytes())?;
-        let told = are_believed(rt.alloc(), formulas_of(&system), atoms_of(&system), said);
-        drop(system);
-        assert!(rt; told == Ok(true));
+        assert!(rt; holds(rt.alloc(), said.text.as_bytes(), &Claim::AreBelieved(said)));
     }
-    Ok(())
 }

@@ -1,6 +1,6 @@
 //! The clauses of formulas.
 
-use crate::contexts::{atoms_of, formulas_of, system_of};
+use crate::contexts::{Claim, holds};
 use crate::traces::is_told;
 use mcs_base::Memory;
 use mcs_cnf::{
@@ -11,7 +11,6 @@ use mcs_cnf::{
 use mcs_system::{Context, Formula, Kb, Name, System};
 use mcs_trace::{Clause, Cnf};
 use std::alloc::Global;
-use std::test::Fail;
 
 /// Whether the clauses have these literals.
 fn are_those(clauses: &[Clause], expected: &[&[i64]]) -> bool {
@@ -72,19 +71,25 @@ static CLAUSES_OF_EACH: [&[i64]; 28] = [
     &[10],
 ];
 
+/// Whether each of the formulas is over two atoms, and not all are over the second alone, and they have those clauses.
+pub(crate) fn are_all_stated(
+    alloc: Global,
+    formulas: &[Formula],
+    atoms: &[Name],
+) -> Result<bool, Memory> {
+    if atoms.len() != 2 || are_over(&atoms[1..], formulas) {
+        return Ok(false);
+    }
+    have_clauses(alloc, formulas, atoms, 10, &CLAUSES_OF_EACH)
+}
+
 #[test]
-fn each_connective_has_its_clauses(rt: HostRuntime) -> Result<(), Fail> {
-    let system = system_of(rt.alloc(), EACH)?;
-    let (formulas, atoms) = (formulas_of(&system), atoms_of(&system));
-    let told = have_clauses(rt.alloc(), formulas, atoms, 10, &CLAUSES_OF_EACH);
-    let need_both = atoms.len() == 2 && !are_over(&atoms[1..], formulas);
-    drop(system);
-    assert!(rt; told == Ok(true) && need_both);
-    Ok(())
+fn each_connective_has_its_clauses(rt: HostRuntime) {
+    assert!(rt; holds(rt.alloc(), EACH, &Claim::AreStated));
 }
 
 /// Whether the only context is a program of one rule, whose head names an atom twice.
-fn has_twins(system: &System) -> bool {
+pub(crate) fn has_twins(system: &System) -> bool {
     match system.contexts() {
         [
             Context {
@@ -100,12 +105,14 @@ fn has_twins(system: &System) -> bool {
 }
 
 #[test]
-fn names_that_are_the_same_are_told(rt: HostRuntime) -> Result<(), Fail> {
-    let system = system_of(rt.alloc(), b"context c program { x | x. }")?;
-    let has_twins = has_twins(&system);
-    drop(system);
-    assert!(rt; has_twins);
-    Ok(())
+fn names_that_are_the_same_are_told(rt: HostRuntime) {
+    assert!(rt;
+        holds(
+            rt.alloc(),
+            b"context c program { x | x. }",
+            &Claim::HasTwins
+        )
+    );
 }
 
 /// Adds the clauses of the formula, or of its negation, where they can be added.
@@ -137,12 +144,19 @@ fn pushed(alloc: Global, atoms: &[Name], formulas: &[(&Formula, bool)]) -> Resul
 
 static CONTRADICTION: [&[i64]; 7] = [&[1], &[-1, -3], &[1, 3], &[3], &[-2, -4], &[2, 4], &[4]];
 
-/// Whether a fact, its denial and that of a goal have the clauses of the contradiction, and are refuted by the
-/// clauses of the fact and of its denial.
-fn are_refuted(alloc: Global, formulas: &[Formula], atoms: &[Name]) -> Result<bool, Memory> {
+/// Whether a fact, which is not over the second of two atoms, its denial and that of a goal have the clauses of the
+/// contradiction, and are refuted by the clauses of the fact and of its denial.
+pub(crate) fn are_refuted(
+    alloc: Global,
+    formulas: &[Formula],
+    atoms: &[Name],
+) -> Result<bool, Memory> {
     let [fact, goal] = formulas else {
         return Ok(false);
     };
+    if atoms.len() != 2 || is_over(&atoms[1..], fact) {
+        return Ok(false);
+    }
     let cnf = pushed(alloc, atoms, &[(fact, false), (fact, true), (goal, true)])?;
     let is_stated = cnf.vars() == 4 && are_those(cnf.clauses(), &CONTRADICTION);
     let is_refuted = is_told(alloc, &cnf, &[&[4, 2, 1]], true);
@@ -151,21 +165,19 @@ fn are_refuted(alloc: Global, formulas: &[Formula], atoms: &[Name]) -> Result<bo
 }
 
 #[test]
-fn what_contradicts_itself_entails_everything(rt: HostRuntime) -> Result<(), Fail> {
-    let system = system_of(rt.alloc(), b"context c classical { p. q. }")?;
-    let (formulas, atoms) = (formulas_of(&system), atoms_of(&system));
-    let told = are_refuted(rt.alloc(), formulas, atoms);
-    let needs_first = formulas.len() == 2
-        && atoms.len() == 2
-        && !is_over(&atoms[1..], &formulas[0]);
-    drop(system);
-    assert!(rt; told == Ok(true) && needs_first);
-    Ok(())
+fn what_contradicts_itself_entails_everything(rt: HostRuntime) {
+    assert!(rt;
+        holds(
+            rt.alloc(),
+            b"context c classical { p. q. }",
+            &Claim::AreRefuted
+        )
+    );
 }
 
-/// Whether each of the formulas is over both of two atoms, and over neither of them alone.
-fn need_both(formulas: &[Formula], atoms: &[Name]) -> bool {
-    if atoms.len() != 2 {
+/// Whether each of four formulas is over both of two atoms, and over neither of them alone.
+pub(crate) fn need_both(formulas: &[Formula], atoms: &[Name]) -> bool {
+    if formulas.len() != 4 || atoms.len() != 2 {
         return false;
     }
     let (first, second) = atoms.split_at(1);
@@ -177,16 +189,9 @@ fn need_both(formulas: &[Formula], atoms: &[Name]) -> bool {
 }
 
 #[test]
-fn formulas_are_over_the_atoms_of_all_their_parts(rt: HostRuntime) -> Result<(), Fail> {
-    let system = system_of(
-        rt.alloc(),
-        b"context c classical { p & q. p | ~q. p -> q. p <-> q. }",
-    )?;
-    let (formulas, atoms) = (formulas_of(&system), atoms_of(&system));
-    let need_both = formulas.len() == 4 && need_both(formulas, atoms);
-    drop(system);
-    assert!(rt; need_both);
-    Ok(())
+fn formulas_are_over_the_atoms_of_all_their_parts(rt: HostRuntime) {
+    let text: &[u8] = b"context c classical { p & q. p | ~q. p -> q. p <-> q. }";
+    assert!(rt; holds(rt.alloc(), text, &Claim::NeedBoth));
 }
 
 /// The text of a context with one formula, that has so many negations.
@@ -200,7 +205,7 @@ fn nested(alloc: Global, count: u32) -> Result<Vec<u8>, Memory> {
 }
 
 /// Whether the only formula's negation has so many variables and clauses.
-fn has_size(
+pub(crate) fn has_size(
     alloc: Global,
     formulas: &[Formula],
     atoms: &[Name],
@@ -214,23 +219,17 @@ fn has_size(
     Ok(cnf.vars() == vars && cnf.clauses().len() == count)
 }
 
-/// A formula of 513 occurrences, one more than a text may have.
-#[test]
-fn deep_formulas_have_clauses(rt: HostRuntime) -> Result<(), Fail> {
-    let text = nested(rt.alloc(), 511)?;
-    let system = system_of(rt.alloc(), &text);
+/// Whether a formula of 513 occurrences, one more than a text may have, has its clauses.
+fn has_deep_size(alloc: Global) -> Result<bool, Memory> {
+    let text = nested(alloc, 511)?;
+    let has_size = holds(alloc, &text, &Claim::HasSize(513, 1025));
     drop(text);
-    let system = system?;
-    let told = has_size(
-        rt.alloc(),
-        formulas_of(&system),
-        atoms_of(&system),
-        513,
-        1025,
-    );
-    drop(system);
-    assert!(rt; told == Ok(true));
-    Ok(())
+    Ok(has_size)
+}
+
+#[test]
+fn deep_formulas_have_clauses(rt: HostRuntime) {
+    assert!(rt; has_deep_size(rt.alloc()) == Ok(true));
 }
 
 #[test]

@@ -1,16 +1,14 @@
 //! The orders in which contexts are asked, and what each is told and guesses.
 
+use crate::contexts::system_of;
 use mcs_base::Vars;
 use mcs_import::Plan;
-use mcs_language::read_system;
 use std::alloc::Global;
-use std::sync::Arc;
-use std::test::Fail;
 
 /// A plan for the system that a text spells.
-pub(crate) fn plan_of(alloc: Global, text: &str) -> Result<Plan, Fail> {
-    let system = Arc::new(alloc, read_system(alloc, text.as_bytes())?)?;
-    Ok(Plan::of(alloc, system)?)
+pub(crate) fn plan_of(alloc: Global, text: &str) -> Option<Plan> {
+    let system = system_of(alloc, text.as_bytes())?;
+    Plan::of(alloc, system).ok()
 }
 
 /// Whether the plan is this one.
@@ -90,23 +88,29 @@ static ORDERS: [Order; 5] = [
     },
 ];
 
+/// Whether the plan for the text is this one.
+fn is_ordered(alloc: Global, wanted: &Order) -> bool {
+    let Some(plan) = plan_of(alloc, wanted.text) else {
+        return false;
+    };
+    let is_right = is_planned(&plan, wanted);
+    drop(plan);
+    is_right
+}
+
 #[test]
-fn orders_contexts(rt: HostRuntime) -> Result<(), Fail> {
+fn orders_contexts(rt: HostRuntime) {
     for wanted in &ORDERS {
-        let plan = plan_of(rt.alloc(), wanted.text)?;
-        let is_right = is_planned(&plan, wanted);
-        drop(plan);
-        assert!(rt; is_right);
+        assert!(rt; is_ordered(rt.alloc(), wanted));
     }
-    Ok(())
 }
 
 /// Whether the plan is the same as that for the system that a text spells.
-fn is_of(alloc: Global, plan: &Plan, text: &str) -> Result<bool, Fail> {
+fn is_of(alloc: Global, plan: &Plan, text: &str) -> Option<bool> {
     let other = plan_of(alloc, text)?;
     let same = plan.is(&other);
     drop(other);
-    Ok(same)
+    Some(same)
 }
 
 const KINDS: &str = "context c1 classical { a & b. } context c2 default { p. q : r / s. }
@@ -140,19 +144,25 @@ context c3 program { x :- y, not z. }",
 ];
 
 /// Whether the plan is the same as those for the texts that are said to have it, and as no other.
-fn are_told_apart(alloc: Global, plan: &Plan) -> Result<bool, Fail> {
+fn are_told_apart(alloc: Global, plan: &Plan) -> bool {
     let mut are_right = true;
     for (text, same) in &TEXTS {
-        are_right = is_of(alloc, plan, text)? == *same && are_right;
+        are_right &= is_of(alloc, plan, text) == Some(*same);
     }
-    Ok(are_right)
+    are_right
+}
+
+/// The same of the plan for the first text.
+fn are_kinds_told_apart(alloc: Global) -> bool {
+    let Some(plan) = plan_of(alloc, KINDS) else {
+        return false;
+    };
+    let are_right = are_told_apart(alloc, &plan);
+    drop(plan);
+    are_right
 }
 
 #[test]
-fn plans_of_one_system_are_the_same(rt: HostRuntime) -> Result<(), Fail> {
-    let plan = plan_of(rt.alloc(), KINDS)?;
-    let are_right = are_told_apart(rt.alloc(), &plan);
-    drop(plan);
-    assert!(rt; are_right?);
-    Ok(())
+fn plans_of_one_system_are_the_same(rt: HostRuntime) {
+    assert!(rt; are_kinds_told_apart(rt.alloc()));
 }

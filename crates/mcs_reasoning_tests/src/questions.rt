@@ -1,12 +1,12 @@
 //! What contexts are asked.
 
-use crate::contexts::system_of;
+use crate::contexts::{Claim, holds};
 use crate::plans::{FORBIDDEN, ITSELF, plan_of};
 use mcs_base::{Active, Memory, Vars};
 use mcs_import::{Plan, asked, questions};
 use mcs_system::System;
 use std::alloc::Global;
-use std::test::Fail;
+use std::slice;
 
 /// Whether the sets are those of these numbers.
 fn are_sets(found: &[Active], sets: &[u64]) -> bool {
@@ -40,15 +40,21 @@ static GUESSES: [(&str, u32, &[u64]); 4] = [
     (TWO_RULES, 1, &[0b00, 0b01, 0b10, 0b11]),
 ];
 
+/// Whether these are the questions to the only context of the text.
+fn are_guesses(alloc: Global, text: &str, level: u32, sets: &[u64]) -> bool {
+    let Some(plan) = plan_of(alloc, text) else {
+        return false;
+    };
+    let told = are_questions(alloc, &plan, level, sets);
+    drop(plan);
+    told == Ok(true)
+}
+
 #[test]
-fn asks_by_guesses(rt: HostRuntime) -> Result<(), Fail> {
+fn asks_by_guesses(rt: HostRuntime) {
     for (text, level, sets) in &GUESSES {
-        let plan = plan_of(rt.alloc(), text)?;
-        let told = are_questions(rt.alloc(), &plan, *level, sets);
-        drop(plan);
-        assert!(rt; told == Ok(true));
+        assert!(rt; are_guesses(rt.alloc(), text, *level, sets));
     }
-    Ok(())
 }
 
 /// Whether these are what the second of two contexts is asked where the first may supply these.
@@ -62,9 +68,17 @@ fn are_asked(
     if system.contexts().len() != 2 {
         return Ok(false);
     }
-    let supplies = [supply.to_vec(alloc)?];
-    let found = asked(alloc, system, 1, &supplies, Vars::empty(), level)?;
-    Ok(are_sets(&found, sets))
+    let supply = supply.to_vec(alloc)?;
+    let found = asked(
+        alloc,
+        system,
+        1,
+        slice::from_ref(&supply),
+        Vars::empty(),
+        level,
+    );
+    drop(supply);
+    Ok(are_sets(&found?, sets))
 }
 
 /// A level, and what the second context is asked at it where the first supplies its first variable alone, so that both
@@ -75,15 +89,16 @@ static LEVELS: [(u32, &[u64]); 3] = [
     (2, &[0b00, 0b01, 0b10, 0b11]),
 ];
 
-#[test]
-fn asks_by_level(rt: HostRuntime) -> Result<(), Fail> {
-    let system = system_of(rt.alloc(), FORBIDDEN.as_bytes())?;
-    // Nothing is asked where a context supplies nothing.
-    let mut are_right = are_asked(rt.alloc(), &system, &[], 2, &[]) == Ok(true);
+/// Whether the second of two contexts is asked by level, and nothing where the first supplies nothing.
+pub(crate) fn are_asked_by_level(alloc: Global, system: &System) -> bool {
+    let mut are_right = are_asked(alloc, system, &[], 2, &[]) == Ok(true);
     for (level, sets) in &LEVELS {
-        are_right &= are_asked(rt.alloc(), &system, &[Vars::one(0)], *level, sets) == Ok(true);
+        are_right &= are_asked(alloc, system, &[Vars::one(0)], *level, sets) == Ok(true);
     }
-    drop(system);
-    assert!(rt; are_right);
-    Ok(())
+    are_right
+}
+
+#[test]
+fn asks_by_level(rt: HostRuntime) {
+    assert!(rt; holds(rt.alloc(), FORBIDDEN.as_bytes(), &Claim::AreAsked));
 }

@@ -4,14 +4,13 @@ ghost use Rattle.std.specs.Prelude.{map};
 ghost use Rattle.mcs_system.specs.Seen.{formula_of};
 ghost use Rattle.mcs_cnf.specs.ClauseLists.{AreOver};
 
-use crate::contexts::{atoms_of, formulas_of, may_be_asked, system_of};
+use crate::contexts::{Claim, holds, may_be_asked};
 use mcs_base::{Memory, Vars};
 use mcs_classical::{Satisfied, satisfy};
 use mcs_cnf::clauses;
 use mcs_system::{Formula, Name};
 use mcs_trace::{Trace, check};
 use std::alloc::Global;
-use std::test::Fail;
 
 /// Whether the trace is accepted for the clauses of the formulas.
 fn is_accepted(
@@ -49,17 +48,14 @@ fn are_told(
 
 /// Whether the first two of three formulas are told to hold where just the second atom is true, and all three to be
 /// refuted.
-fn two_hold(alloc: Global, formulas: &[Formula], atoms: &[Name]) -> bool {
+pub(crate) fn two_hold(alloc: Global, formulas: &[Formula], atoms: &[Name]) -> bool {
     formulas.len() == 3
         && are_told(alloc, &formulas[..2], atoms, Some(Vars::one(1))) == Ok(true)
         && are_told(alloc, formulas, atoms, None) == Ok(true)
 }
 
 #[test]
-fn formulas_are_satisfied_or_refuted(rt: HostRuntime) -> Result<(), Fail> {
-    let system = system_of(rt.alloc(), b"context c classical { p | q. ~p. ~q. }")?;
-    let two_hold = two_hold(rt.alloc(), formulas_of(&system), atoms_of(&system));
-    drop(system);
-    assert!(rt; two_hold);
-    Ok(())
+fn formulas_are_satisfied_or_refuted(rt: HostRuntime) {
+    let text: &[u8] = b"context c classical { p | q. ~p. ~q. }";
+    assert!(rt; holds(rt.alloc(), text, &Claim::TwoHold));
 }

@@ -239,7 +239,7 @@ fn are_kept(alloc: Global) -> Result<bool, Memory> {
     let projections = projections_of(alloc, &rows, set);
     drop(rows);
     let projections = projections?;
-    let states = [0b001, 0b010, 0b100].map(Vars::numbered);
+    let states = [Vars::one(0), Vars::one(1), Vars::one(2)];
     let kept = states_with(alloc, &states, &projections, set)?;
     Ok(projections.len() == 2 && are_states(&kept, &[0b001, 0b010]))
 }

@@ -4,7 +4,6 @@ use crate::searches::list;
 use mcs_base::Memory;
 use mcs_trace::{Clause, Cnf, Step, Trace, accepted_traces_refute, check, numbered};
 use std::alloc::Global;
-use std::test::Fail;
 
 /// The trace of steps that resolve the empty clause, each from one of the chains.
 fn trace_of(alloc: Global, chains: &[&[u64]]) -> Result<Trace, Memory> {
@@ -52,16 +51,27 @@ fn step_comes_next(alloc: Global, cnf: &Cnf) -> Result<bool, Memory> {
     Ok(is_there && is_last)
 }
 
-#[test]
-fn two_units_are_refuted_by_one_step(rt: HostRuntime) -> Result<(), Fail> {
-    let cnf = list(rt.alloc(), 1, &[&[1], &[-1]])?;
-    let mut are_right = cnf.vars() == 1 && cnf.clauses().len() == 2;
-    are_right &= step_comes_next(rt.alloc(), &cnf) == Ok(true);
+/// Whether the list is of one variable and two clauses, and the traces of it are accepted where that is said.
+fn are_told(alloc: Global, cnf: &Cnf) -> bool {
+    let mut are_right = step_comes_next(alloc, cnf) == Ok(true);
     for (chains, accepted) in &TRACES {
-        are_right &= is_told(rt.alloc(), &cnf, chains, *accepted) == Ok(true);
+        are_right &= is_told(alloc, cnf, chains, *accepted) == Ok(true);
     }
+    are_right && cnf.vars() == 1 && cnf.clauses().len() == 2
+}
+
+/// The same of two clauses that contradict one another.
+fn are_units_told(alloc: Global) -> bool {
+    let Some(cnf) = list(alloc, 1, &[&[1], &[-1]]) else {
+        return false;
+    };
+    let are_told = are_told(alloc, &cnf);
     drop(cnf);
-    assert!(rt; are_right);
+    are_told
+}
+
+#[test]
+fn two_units_are_refuted_by_one_step(rt: HostRuntime) {
+    assert!(rt; are_units_told(rt.alloc()));
     accepted_traces_refute();
-    Ok(())
 }

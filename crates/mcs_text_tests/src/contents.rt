@@ -1,8 +1,8 @@
 //! What a system tells of its contexts and rules.
 
 use crate::copies::{bridges_of, contexts_of};
+use crate::systems::{Claim, holds};
 use mcs_base::{Active, Marks, Memory, Vars};
-use mcs_language::{TextFault, read_system};
 use mcs_system::{Bridge, Formula, Name, Read, System};
 use std::alloc::Global;
 
@@ -14,12 +14,11 @@ bridge r2: rules:y if facts:b, not rules:x. bridge r3: theory:t.";
 
 /// Whether these are the names.
 fn are_named(names: &[Name], texts: &[&str]) -> bool {
+    let mut are_same = names.len() == texts.len();
     for (name, text) in names.iter().zip(texts) {
-        if name.bytes() != text.as_bytes() {
-            return false;
-        }
+        are_same &= name.bytes() == text.as_bytes();
     }
-    names.len() == texts.len()
+    are_same
 }
 
 /// Whether the read is of this atom.
@@ -63,50 +62,44 @@ fn apply(system: &System, i: u32, state: Vars, rules: Active) -> bool {
     (i as usize) < system.contexts().len() && system.applicable(i, state) == rules
 }
 
+/// A context, its atoms, and its variables, its inputs and the rules into it, as bits of numbers.
+static CONTEXTS: [(u32, &[&str], u64, u64, u64); 3] = [
+    (0, &["a", "b", "e"], 0b00011, 0b00101, 0b0010),
+    (1, &["p", "q", "r", "s", "t"], 0b00100, 0b11001, 0b1001),
+    (2, &["x", "y", "z", "w"], 0b11000, 0b01010, 0b0100),
+];
+
 /// Whether the three contexts have what the text says.
 fn are_told(system: &System) -> bool {
-    let (facts, theory, rules) = (Vars::one(0).with(1), Vars::one(2), Vars::one(3).with(4));
-    let into_facts = Vars::one(0).with(2);
-    let into_theory = Vars::one(0).with(3).with(4);
-    let into_rules = Vars::one(1).with(3);
-    let atoms = ["p", "q", "r", "s", "t"];
-    is_told(
-        system,
-        0,
-        &["a", "b", "e"],
-        facts,
-        into_facts,
-        Active::one(1),
-    ) && is_told(
-        system,
-        1,
-        &atoms,
-        theory,
-        into_theory,
-        Active::one(0).with(3),
-    ) && is_told(
-        system,
-        2,
-        &["x", "y", "z", "w"],
-        rules,
-        into_rules,
-        Active::one(2),
-    )
+    let mut are_told = true;
+    for (i, atoms, vars, inputs, rules) in &CONTEXTS {
+        let (vars, inputs) = (Vars::numbered(*vars), Vars::numbered(*inputs));
+        are_told &= is_told(system, *i, atoms, vars, inputs, Active::numbered(*rules));
+    }
+    are_told
 }
+
+/// A context, a state, and the rules into the context that apply in it, the sets as bits of numbers.
+static APPLICABLE: [(u32, u64, u64); 5] = [
+    (1, 0b01001, 0b1001),
+    (1, 0b11001, 0b1000),
+    (0, 0b00100, 0b0010),
+    (0, 0b01101, 0b0000),
+    (2, 0b00010, 0b0100),
+];
 
 /// Whether the right rules into each of the three contexts apply, and of all rules.
 fn are_applicable(system: &System) -> bool {
-    let state = Vars::one(0).with(3);
-    apply(system, 1, state, Active::one(0).with(3))
-        && apply(system, 1, state.with(4), Active::one(3))
-        && apply(system, 0, Vars::one(2), Active::one(1))
-        && apply(system, 0, state.with(2), Active::empty())
-        && apply(system, 2, Vars::one(1), Active::one(2))
-        && system.applicable_rules(state.with(1)) == Active::one(0).with(3)
+    let mut are_right = system.applicable_rules(Vars::numbered(0b01011))
+        == Active::numbered(0b1001);
+    for (i, state, rules) in &APPLICABLE {
+        are_right &= apply(system, *i, Vars::numbered(*state), Active::numbered(*rules));
+    }
+    are_right
 }
 
 /// Whether the system has three contexts, four rules and five variables, and tells what the text says.
-fn is_three(system: &System) -> bool {
+pub(crate) fn is_three(system: &System) -> bool {
     system.contexts().len() == 3
         && system.bridges().len() == 4
         && are_five(system.variables())
@@ -114,14 +107,9 @@ fn is_three(system: &System) -> bool {
         && are_applicable(system)
 }
 
-fn is_three_read(alloc: Global) -> Result<bool, TextFault> {
-    let system = read_system(alloc, THREE)?;
-    Ok(is_three(&system))
-}
-
 #[test]
 fn tells_of_contexts_and_rules(rt: HostRuntime) {
-    assert!(rt; is_three_read(rt.alloc()) == Ok(true));
+    assert!(rt; holds(rt.alloc(), THREE, &Claim::IsThree));
 }
 
 /// Copies of the rules of the system, of which the second is kept and the third is closed.
@@ -137,7 +125,7 @@ fn marked_rules(alloc: Global, system: &System) -> Result<Vec<Bridge>, Memory> {
 }
 
 /// Whether repairs may change each rule of the system both ways, and with these copies each but as it is marked.
-fn are_repairs_told(alloc: Global, system: &System) -> Result<bool, Memory> {
+pub(crate) fn are_repairs_told(alloc: Global, system: &System) -> Result<bool, Memory> {
     let contexts = contexts_of(alloc, &[system.contexts()])?;
     let rules = marked_rules(alloc, system)?;
     let others = Marks::one(0).with(1).with(3).with(4).with(6).with(7);
@@ -148,12 +136,7 @@ fn are_repairs_told(alloc: Global, system: &System) -> Result<bool, Memory> {
     Ok(is_told && system.allowed() == others.with(2).with(5))
 }
 
-fn are_repairs_of_three_told(alloc: Global) -> Result<bool, TextFault> {
-    let system = read_system(alloc, THREE)?;
-    Ok(are_repairs_told(alloc, &system)?)
-}
-
 #[test]
 fn tells_what_repairs_may_change(rt: HostRuntime) {
-    assert!(rt; are_repairs_of_three_told(rt.alloc()) == Ok(true));
+    assert!(rt; holds(rt.alloc(), THREE, &Claim::RepairsAreTold));
 }

@@ -1,8 +1,7 @@
 //! Copies of contexts and bridge rules, and what is built of them.
 
-use crate::systems::is_written;
+use crate::systems::{Claim, holds, is_written};
 use mcs_base::Memory;
-use mcs_language::{TextFault, read_system};
 use mcs_system::{Bridge, BuildFault, Context, System};
 use std::alloc::Global;
 
@@ -72,13 +71,14 @@ context c4 classical {
 bridge r1: c4:false if not c2:true, not c3:true.
 ";
 
-/// Whether copies of the contexts and rules of the system that the text spells make one with the same text.
-fn is_copied(alloc: Global, text: &[u8]) -> Result<bool, TextFault> {
-    let system = read_system(alloc, text)?;
-    let copy = built(alloc, &[system.contexts()], &[system.bridges()]);
-    drop(system);
-    match copy {
-        Ok(copy) => Ok(is_written(alloc, &copy, text)?),
+/// Whether copies of the contexts and rules of the system make one with this text.
+pub(crate) fn is_copied(alloc: Global, system: &System, text: &[u8]) -> Result<bool, Memory> {
+    match built(alloc, &[system.contexts()], &[system.bridges()]) {
+        Ok(copy) => {
+            let is_written = is_written(alloc, &copy, text);
+            drop(copy);
+            is_written
+        }
         Err(_) => Ok(false),
     }
 }
@@ -86,5 +86,5 @@ fn is_copied(alloc: Global, text: &[u8]) -> Result<bool, TextFault> {
 /// The copies are seen in the text that is written of them.
 #[test]
 fn copies_have_each_construct(rt: HostRuntime) {
-    assert!(rt; is_copied(rt.alloc(), EACH) == Ok(true));
+    assert!(rt; holds(rt.alloc(), EACH, &Claim::IsCopied(EACH)));
 }

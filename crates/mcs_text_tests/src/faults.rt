@@ -27,7 +27,7 @@ pub(crate) fn has_fault(
 
 /// Texts, the numbers of their faults, and their offsets: first where something is missing, too much, or begins no
 /// token, then of names.
-const FAULTS: [(&str, u8, usize); 20] = [
+static FAULTS: [(&str, u8, usize); 20] = [
     ("context", 1, 7),
     ("context context classical {}", 1, 8),
     ("context c logical {}", 1, 10),
@@ -69,7 +69,7 @@ fn faults_stand_at_their_tokens(rt: HostRuntime) {
 }
 
 /// A comment alone, a rule with a context's name, and what a program reads of a classical context.
-const FAULTLESS: [&str; 3] = [
+static FAULTLESS: [&str; 3] = [
     "# context c",
     "context c classical {} bridge c: c:p.",
     "context c program {} context d classical {} bridge r: d:(a | b) if c:a, not d:~a.",

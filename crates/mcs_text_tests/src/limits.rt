@@ -42,10 +42,19 @@ fn push_all(text: &mut Text, all: &[Rows]) -> Result<(), Memory> {
     Ok(())
 }
 
+/// The text of all these rows.
+fn text_of(alloc: Global, parts: &[&[Rows]]) -> Result<Text, Memory> {
+    let mut text = Text::new(alloc);
+    for rows in parts {
+        push_all(&mut text, rows)?;
+    }
+    Ok(text)
+}
+
 /// A text of a front, a row for each number from 1 up to a count, and a back. With the count `most` it keeps the limit,
 /// and with one more it exceeds it where the tail begins.
-struct Parts {
-    limit: Limit,
+pub(crate) struct Parts {
+    pub(crate) limit: Limit,
     most: u64,
     front: &'static str,
     row: &'static str,
@@ -54,27 +63,56 @@ struct Parts {
 }
 
 impl Parts {
-    /// Appends the text with so many rows.
-    fn push(&self, text: &mut Text, count: u64) -> Result<(), Memory> {
+    /// The text with so many rows.
+    fn text(&self, alloc: Global, count: u64) -> Result<Text, Memory> {
         let end = count.saturating_add(1);
-        push_all(
-            text,
-            &[(self.front, 0, 1), (self.row, 1, end), (self.back, 0, 1)],
-        )
+        let all = [(self.front, 0, 1), (self.row, 1, end), (self.back, 0, 1)];
+        text_of(alloc, &[all.as_slice()])
+    }
+
+    /// The text that keeps the limit.
+    pub(crate) fn full_text(&self, alloc: Global) -> Result<Text, Memory> {
+        self.text(alloc, self.most)
+    }
+
+    /// Whether the text with one row more exceeds the limit where the tail begins.
+    fn is_exceeded(&self, alloc: Global) -> Result<bool, Memory> {
+        let text = self.text(alloc, self.most.saturating_add(1))?;
+        let is_exceeded = exceeds(alloc, text.bytes(), self.limit, self.tail.as_bytes());
+        drop(text);
+        Ok(is_exceeded)
     }
 
     /// Whether it keeps the limit and exceeds it so.
     fn is_kept(&self, alloc: Global) -> Result<bool, Memory> {
-        let mut text = Text::new(alloc);
-        self.push(&mut text, self.most)?;
+        let text = self.full_text(alloc)?;
         let fits = fault_of(alloc, text.bytes()) == None;
-        text.clear();
-        self.push(&mut text, self.most.saturating_add(1))?;
-        Ok(fits & exceeds(alloc, text.bytes(), self.limit, self.tail.as_bytes()))
+        drop(text);
+        Ok(fits & self.is_exceeded(alloc)?)
     }
 }
 
-const PARTS: [Parts; 9] = [
+/// It keeps the limit of the atoms of a context.
+pub(crate) const FULL_OF_ATOMS: Parts = Parts {
+    limit: Limit::AtomsPerContext,
+    most: 64,
+    front: "context c classical { ",
+    row: "a#. ",
+    back: "}",
+    tail: "a65. }",
+};
+
+/// It keeps the limit of the signs and atoms of a formula.
+pub(crate) const FULL_OF_SIGNS: Parts = Parts {
+    limit: Limit::FormulaSize,
+    most: 511,
+    front: "context c classical { ",
+    row: "~",
+    back: "p. }",
+    tail: "p. }",
+};
+
+static PARTS: [Parts; 9] = [
     Parts {
         limit: Limit::Contexts,
         most: 64,
@@ -99,14 +137,7 @@ const PARTS: [Parts; 9] = [
         back: ".",
         tail: "q16.",
     },
-    Parts {
-        limit: Limit::AtomsPerContext,
-        most: 64,
-        front: "context c classical { ",
-        row: "a#. ",
-        back: "}",
-        tail: "a65. }",
-    },
+    FULL_OF_ATOMS,
     Parts {
         limit: Limit::DefaultsPerContext,
         most: 10,
@@ -123,14 +154,7 @@ const PARTS: [Parts; 9] = [
         back: "}",
         tail: "p. }",
     },
-    Parts {
-        limit: Limit::FormulaSize,
-        most: 511,
-        front: "context c classical { ",
-        row: "~",
-        back: "p. }",
-        tail: "p. }",
-    },
+    FULL_OF_SIGNS,
     Parts {
         limit: Limit::FormulaSize,
         most: 511,
@@ -149,18 +173,6 @@ const PARTS: [Parts; 9] = [
     },
 ];
 
-/// The first of the texts that keeps the limit.
-pub(crate) fn full_text(alloc: Global, limit: Limit) -> Result<Text, Memory> {
-    let mut text = Text::new(alloc);
-    for parts in &PARTS {
-        if parts.limit == limit {
-            parts.push(&mut text, parts.most)?;
-            break;
-        }
-    }
-    Ok(text)
-}
-
 #[test]
 fn limits_of_parts_are_kept(rt: HostRuntime) {
     for parts in &PARTS {
@@ -168,97 +180,86 @@ fn limits_of_parts_are_kept(rt: HostRuntime) {
     }
 }
 
-/// Whether the text keeps the limit with the rest behind it, and exceeds it with the other rows, where the last of
+/// A text that keeps the limit with the rest behind its front, and exceeds it with other rows there, where the last of
 /// them begin.
-fn is_kept(
-    alloc: Global,
-    text: &mut Text,
+struct Full {
     limit: Limit,
-    rest: &[Rows],
-    (other, last): (&str, &[Rows]),
-) -> Result<bool, Memory> {
-    let front = text.bytes().len();
-    push_all(text, rest)?;
-    let fits = fault_of(alloc, text.bytes()) == None;
-    text.cut(front);
-    text.push(other.as_bytes())?;
-    let offset = text.bytes().len();
-    push_all(text, last)?;
-    Ok(fits & has_fault(alloc, text.bytes(), 5, offset, Some(limit)))
+    front: &'static [Rows],
+    rest: &'static [Rows],
+    other: &'static [Rows],
+    last: &'static [Rows],
 }
 
-/// A formula in 512 parentheses, from the last one that is opened on; and one in 513, from there on.
-const NESTED: [Rows; 3] = [("p", 0, 1), (")", 0, 512), (". }", 0, 1)];
-
-const NESTED_DEEPER: [Rows; 3] = [("(p", 0, 1), (")", 0, 513), (". }", 0, 1)];
-
-fn is_limit_of_parentheses_kept(alloc: Global) -> Result<bool, Memory> {
-    let mut text = Text::new(alloc);
-    push_all(
-        &mut text,
-        &[("context c classical { ", 0, 1), ("(", 0, 512)],
-    )?;
-    is_kept(
-        alloc,
-        &mut text,
-        Limit::OpenParentheses,
-        &NESTED,
-        ("", &NESTED_DEEPER),
-    )
-}
-
-/// Appends bridge rules, by turns into six contexts.
-fn push_rules(text: &mut Text, count: u64) -> Result<(), Memory> {
-    push_rows(text, "context c# classical {} ", 1, 7)?;
-    for number in 0..count {
-        push_row(text, "bridge r#: c", number)?;
-        push_row(text, "#:p. ", number % 6 + 1)?;
-    }
-    Ok(())
-}
-
-fn is_limit_of_rules_kept(alloc: Global) -> Result<bool, Memory> {
-    let mut text = Text::new(alloc);
-    push_rules(&mut text, 64)?;
-    is_kept(
-        alloc,
-        &mut text,
-        Limit::Bridges,
-        &[],
-        ("", &[("bridge r64: c5:p. ", 0, 1)]),
-    )
-}
-
-/// Four rules that read sixteen beliefs of a context each, and the front of a rule that reads one more.
-const VARIABLES: [Rows; 11] = [
-    ("context d classical {} ", 0, 1),
-    ("context c# classical {} ", 1, 6),
-    ("bridge r1: c1:p if d:a1", 0, 1),
-    (", d:b#", 15, 30),
-    (". bridge r2: c2:p if d:a2", 0, 1),
-    (", d:b#", 30, 45),
-    (". bridge r3: c3:p if d:a3", 0, 1),
-    (", d:b#", 45, 60),
-    (". bridge r4: c4:p if d:a4", 0, 1),
-    (", d:b#", 60, 75),
-    (". bridge s: c5:p if ", 0, 1),
+static FULL: [Full; 3] = [
+    // A formula in 512 parentheses, from the last one that is opened on; and one in 513, from there on.
+    Full {
+        limit: Limit::OpenParentheses,
+        front: &[("context c classical { ", 0, 1), ("(", 0, 512)],
+        rest: &[("p", 0, 1), (")", 0, 512), (". }", 0, 1)],
+        other: &[],
+        last: &[("(p", 0, 1), (")", 0, 513), (". }", 0, 1)],
+    },
+    // Bridge rules into six contexts.
+    Full {
+        limit: Limit::Bridges,
+        front: &[
+            ("context c# classical {} ", 1, 7),
+            ("bridge r#: c1:p. ", 0, 11),
+            ("bridge r#: c2:p. ", 11, 22),
+            ("bridge r#: c3:p. ", 22, 33),
+            ("bridge r#: c4:p. ", 33, 44),
+            ("bridge r#: c5:p. ", 44, 54),
+            ("bridge r#: c6:p. ", 54, 64),
+        ],
+        rest: &[],
+        other: &[],
+        last: &[("bridge r64: c5:p. ", 0, 1)],
+    },
+    // Four rules that read sixteen beliefs of a context each, and the front of a rule that reads one more.
+    Full {
+        limit: Limit::Variables,
+        front: &[
+            ("context d classical {} ", 0, 1),
+            ("context c# classical {} ", 1, 6),
+            ("bridge r1: c1:p if d:a1", 0, 1),
+            (", d:b#", 15, 30),
+            (". bridge r2: c2:p if d:a2", 0, 1),
+            (", d:b#", 30, 45),
+            (". bridge r3: c3:p if d:a3", 0, 1),
+            (", d:b#", 45, 60),
+            (". bridge r4: c4:p if d:a4", 0, 1),
+            (", d:b#", 60, 75),
+            (". bridge s: c5:p if ", 0, 1),
+        ],
+        rest: &[("d:a1. ", 0, 1)],
+        other: &[("c1:", 0, 1)],
+        last: &[("b. ", 0, 1)],
+    },
 ];
 
-fn is_limit_of_variables_kept(alloc: Global) -> Result<bool, Memory> {
-    let mut text = Text::new(alloc);
-    push_all(&mut text, &VARIABLES)?;
-    is_kept(
-        alloc,
-        &mut text,
-        Limit::Variables,
-        &[("d:a1. ", 0, 1)],
-        ("c1:", &[("b. ", 0, 1)]),
-    )
+impl Full {
+    /// Whether the text keeps the limit.
+    fn fits(&self, alloc: Global) -> Result<bool, Memory> {
+        let text = text_of(alloc, &[self.front, self.rest])?;
+        let fits = fault_of(alloc, text.bytes()) == None;
+        drop(text);
+        Ok(fits)
+    }
+
+    /// Whether it exceeds the limit where the last rows begin.
+    fn is_exceeded(&self, alloc: Global) -> Result<bool, Memory> {
+        let tail = text_of(alloc, &[self.last])?;
+        let text = text_of(alloc, &[self.front, self.other, self.last])?;
+        let is_exceeded = exceeds(alloc, text.bytes(), self.limit, tail.bytes());
+        drop((text, tail));
+        Ok(is_exceeded)
+    }
 }
 
 #[test]
 fn limits_of_texts_are_kept(rt: HostRuntime) {
-    assert!(rt; is_limit_of_parentheses_kept(rt.alloc()) == Ok(true));
-    assert!(rt; is_limit_of_rules_kept(rt.alloc()) == Ok(true));
-    assert!(rt; is_limit_of_variables_kept(rt.alloc()) == Ok(true));
+    for full in &FULL {
+        let fits = full.fits(rt.alloc()) == Ok(true);
+        assert!(rt; fits && full.is_exceeded(rt.alloc()) == Ok(true));
+    }
 }

@@ -13,7 +13,7 @@ fn reads(alloc: Global, bytes: &[u8], spells: bool) -> Result<bool, Memory> {
 }
 
 /// Bytes, and whether they spell a name; at last 64 and 65 letters.
-const SPELLED: [(&str, bool); 7] = [
+static SPELLED: [(&str, bool); 7] = [
     ("", false),
     ("a", true),
     ("_9", true),

@@ -1,6 +1,7 @@
 //! Whether two systems are the same.
 
-use mcs_language::read_system;
+use crate::systems::{Claim, holds, system_of};
+use mcs_system::System;
 use std::alloc::Global;
 
 /// A system, and systems that differ from it in one thing each: a sign, the name of a rule, the name of a context, an
@@ -18,30 +19,28 @@ const SYSTEMS: &[&str] = &[
     "context a default { p & q. } context b default { q : r / s. } bridge r0: a:p if b:q, not b:r. bridge r1: b:s.",
 ];
 
-/// Whether both texts are of systems, and these are the same.
-fn are_same(alloc: Global, one: &str, other: &str) -> bool {
-    let Ok(one) = read_system(alloc, one.as_bytes()) else {
+/// Whether the text is of the same system.
+fn is_of(alloc: Global, system: &System, text: &str) -> bool {
+    let Some(other) = system_of(alloc, text.as_bytes()) else {
         return false;
     };
-    let Ok(other) = read_system(alloc, other.as_bytes()) else {
-        return false;
-    };
-    one.is(&other)
+    let is_same = system.is(&other);
+    drop(other);
+    is_same
 }
 
-/// Whether the system of this text is that of the text at this place, and of no other.
-fn is_only(alloc: Global, place: usize, text: &str) -> bool {
-    for (k, other) in SYSTEMS.iter().enumerate() {
-        if are_same(alloc, text, other) != (k == place) {
-            return false;
-        }
+/// Whether the system is that of the text at this place, and of no other.
+pub(crate) fn is_only(alloc: Global, system: &System, place: usize) -> bool {
+    let mut is_only = true;
+    for (k, text) in SYSTEMS.iter().enumerate() {
+        is_only &= is_of(alloc, system, text) == (k == place);
     }
-    true
+    is_only
 }
 
 #[test]
 fn tells_systems_apart(rt: HostRuntime) {
     for (place, text) in SYSTEMS.iter().enumerate() {
-        assert!(rt; is_only(rt.alloc(), place, text));
+        assert!(rt; holds(rt.alloc(), text.as_bytes(), &Claim::IsOnly(place)));
     }
 }

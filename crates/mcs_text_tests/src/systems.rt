@@ -1,25 +1,90 @@
 //! The system of a text, and its canonical text.
 
+use crate::build_faults::{
+    are_twins_found, are_weights_judged, is_lowest_of_faulty_told, keep_limits,
+};
+use crate::contents::{are_repairs_told, is_three};
+use crate::copies::is_copied;
 use crate::faults::EACH_CONSTRUCT;
+use crate::same::is_only;
 use mcs_base::{Memory, Text};
 use mcs_language::{
-    TextFault, read_system, spelled_texts_have_no_fault, texts_are_unambiguous,
-    texts_have_one_fault, write_system,
+    read_system, spelled_texts_have_no_fault, texts_are_unambiguous, texts_have_one_fault,
+    write_system,
 };
 use mcs_system::{Bridge, System};
 use std::alloc::Global;
+use std::sync::Arc;
+
+/// The system that the text spells, if there is memory for it.
+pub(crate) fn system_of(alloc: Global, text: &[u8]) -> Option<Arc<System>> {
+    match read_system(alloc, text) {
+        Ok(system) => Arc::new(alloc, system).ok(),
+        Err(_) => None,
+    }
+}
+
+/// What a test claims of a system.
+#[derive(Drop)]
+pub(crate) enum Claim {
+    /// Twins of its second context are found.
+    TwinsAreFound,
+    /// The heads of its rules keep the limits.
+    LimitsAreKept,
+    /// The lowest fault is told of it with rules that have faults.
+    LowestIsTold,
+    /// Each weight of its first rule is judged.
+    WeightsAreJudged,
+    /// It has three contexts, and tells of them.
+    IsThree,
+    /// It tells what repairs may change.
+    RepairsAreTold,
+    /// Copies of its contexts and rules make one with this text.
+    IsCopied(&'static [u8]),
+    /// It has one rule.
+    HasOneRule,
+    /// This is its canonical text.
+    IsWritten(&'static str),
+    /// It is that of the text at this place, and of no other.
+    IsOnly(usize),
+}
+
+impl Claim {
+    /// Whether it is so of the system.
+    fn is_so(&self, alloc: Global, system: &System) -> bool {
+        match self {
+            Claim::TwinsAreFound => are_twins_found(alloc, system.contexts()),
+            Claim::LimitsAreKept => keep_limits(alloc, system.bridges()),
+            Claim::LowestIsTold => is_lowest_of_faulty_told(alloc, system),
+            Claim::WeightsAreJudged => are_weights_judged(alloc, system),
+            Claim::IsThree => is_three(system),
+            Claim::RepairsAreTold => are_repairs_told(alloc, system) == Ok(true),
+            Claim::IsCopied(text) => is_copied(alloc, system, text) == Ok(true),
+            Claim::HasOneRule => has_one_rule(system),
+            Claim::IsWritten(want) => is_written(alloc, system, want.as_bytes()) == Ok(true),
+            Claim::IsOnly(place) => is_only(alloc, system, *place),
+        }
+    }
+}
+
+/// Whether the text spells a system of which it is so.
+pub(crate) fn holds(alloc: Global, text: &[u8], claim: &Claim) -> bool {
+    let Some(system) = system_of(alloc, text) else {
+        return false;
+    };
+    let is_so = claim.is_so(alloc, &system);
+    drop(system);
+    is_so
+}
 
 /// Whether this is the canonical text of the system.
 pub(crate) fn is_written(alloc: Global, system: &System, want: &[u8]) -> Result<bool, Memory> {
-    let mut written = Text::new(alloc);
-    write_system(system, &mut written)?;
-    Ok(written.bytes() == want)
-}
-
-/// Whether this is the canonical text of the system that a text spells.
-fn is_written_as(alloc: Global, text: &str, want: &str) -> Result<bool, TextFault> {
-    let system = read_system(alloc, text.as_bytes())?;
-    Ok(is_written(alloc, &system, want.as_bytes())?)
+    let mut text = Text::new(alloc);
+    let written = write_system(system, &mut text);
+    let is_right = text.bytes() == want;
+    drop(text);
+    written?;
+    Ok(is_right)
 }
 
 /// A text, and the canonical one of its system, which is its own.
@@ -28,7 +93,7 @@ struct Canonical {
     want: &'static str,
 }
 
-const CANONICAL: [Canonical; 6] = [
+static CANONICAL: [Canonical; 6] = [
     Canonical { text: "", want: "" },
     Canonical {
         text: "context c1 classical{a&b->c.}",
@@ -55,8 +120,9 @@ const CANONICAL: [Canonical; 6] = [
 #[test]
 fn texts_are_written_in_one_way(rt: HostRuntime) {
     for row in &CANONICAL {
-        assert!(rt; is_written_as(rt.alloc(), row.text, row.want) == Ok(true));
-        assert!(rt; is_written_as(rt.alloc(), row.want, row.want) == Ok(true));
+        let is_written = Claim::IsWritten(row.want);
+        assert!(rt; holds(rt.alloc(), row.text.as_bytes(), &is_written));
+        assert!(rt; holds(rt.alloc(), row.want.as_bytes(), &is_written));
     }
 }
 
@@ -79,15 +145,10 @@ fn has_one_rule(system: &System) -> bool {
         }
 }
 
-fn is_one_rule_read(alloc: Global) -> Result<bool, TextFault> {
-    let system = read_system(alloc, EACH_CONSTRUCT.as_bytes())?;
-    Ok(has_one_rule(&system))
-}
-
 #[test]
 fn texts_spell_one_system_each(rt: HostRuntime) {
     texts_are_unambiguous();
     texts_have_one_fault();
     spelled_texts_have_no_fault();
-    assert!(rt; is_one_rule_read(rt.alloc()) == Ok(true));
+    assert!(rt; holds(rt.alloc(), EACH_CONSTRUCT.as_bytes(), &Claim::HasOneRule));
 }

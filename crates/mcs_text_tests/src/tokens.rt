@@ -24,7 +24,12 @@ fn told(alloc: Global, spans: &[Span]) -> Result<Text, Memory> {
 /// Whether the tokens of the text stand from and up to these offsets.
 fn has_tokens(alloc: Global, text: &str, offsets: &str) -> Result<bool, Memory> {
     let spans = token_list(alloc, text.as_bytes())?;
-    Ok(told(alloc, &spans)?.bytes() == offsets.as_bytes())
+    let told = told(alloc, &spans);
+    drop(spans);
+    let told = told?;
+    let is_right = told.bytes() == offsets.as_bytes();
+    drop(told);
+    Ok(is_right)
 }
 
 /// Whether the text of this byte has the token that the byte is, and this is of its kind.
@@ -47,7 +52,7 @@ fn one_byte(rt: HostRuntime) {
 }
 
 /// Texts, and the offsets from and up to which their tokens stand: first of gaps, then of words and signs.
-const SPANS: [(&str, &str); 13] = [
+static SPANS: [(&str, &str); 13] = [
     ("", ""),
     (" \t\r\n", ""),
     ("a#b", "0-1 "),
@@ -70,7 +75,7 @@ fn gaps_words_and_signs(rt: HostRuntime) {
     }
 }
 
-const SIGNS: [&[u8]; 14] = [
+static SIGNS: [&[u8]; 14] = [
     b"{", b"}", b".", b",", b":", b":-", b"/", b"|", b"&", b"~", b"->", b"<->", b"(", b")",
 ];
 
@@ -114,7 +119,7 @@ fn pairs_of_signs(rt: HostRuntime) {
 /// As long as no name may be.
 const LONG_WORD: &str = "xxxxxxxxxxxxxxxxxxxxxxxxxxxxxxxxxxxxxxxxxxxxxxxxxxxxxxxxxxxxxxxxx";
 
-const KINDS: [(&str, TokenKind); 5] = [
+static KINDS: [(&str, TokenKind); 5] = [
     (LONG_WORD, TokenKind::LongName),
     (
         "xxxxxxxxxxxxxxxxxxxxxxxxxxxxxxxxxxxxxxxxxxxxxxxxxxxxxxxxxxxxxxxx",
