@@ -6,3 +6,4 @@ pub mod NearLemmas
 pub mod QuestionLemmas
 pub mod CountLemmas
 pub mod RuleCounts
+pub mod AllNear

@@ -1,8 +1,8 @@
 //! Sets of rules within a few allowed changes of given ones.
 
-ghost use Rattle.std.specs.Prelude.{◌≡◌, ◌<◌, ◌↔◌, ◌⊎◌, ℕ, IsTrue, IfOk};
+ghost use Rattle.std.specs.Prelude.{◌≡◌, ◌<◌, ◌≤◌, ◌^◌, ◌↔◌, ◌⊎◌, ℕ, IsTrue, IfOk};
 ghost use Rattle.std.specs.List.{AllByRecursion};
-ghost use Rattle.mcs_sets.specs.Sets.{union, minus, single, Within};
+ghost use Rattle.mcs_sets.specs.Sets.{union, minus, single, size, Within};
 ghost use Rattle.mcs_base.specs.Listings.{IsAmong, IsAscending, IsListing};
 ghost use Rattle.mcs_import.specs.Near.{IsMadeBy, IsNextNear, IsNear};
 
@@ -84,9 +84,17 @@ fn next_sets(
     Ok(next)
 }
 
+/// Whether so many sets of the rules, each once, are all that there are.
+fn are_all(count: usize, rules: Active) -> bool
+    ensures { IsTrue result → 2 ^ size rules ≤ count }
+{
+    let rules = rules.count();
+    rules < 32 && 1 << rules <= count as u64
+}
+
 /// The sets that at most `level` changes make of one of the sets: each once, ascending as numbers. A change removes one
 /// of the removable rules, or forces one of the forcible ones. Only the sets that the last change reached are changed
-/// again.
+/// again, and none once all sets of the rules were reached.
 pub(crate) fn near_sets(
     alloc: Global,
     rules: Active,
@@ -105,6 +113,9 @@ pub(crate) fn near_sets(
     reached.extend_from_slice(&sets)?;
     let mut front = sets;
     for _ in 0..level {
+        if are_all(reached.len(), rules) {
+            return Ok(reached);
+        }
         front = next_sets(alloc, &front, removable, forcible, &reached)?;
         if front.is_empty() {
             return Ok(reached);

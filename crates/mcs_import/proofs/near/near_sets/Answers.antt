@@ -5,11 +5,16 @@ use Rattle.mcs_base.specs.Listings.{IsAmong, IsListing}
 use Rattle.mcs_import.specs.Near.{IsNear, IsChanged}
 use Rattle.mcs_import.proofs.NearLemmas.{near_begins, near_levels, next_same}
 use Rattle.mcs_base.proofs.Walks.{walk_goes_on, walk_ends}
+use Rattle.mcs_import.proofs.AllNear.{all_near}
 use Rattle.mcs_import.proofs.near.near_sets.Goals as goal
 
 pub loop-init : goal.loop-init
 loop-init c = near_begins c.args.rules c.args.removable c.args.forcible c.args.sets.items c.requires.of_rules c.requires.ascending c.extend_from_slice.new.self.items c.args.sets.items
     (c.in_ok-extend_from_slice.ensures.items ∙ ap (λ (xs : List ℕ). xs ++ c.deref.result.now) c.new-reached.ensures.items ∙ c.deref.ensures.value) refl
+
+pub returns-then-are_all : goal.returns-then-are_all
+returns-then-are_all c = all_near c.args.rules c.args.removable c.args.forcible c.args.sets.items c.loop.counter c.args.level (omega arith) c.loop.reached.items c.loop.invariant.listing
+    (search (rules, c.are_all.ensures c.if-are_all.true, c.len.ensures))
 
 pub returns-then-is_empty : goal.returns-then-is_empty
 returns-then-is_empty c = walk_ends (IsNear c.args.rules c.args.removable c.args.forcible c.args.sets.items) (IsChanged c.args.removable (common c.args.forcible c.args.rules))
