@@ -1,62 +1,28 @@
 -- A clause with one literal of the last level: how it is found, and where it leads back.
-use Rattle.std.proofs.Common.{◌≡◌, ℕ, zero, suc, ◌+◌, ◌-◌, ◌<◌, ◌≤◌, List, [], inl, inr, refl, sym, ap, ◌∙◌, subst, arith, ℤ, pos, neg_ℤ, unsigned_abs, length, take, get_or, Option, Some, None, MatchOption, slice_get}
+use Rattle.std.proofs.Common.{◌≡◌, ℕ, suc, ◌+◌, ◌-◌, ◌<◌, ◌≤◌, List, [], inl, inr, sym, ap, ◌∙◌, subst, arith, ℤ, neg_ℤ, unsigned_abs, length, take, get_or, Some, slice_get}
 use Rattle.std.specs.List.{AllByRecursion, flat_map}
 use Rattle.std.proofs.Math.IntN.{neg_ℤ-neg_ℤ}
-use Rattle.std.proofs.lemmas.Bool.{cases_lt, cases_eq}
+use Rattle.std.proofs.lemmas.Bool.{cases_lt}
 use Rattle.std.proofs.lemmas.List.{length-take, take_all}
 use Rattle.std.proofs.lemmas.Option.{slice_get-get_or, get_or_from_slice_get}
 use Rattle.mcs_base.specs.Listings.{IsAmong}
-use Rattle.mcs_base.proofs.Among.{among_at}
 use Rattle.mcs_base.proofs.Each.{all_among}
 use Rattle.mcs_base.proofs.Lists.{slice_get_below}
 use Rattle.mcs_base.proofs.Numbers.{unsigned_abs-neg_ℤ}
 use Rattle.mcs_trace.specs.declared.trace.Step.{Step}
-use Rattle.mcs_sat.specs.declared.latest.Latest.{Latest}
-use Rattle.mcs_sat.specs.declared.state.Reach.{Reach}
-use Rattle.mcs_sat.specs.declared.state.State.{State}
-use Rattle.mcs_sat.specs.declared.trail.Entry.{Entry}
-use Rattle.mcs_sat.specs.Learning.{AreImplied, IsLatestOf, IsLate, IsLatest, IsLearnt, IsSingle}
-use Rattle.mcs_sat.specs.Solvers.{HasNoValue, HasOneOfLevel, IsAsserting, IsBackLevel, IsFalseUnder, IsLearned, IsValueOfLevel, IsOpenUnder, SolverView, trues, trues_below}
-use Rattle.mcs_sat.specs.States.{IsLastLevel, IsLearntBack, IsState, view_of}
-use Rattle.mcs_sat.specs.Trails.{AreLevelled, ArePlaced, IsFalse, StandsAt, decisions, level_at, levels_of, literal_at}
-use Rattle.mcs_sat.proofs.LatestLemmas.{LatestSoFar, latest-end, latest-joined, latest-start}
-use Rattle.mcs_sat.proofs.LevelLemmas.{before-start, below-start, decisions-longer, implied-last, levels-at, levels-back, levels-count, levels-from}
+use Rattle.mcs_engine.specs.declared.latest.Latest.{Latest}
+use Rattle.mcs_engine.specs.declared.state.Reach.{Reach}
+use Rattle.mcs_engine.specs.declared.state.State.{State}
+use Rattle.mcs_engine.specs.declared.trail.Entry.{Entry}
+use Rattle.mcs_engine.specs.Learning.{AreImplied, IsLate, IsLatest, IsLearnt, IsSingle}
+use Rattle.mcs_sat.specs.Solvers.{HasNoValue, HasOneOfLevel, IsAsserting, IsBackLevel, IsFalseUnder, IsLearned, IsValueOfLevel, IsOpenUnder, SolverView, trues, trues_below, view_of}
+use Rattle.mcs_engine.specs.States.{IsLastLevel, IsLearntBack, IsState}
+use Rattle.mcs_engine.specs.Trails.{AreLevelled, IsFalse, decisions, level_at, levels_of, literal_at}
+use Rattle.mcs_engine.proofs.LatestLemmas.{some-latest}
+use Rattle.mcs_engine.proofs.LevelLemmas.{before-start, below-start, decisions-longer, implied-last, levels-at, levels-back, levels-count, levels-from}
 use Rattle.mcs_sat.proofs.UnitRunLemmas.{among-on, false-under, flat-levels, literals, on-among, open-not_false, placed-consistent, under-false}
 use Rattle.mcs_sat.proofs.SolverLemmas.{same-view}
-use Rattle.mcs_sat.proofs.TrailLemmas.{entry-back, on-back, placed-back, same_place}
-
--- ---- the latest of the literals of a clause that is false
-join : (o : Option Latest) (q : ℕ) → (new : Latest) × MatchOption o (new ≡ record { place = q; others = 0 }) (λ l. IsLatestOf l q new)
-join None q = (record { place = q; others = 0 }, refl)
-join (Some l) q = elim (cases_lt l.place q) [
-  | inl after ↦ (record { place = q; others = l.place + 1 }, inl (after, refl, refl))
-  | inr past ↦ elim (cases_lt q l.others) [
-    | inl earlier ↦ (l, inr (inl (inr earlier, refl)))
-    | inr later ↦ elim (cases_eq q l.place) [
-      | inl same ↦ (l, inr (inl (inl same, refl)))
-      | inr differ ↦ (record { place = l.place; others = q + 1 }, inr (inr (omega arith, later, refl, refl)))
-    ]
-  ]
-]
-
-latest-below : (es : List Entry) (ps : List ℕ) (c : List ℤ) → ArePlaced es ps → IsFalse es c → (n : ℕ) → n ≤ length c → (o : Option Latest) × LatestSoFar es c n o
-latest-below es ps c placed off zero bound = (None, latest-start es c)
-latest-below es ps c placed off (suc n) bound =
-    let (o, so_far) = latest-below es ps c placed off n (omega arith) in
-    let k : ℤ = get_or c n (pos 0) in
-    let less : n < length c = omega arith in
-    let (q, within, e) = off k (among_at c n (pos 0) less) in
-    let stands : StandsAt es (unsigned_abs k) q = (within, ap unsigned_abs e ∙ unsigned_abs-neg_ℤ k) in
-    let (new, joined) = join o q in
-    let up : n + 1 ≡ suc n = omega arith in
-    (Some new, subst (λ (m : ℕ). LatestSoFar es c m (Some new)) up (latest-joined es ps c n q placed off less stands o new joined so_far))
-
-pub some-latest : (es : List Entry) (ps : List ℕ) (c : List ℤ) (l : ℤ) → ArePlaced es ps → IsFalse es c → IsAmong l c → (latest : Latest) × IsLatest es c latest
-some-latest es ps c l placed off among = let (o, so_far) = latest-below es ps c placed off (length c) (omega arith) in at o (latest-end es c (length c) o (omega arith) so_far)
-  where
-    at : (o : Option Latest) → MatchOption o (c ≡ []) (IsLatest es c) → (latest : Latest) × IsLatest es c latest
-    at (Some latest) is = (latest, is)
-    at None none = absurd (subst (IsAmong l) none among)
+use Rattle.mcs_engine.proofs.TrailLemmas.{entry-back, on-back, placed-back, same_place}
 
 -- ---- levels of literals
 -- the place of a literal of the level

@@ -13,13 +13,13 @@ use Rattle.mcs_trace.specs.Clauses.{IsClause, IsUnsatisfiable, all_hold, clause_
 use Rattle.mcs_trace.specs.Traces.{IsChainResolvent, ResolvesTo, numbered_clause}
 use Rattle.mcs_trace.proofs.ResolventLemmas.{IsResolvent-holds, IsResolvent-no_zero, clause-no_zero}
 use Rattle.mcs_trace.proofs.TraceLemmas.{IsKnown}
-use Rattle.mcs_sat.specs.declared.state.State.{State}
-use Rattle.mcs_sat.specs.declared.trail.Entry.{Entry}
-use Rattle.mcs_sat.specs.States.{AreChains, IsState}
-use Rattle.mcs_sat.specs.Stores.{given, given_count}
-use Rattle.mcs_sat.specs.Trails.{AreExplained, IsFalseAt, literal_at, reason_at}
-use Rattle.mcs_sat.proofs.LevelLemmas.{implied-none}
-use Rattle.mcs_sat.proofs.StoreLemmas.{given-at}
+use Rattle.mcs_engine.specs.declared.state.State.{State}
+use Rattle.mcs_engine.specs.declared.trail.Entry.{Entry}
+use Rattle.mcs_engine.specs.States.{AreChains, IsState}
+use Rattle.mcs_engine.specs.Stores.{given, given_count}
+use Rattle.mcs_engine.specs.Trails.{AreExplained, IsFalseAt, literal_at, reason_at}
+use Rattle.mcs_engine.proofs.LevelLemmas.{implied-none}
+use Rattle.mcs_engine.proofs.StoreLemmas.{given-at}
 
 module _ (v : ℕ → Bool) where
   -- ---- clauses that are resolved from clauses that hold

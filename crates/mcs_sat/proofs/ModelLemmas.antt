@@ -6,9 +6,9 @@ use Rattle.std.proofs.lemmas.List.{get_or_append_left, get_or_push}
 use Rattle.mcs_base.specs.Listings.{IsAmong}
 use Rattle.mcs_trace.specs.Clauses.{IsWithin, literal_holds, clause_holds, all_hold}
 use Rattle.mcs_sat.specs.Answers.{assignment_of}
-use Rattle.mcs_sat.specs.declared.trail.Entry.{Entry}
-use Rattle.mcs_sat.specs.Trails.{ArePlaced, IsOn, IsClauseSatisfied}
-use Rattle.mcs_sat.proofs.TrailLemmas.{not_both_on}
+use Rattle.mcs_engine.specs.declared.trail.Entry.{Entry}
+use Rattle.mcs_engine.specs.Trails.{ArePlaced, IsOn, IsClauseSatisfied}
+use Rattle.mcs_engine.proofs.TrailLemmas.{not_both_on}
 
 -- ---- the model
 pub model-more : (es : List Entry) (model new : List Bool) (v : ℕ) (b : Bool) → length model + 1 ≡ v → new ≡ model ++ b ∷ [] → (IsTrue b ↔ IsOn es (pos v))

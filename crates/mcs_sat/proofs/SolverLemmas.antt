@@ -7,13 +7,13 @@ use Rattle.mcs_base.proofs.Among.{among_get, among_left}
 use Rattle.mcs_base.proofs.Each.{all_among, all_both, all_from_among, all_weaker}
 use Rattle.mcs_trace.specs.Clauses.{IsClause, IsWithin}
 use Rattle.mcs_trace.specs.Traces.{numbered_clause}
-use Rattle.mcs_sat.specs.declared.state.State.{State}
-use Rattle.mcs_sat.specs.declared.trail.Entry.{Entry}
-use Rattle.mcs_sat.specs.Solvers.{GoesOn, IsFalseNumber, IsFalseUnder, IsOpenUnder, IsSolver, IsUnitRun, LeadsToConflict, SolverView, trues}
-use Rattle.mcs_sat.specs.States.{IsDecided, IsState, SameClauses, view_of}
-use Rattle.mcs_sat.specs.Trails.{AreCovered, AreExplained, ArePlaced, GrowsOnLevel, IsFalseAt, IsOpen, levels_of, literal_at}
-use Rattle.mcs_sat.proofs.KnownLemmas.{numbered-row}
-use Rattle.mcs_sat.proofs.LevelLemmas.{levels-decide, levels-more}
+use Rattle.mcs_engine.specs.declared.state.State.{State}
+use Rattle.mcs_engine.specs.declared.trail.Entry.{Entry}
+use Rattle.mcs_sat.specs.Solvers.{GoesOn, IsFalseNumber, IsFalseUnder, IsOpenUnder, IsSolver, IsUnitRun, LeadsToConflict, SolverView, trues, view_of}
+use Rattle.mcs_engine.specs.States.{IsDecided, IsState, SameClauses}
+use Rattle.mcs_engine.specs.Trails.{AreCovered, AreExplained, ArePlaced, GrowsOnLevel, IsFalseAt, IsOpen, levels_of, literal_at}
+use Rattle.mcs_engine.proofs.KnownLemmas.{numbered-row}
+use Rattle.mcs_engine.proofs.LevelLemmas.{levels-decide, levels-more}
 use Rattle.mcs_sat.proofs.UnitRunLemmas.{AreConsistent, AreIn, among-on, flat-levels, grown-run, levels-run, literals, open-not_false, open-under, false-under, placed-consistent, run-within, under-false}
 
 pub trues-are : (s : State) (v : SolverView) → view_of s ≡ v → trues v ≡ literals s.trail.entries.items

@@ -10,11 +10,11 @@ use Rattle.mcs_base.proofs.Among.{among_at, among_either, among_get, among_map, 
 use Rattle.mcs_base.proofs.Each.{all_among}
 use Rattle.mcs_base.proofs.Lasts.{flat_begun}
 use Rattle.mcs_base.proofs.Numbers.{unsigned_abs-neg_ℤ}
-use Rattle.mcs_sat.specs.declared.trail.Entry.{Entry}
+use Rattle.mcs_engine.specs.declared.trail.Entry.{Entry}
 use Rattle.mcs_sat.specs.Solvers.{AreDecided, HasNoValue, IsFalseUnder, IsForcedBy, IsOpenUnder, IsUnitRun}
-use Rattle.mcs_sat.specs.Trails.{AreExplained, ArePlaced, IsFalse, IsOn, IsOpen, StandsNowhere, first_level, later_levels, levels_of, literal_at, reason_at}
-use Rattle.mcs_sat.proofs.KnownLemmas.{numbered-row}
-use Rattle.mcs_sat.proofs.TrailLemmas.{entry-old, entry_at, not_both_on, same_place, reason_of}
+use Rattle.mcs_engine.specs.Trails.{AreExplained, ArePlaced, IsFalse, IsOn, IsOpen, StandsNowhere, first_level, later_levels, levels_of, literal_at, reason_at}
+use Rattle.mcs_engine.proofs.KnownLemmas.{numbered-row}
+use Rattle.mcs_engine.proofs.TrailLemmas.{entry-old, entry_at, not_both_on, same_place, reason_of}
 
 -- ---- what unit runs lead to
 -- no literal stands there with its negation

@@ -1,15 +1,3 @@
 pub mod Answers
-pub mod Trails
-pub mod Learning
 pub mod Flattening
-pub mod Pairs
-pub mod Parts
-pub mod Lists
-pub mod Watching
-pub mod Chains
 pub mod Solvers
-pub mod States
-pub mod Searches
-pub mod Stores
-pub mod Numbering
-pub mod Marking

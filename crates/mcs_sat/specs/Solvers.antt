@@ -5,12 +5,18 @@ use Rattle.mcs_base.specs.Listings.{IsAmong}
 use Rattle.mcs_trace.specs.Clauses.{IsClauseList}
 use Rattle.mcs_trace.specs.Traces.{numbered_clause, IsChainResolvent}
 use Rattle.mcs_trace.specs.declared.trace.Step.{Step}
+use Rattle.mcs_engine.specs.declared.state.State.{State}
+use Rattle.mcs_engine.specs.Trails.{levels_of}
 
 -- the clauses over the variables 1 to `vars`, those of the list and those that were learnt; the literals made true: level 0 has those made true before any decision, each other level begins with a decision
 pub record SolverView : Type 0 where
   pub vars : ℕ
   pub clauses : List (List ℤ)
   pub levels : List (List ℤ)
+
+-- what a state is seen as
+abbrev pub view_of : State → SolverView
+view_of s = record { vars = length s.trail.positions.items - 1; clauses = s.clauses; levels = levels_of s.trail.entries.items }
 
 -- the literals made true, in the order in which they were made so
 abbrev pub trues : SolverView → List ℤ

@@ -4,18 +4,15 @@ ghost use Rattle.std.specs.Prelude.{◌≡◌, [], ◌∷◌, ◌++◌, ◌+◌,
 ghost use Rattle.std.specs.List.{AllByRecursion};
 ghost use Rattle.mcs_trace.specs.Clauses.{IsClause, IsClauseList, IsWithin};
 ghost use Rattle.mcs_sat.specs.Answers.{IsSatAnswer, IsExact, IsSettledAnswer};
-ghost use Rattle.mcs_sat.specs.States.{IsFull, IsState};
-ghost use Rattle.mcs_sat.specs.Stores.{IsFrontOf, IsLater, given};
+ghost use Rattle.mcs_engine.specs.States.{IsFull, IsState};
+ghost use Rattle.mcs_engine.specs.Stores.{IsFrontOf, IsLater, given};
 
-use crate::adding::{add, attach, cut, keep, settle_all, widen};
 use crate::flatten::flatten_from;
-use crate::order::Order;
 use crate::outcome::Outcome;
-use crate::part::search_left;
-use crate::solver::run;
-use crate::solving::{assignment_of, go_back, outcome_of};
-use crate::state::State;
+use crate::solving::{assignment_of, outcome_of};
 use mcs_base::Memory;
+use mcs_engine::State;
+use mcs_search::{Order, add, attach, cut, go_back, keep, run, search_left, settle_all, widen};
 use mcs_trace::{Clause, Cnf};
 use std::alloc::Global;
 use std::marker::Model;
@@ -32,7 +29,7 @@ pub struct ClauseBase {
 
 impl Model for ClauseBase {
     ghost use Rattle.mcs_trace.specs.Clauses.{ClauseList};
-    ghost use Rattle.mcs_sat.specs.Stores.{IsBase, list_of};
+    ghost use Rattle.mcs_engine.specs.Stores.{IsBase, list_of};
 
     ghost Value = { ClauseList };
 

@@ -4,16 +4,13 @@ ghost use Rattle.std.specs.Prelude.{◌≡◌, [], ◌<◌, length, IsTrue, IfOk
 ghost use Rattle.std.specs.List.{AllByRecursion};
 ghost use Rattle.mcs_trace.specs.Clauses.{IsClause};
 ghost use Rattle.mcs_sat.specs.Flattening.{IsFlat};
-ghost use Rattle.mcs_sat.specs.States.{IsFull, IsState};
-ghost use Rattle.mcs_sat.specs.Stores.{IsLater};
-ghost use Rattle.mcs_sat.specs.Trails.{AreCovered};
+ghost use Rattle.mcs_engine.specs.States.{IsFull, IsState};
+ghost use Rattle.mcs_engine.specs.Stores.{IsLater};
+ghost use Rattle.mcs_engine.specs.Trails.{AreCovered};
 
-use crate::adding::{attach_next, push_unwatched};
-use crate::order::fill;
-use crate::pairs::Pairs;
-use crate::state::State;
-use crate::trail::Trail;
 use mcs_base::{Memory, Rows};
+use mcs_engine::{Pairs, State, Trail, fill, is_marked, mark};
+use mcs_search::{attach_next, push_unwatched};
 use mcs_trace::resolve;
 use std::alloc::Global;
 use std::mem;
@@ -92,20 +89,6 @@ impl Definitions {
             _ => None,
         }
     }
-}
-
-/// Marks the number.
-pub(crate) fn mark(marks: &mut Vec<bool>, number: usize) -> Result<(), Memory> {
-    fill(marks, number, false)?;
-    if let Some(here) = marks.get_mut(number) {
-        *here = true;
-    }
-    Ok(())
-}
-
-/// Whether the number is marked.
-pub(crate) fn is_marked(marks: &[bool], number: usize) -> bool {
-    marks.get(number).copied().unwrap_or(false)
 }
 
 impl Resolved {

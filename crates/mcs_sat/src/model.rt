@@ -2,10 +2,10 @@
 
 ghost use Rattle.std.specs.Prelude.{◌≡◌, ◌<◌, ◌≤◌, ◌+◌, ◌^◌, ◌↔◌, ℕ, pos, length, vec_len, IfOk, IsTrue};
 ghost use Rattle.mcs_sat.specs.Answers.{assignment_of};
-ghost use Rattle.mcs_sat.specs.Trails.{ArePlaced, IsOn};
+ghost use Rattle.mcs_engine.specs.Trails.{ArePlaced, IsOn};
 
-use crate::trail::Trail;
 use mcs_base::Memory;
+use mcs_engine::Trail;
 use std::alloc::Global;
 
 /// The values of the variables 1 to `vars`. A variable without a value is false.

@@ -1,19 +1,17 @@
-//! The result of a search, and the way back to level 0.
+//! The result of a search.
 
 ghost use Rattle.std.specs.Prelude.{◌≡◌, [], ◌<◌, length, IfOk};
 ghost use Rattle.std.specs.List.{AllByRecursion};
 ghost use Rattle.mcs_trace.specs.Clauses.{IsWithin};
 ghost use Rattle.mcs_sat.specs.Answers.{IsSatAnswer, IsExact, IsSettledAnswer};
-ghost use Rattle.mcs_sat.specs.States.{IsState};
-ghost use Rattle.mcs_sat.specs.Stores.{IsLater, given, given_count, list_of};
+ghost use Rattle.mcs_engine.specs.States.{IsState};
+ghost use Rattle.mcs_engine.specs.Stores.{IsLater, given, given_count, list_of};
 
 use crate::model::model_of;
-use crate::order::Order;
 use crate::outcome::Outcome;
-use crate::search::{release_decided, search};
-use crate::state::{State, back};
-use crate::trace::trace_of;
 use mcs_base::Memory;
+use mcs_engine::State;
+use mcs_search::{Order, search, trace_of};
 
 /// Searches, and returns the result: an assignment, or a trace.
 pub(crate) fn outcome_of(
@@ -56,14 +54,4 @@ pub(crate) fn assignment_of(
         None => Ok(Some(model_of(alloc, &state.trail, vars)?)),
         Some(_index) => Ok(None),
     }
-}
-
-/// Takes back all decisions, and puts their variables back into the order.
-pub(crate) fn go_back(state: &mut State, order: &mut Order)
-    requires { IsState state.old }
-    ensures later { IsLater state.old state.new }
-    ensures base { state.new.levels.items ≡ [] }
-{
-    release_decided(state, order);
-    back(state, 0);
 }

@@ -1,5 +1,5 @@
-use Rattle.mcs_sat.specs.Stores.{IsLater}
-use Rattle.mcs_sat.proofs.StoreLemmas.{later-same, later-then}
+use Rattle.mcs_engine.specs.Stores.{IsLater}
+use Rattle.mcs_engine.proofs.StoreLemmas.{later-same, later-then}
 use Rattle.mcs_sat.proofs.base.learn_beforehand.Goals.{After-attach, After-search_left-searched}
 use Rattle.mcs_sat.proofs.base.learn_beforehand.Goals as goal
 

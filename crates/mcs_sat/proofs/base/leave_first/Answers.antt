@@ -1,7 +1,7 @@
 use Rattle.std.proofs.Common.{arith, sym}
 use Rattle.std.proofs.lemmas.List.{take_all}
-use Rattle.mcs_sat.specs.Stores.{given}
-use Rattle.mcs_sat.proofs.StoreLemmas.{cut-list, length-given}
+use Rattle.mcs_engine.specs.Stores.{given}
+use Rattle.mcs_engine.proofs.StoreLemmas.{cut-list, length-given}
 use Rattle.mcs_sat.proofs.base.leave_first.Goals as goal
 
 pub returns-then-count-given-clause-clauses : goal.returns-then-count-given-clause-clauses

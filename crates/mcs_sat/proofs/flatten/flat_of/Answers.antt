@@ -2,7 +2,7 @@ use Rattle.std.proofs.Common.{◌≡◌, ◌+◌, ◌++◌, ◌∷◌, [], suc, 
 use Rattle.mcs_base.proofs.Each.{all_get}
 use Rattle.mcs_trace.specs.Clauses.{IsClause}
 use Rattle.mcs_trace.specs.Traces.{IsChainResolvent, numbered_clause}
-use Rattle.mcs_sat.proofs.KnownLemmas.{chain-start}
+use Rattle.mcs_engine.proofs.KnownLemmas.{chain-start}
 use Rattle.mcs_sat.proofs.flatten.flat_of.Goals as goal
 
 pub loop-init : goal.loop-init

@@ -1,6 +1,6 @@
 use Rattle.std.proofs.Common.{ap, arith, length, length-append, map}
 use Rattle.mcs_trace.specs.Traces.{Inference}
-use Rattle.mcs_sat.proofs.StoreLemmas.{later-then}
+use Rattle.mcs_engine.proofs.StoreLemmas.{later-then}
 use Rattle.mcs_sat.proofs.flatten.flatten_from.Goals as goal
 
 pub returns-in_err-flatten-clause-later : goal.returns-in_err-flatten-clause-later

@@ -1,6 +1,6 @@
 use Rattle.std.proofs.Common.{◌≡◌, ◌≤◌, [], length}
-use Rattle.mcs_sat.specs.States.{IsFull}
-use Rattle.mcs_sat.specs.Stores.{IsLater}
+use Rattle.mcs_engine.specs.States.{IsFull}
+use Rattle.mcs_engine.specs.Stores.{IsLater}
 use Rattle.mcs_sat.proofs.flatten.flatten_from.Given as goal
 
 abbrev pub invariant-loop-index : goal.invariant-loop-index

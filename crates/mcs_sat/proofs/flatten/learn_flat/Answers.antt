@@ -1,6 +1,6 @@
 use Rattle.std.proofs.Common.{List, ℕ, ℤ, subst, sym}
 use Rattle.mcs_trace.specs.Traces.{IsChainResolvent}
-use Rattle.mcs_sat.proofs.StoreLemmas.{later-learnt, later-same, later-then}
+use Rattle.mcs_engine.proofs.StoreLemmas.{later-learnt, later-same, later-then}
 use Rattle.mcs_sat.proofs.flatten.learn_flat.Goals as goal
 
 pub returns-in_err-attach_next-clause-later : goal.returns-in_err-attach_next-clause-later

@@ -3,7 +3,7 @@ use Rattle.std.specs.Bool.{MatchBool}
 use Rattle.mcs_trace.specs.Clauses.{IsClause}
 use Rattle.mcs_trace.specs.Resolution.{IsResolvent}
 use Rattle.mcs_trace.specs.Traces.{IsChainResolvent, numbered_clause}
-use Rattle.mcs_sat.proofs.KnownLemmas.{chain-push}
+use Rattle.mcs_engine.proofs.KnownLemmas.{chain-push}
 use Rattle.mcs_sat.proofs.flatten.resolve_next.Goals as goal
 
 pub returns : goal.returns

@@ -1,7 +1,7 @@
 use Rattle.std.proofs.Common.{◌≡◌, ◌++◌, ◌∷◌, [], List, Bool, ◌<◌, ◌+◌, ◌^◌, ◌↔◌, ℕ, ℤ, pos, length, IsTrue, ap, ◌∙◌, subst, arith, w64}
 use Rattle.std.proofs.lemmas.Int.{to_z_pos}
 use Rattle.std.proofs.lemmas.List.{length_push}
-use Rattle.mcs_sat.specs.Trails.{IsOn}
+use Rattle.mcs_engine.specs.Trails.{IsOn}
 use Rattle.mcs_sat.proofs.ModelLemmas.{model-more}
 use Rattle.mcs_sat.proofs.model.model_of.Goals as goal
 

@@ -1,6 +1,6 @@
 use Rattle.std.proofs.Common.{◌≡◌, ◌+◌, ◌<◌, ◌↔◌, ℕ, pos, length, IsTrue}
 use Rattle.mcs_sat.specs.Answers.{assignment_of}
-use Rattle.mcs_sat.specs.Trails.{IsOn}
+use Rattle.mcs_engine.specs.Trails.{IsOn}
 use Rattle.mcs_sat.proofs.model.model_of.Given as goal
 
 abbrev pub invariant-loop-variable : goal.invariant-loop-variable

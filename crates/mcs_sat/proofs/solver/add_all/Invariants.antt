@@ -1,5 +1,5 @@
 use Rattle.std.proofs.Common.{◌≡◌, ◌++◌, [], length, take}
-use Rattle.mcs_sat.specs.States.{IsState, no_chains}
+use Rattle.mcs_engine.specs.States.{IsState, no_chains}
 use Rattle.mcs_sat.proofs.solver.add_all.Given as goal
 
 abbrev pub invariant-loop-clause : goal.invariant-loop-clause

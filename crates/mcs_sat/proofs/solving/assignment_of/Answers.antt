@@ -2,12 +2,12 @@ use Rattle.std.proofs.Common.{subst}
 use Rattle.std.specs.List.{AllByRecursion}
 use Rattle.mcs_trace.specs.Clauses.{IsUnsatisfiable}
 use Rattle.mcs_sat.specs.Answers.{assignment_of}
-use Rattle.mcs_sat.specs.Searches.{IsEnd}
-use Rattle.mcs_sat.specs.Stores.{given}
-use Rattle.mcs_sat.specs.Trails.{IsClauseSatisfied}
+use Rattle.mcs_search.specs.Searches.{IsEnd}
+use Rattle.mcs_engine.specs.Stores.{given}
+use Rattle.mcs_engine.specs.Trails.{IsClauseSatisfied}
 use Rattle.mcs_sat.proofs.FollowLemmas.{refuted-given}
 use Rattle.mcs_sat.proofs.ModelLemmas.{all-on}
-use Rattle.mcs_sat.proofs.StoreLemmas.{given-all, later-given}
+use Rattle.mcs_engine.proofs.StoreLemmas.{given-all, later-given}
 use Rattle.mcs_sat.proofs.solving.assignment_of.Goals as goal
 
 pub returns-in_ok-model_of-in-None-clause-exact : goal.returns-in_ok-model_of-in-None-clause-exact

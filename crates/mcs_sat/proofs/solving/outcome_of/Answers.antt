@@ -4,11 +4,11 @@ use Rattle.mcs_trace.specs.Clauses.{IsClause}
 use Rattle.mcs_trace.specs.Traces.{IsAcceptedTrace, inferences_of}
 use Rattle.mcs_trace.proofs.TraceLemmas.{refutes}
 use Rattle.mcs_sat.specs.Answers.{assignment_of}
-use Rattle.mcs_sat.specs.Searches.{IsEnd}
-use Rattle.mcs_sat.specs.Stores.{given}
-use Rattle.mcs_sat.specs.Trails.{IsClauseSatisfied}
+use Rattle.mcs_search.specs.Searches.{IsEnd}
+use Rattle.mcs_engine.specs.Stores.{given}
+use Rattle.mcs_engine.specs.Trails.{IsClauseSatisfied}
 use Rattle.mcs_sat.proofs.ModelLemmas.{all-on}
-use Rattle.mcs_sat.proofs.StoreLemmas.{given-all, later-count, later-given}
+use Rattle.mcs_engine.proofs.StoreLemmas.{given-all, later-count, later-given}
 use Rattle.mcs_sat.proofs.solving.outcome_of.Goals as goal
 
 pub returns-in_ok-model_of-in-None-clause-answer : goal.returns-in_ok-model_of-in-None-clause-answer

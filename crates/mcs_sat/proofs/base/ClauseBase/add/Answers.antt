@@ -1,6 +1,6 @@
 use Rattle.std.proofs.Common.{◌++◌, ◌∷◌, [], ◌∙◌, ℤ, List, ap, subst, sym}
 use Rattle.mcs_trace.specs.Clauses.{ClauseList, IsWithin}
-use Rattle.mcs_sat.proofs.StoreLemmas.{added-list, base-added, covered-within}
+use Rattle.mcs_engine.proofs.StoreLemmas.{added-list, base-added, covered-within}
 use Rattle.mcs_sat.proofs.base.ClauseBase.add.Goals as goal
 
 pub add-requires-clause-covered : goal.add-requires-clause-covered

@@ -1,5 +1,5 @@
 use Rattle.std.proofs.Common.{◌≡◌, ◌++◌, drop}
-use Rattle.mcs_sat.specs.Stores.{IsFrontOf}
+use Rattle.mcs_engine.specs.Stores.{IsFrontOf}
 use Rattle.mcs_sat.proofs.base.ClauseBase.add_all.Given as goal
 
 abbrev pub invariant-loop-clause : goal.invariant-loop-clause

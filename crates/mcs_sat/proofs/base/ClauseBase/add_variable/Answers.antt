@@ -1,6 +1,6 @@
 use Rattle.std.proofs.Common.{◌+◌, arith}
-use Rattle.mcs_sat.specs.Stores.{given}
-use Rattle.mcs_sat.proofs.StoreLemmas.{base-vars, base-widened, within-more}
+use Rattle.mcs_engine.specs.Stores.{given}
+use Rattle.mcs_engine.proofs.StoreLemmas.{base-vars, base-widened, within-more}
 use Rattle.mcs_sat.proofs.base.ClauseBase.add_variable.Goals as goal
 
 pub invariant_of-self : goal.invariant_of-self

@@ -1,6 +1,6 @@
 use Rattle.std.proofs.Common.{◌∙◌, ap, length}
 use Rattle.mcs_trace.specs.Clauses.{ClauseList}
-use Rattle.mcs_sat.proofs.StoreLemmas.{base-count}
+use Rattle.mcs_engine.proofs.StoreLemmas.{base-count}
 use Rattle.mcs_sat.proofs.base.ClauseBase.count.Goals as goal
 
 pub returns : goal.returns

@@ -1,7 +1,7 @@
 use Rattle.std.proofs.Common.{◌≤◌, ◌∙◌, ℤ, List, ap, arith, length, subst, sym, take}
 use Rattle.std.specs.List.{AllByRecursion}
 use Rattle.mcs_trace.specs.Clauses.{ClauseList, IsWithin}
-use Rattle.mcs_sat.specs.Stores.{given}
+use Rattle.mcs_engine.specs.Stores.{given}
 use Rattle.mcs_sat.proofs.base.ClauseBase.cut.Goals as goal
 
 pub invariant_of-self : goal.invariant_of-self

@@ -1,5 +1,5 @@
 use Rattle.std.proofs.Common.{◌∙◌}
-use Rattle.mcs_sat.proofs.StoreLemmas.{base-later, base-list, later-then}
+use Rattle.mcs_engine.proofs.StoreLemmas.{base-later, base-list, later-then}
 use Rattle.mcs_sat.proofs.base.ClauseBase.satisfy.Goals as goal
 
 pub invariant_of-self : goal.invariant_of-self

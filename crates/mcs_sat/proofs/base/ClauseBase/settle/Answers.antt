@@ -1,6 +1,6 @@
 use Rattle.std.proofs.Common.{◌∙◌}
-use Rattle.mcs_sat.specs.Stores.{IsLater}
-use Rattle.mcs_sat.proofs.StoreLemmas.{base-later, base-list, later-same, later-then}
+use Rattle.mcs_engine.specs.Stores.{IsLater}
+use Rattle.mcs_engine.proofs.StoreLemmas.{base-later, base-list, later-same, later-then}
 use Rattle.mcs_sat.proofs.base.ClauseBase.settle.Goals.{After-learn_beforehand, After-run}
 use Rattle.mcs_sat.proofs.base.ClauseBase.settle.Goals as goal
 

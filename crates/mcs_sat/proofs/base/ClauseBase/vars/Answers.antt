@@ -1,6 +1,6 @@
 use Rattle.std.proofs.Common.{subst}
 use Rattle.mcs_trace.specs.Clauses.{IsClauseList}
-use Rattle.mcs_sat.proofs.StoreLemmas.{base-clauses}
+use Rattle.mcs_engine.proofs.StoreLemmas.{base-clauses}
 use Rattle.mcs_sat.proofs.base.ClauseBase.vars.Goals as goal
 
 pub returns-clause-kept : goal.returns-clause-kept

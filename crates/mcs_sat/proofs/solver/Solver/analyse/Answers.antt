@@ -6,15 +6,15 @@ use Rattle.mcs_base.proofs.Among.{among_get}
 use Rattle.mcs_base.proofs.Lists.{slice_get_none}
 use Rattle.mcs_base.proofs.Results.{IfOk-both}
 use Rattle.mcs_trace.specs.declared.trace.Step.{Step}
-use Rattle.mcs_sat.specs.declared.state.Reach.{Reach}
-use Rattle.mcs_sat.specs.declared.state.State.{State}
-use Rattle.mcs_sat.specs.Learning.{IsLearnt, IsSingle}
+use Rattle.mcs_engine.specs.declared.state.Reach.{Reach}
+use Rattle.mcs_engine.specs.declared.state.State.{State}
+use Rattle.mcs_engine.specs.Learning.{IsLearnt, IsSingle}
 use Rattle.mcs_sat.specs.Solvers.{IsAsserting, IsFalseNumber, IsOpenUnder, SolverView, last_level, trues_below}
-use Rattle.mcs_sat.specs.States.{IsLastLevel}
+use Rattle.mcs_engine.specs.States.{IsLastLevel}
 use Rattle.mcs_sat.proofs.AssertingLemmas.{asserting, last-implied, last-late, some-levels}
-use Rattle.mcs_sat.proofs.ReasonLemmas.{rest-seen}
+use Rattle.mcs_sat.proofs.SeenLemmas.{rest-seen}
 use Rattle.mcs_sat.proofs.SolverLemmas.{number-false}
-use Rattle.mcs_sat.proofs.TurnLemmas.{last-found}
+use Rattle.mcs_engine.proofs.TurnLemmas.{last-found}
 use Rattle.mcs_sat.proofs.solver.Solver.analyse.Goals as goal
 
 pub unreachable-requires : goal.unreachable-requires

@@ -1,10 +1,10 @@
 use Rattle.std.proofs.Common.{◌≡◌, ℤ, List, sym, subst, unsigned_abs, w64, to_z, of_z, to_z-of_z}
 use Rattle.std.proofs.lemmas.Result.{on_ok_weaker}
 use Rattle.mcs_trace.proofs.OrderLemmas.{fits_literal}
-use Rattle.mcs_sat.specs.declared.trail.Entry.{Entry}
+use Rattle.mcs_engine.specs.declared.trail.Entry.{Entry}
 use Rattle.mcs_sat.specs.Solvers.{HasNoValue}
-use Rattle.mcs_sat.specs.States.{IsDecided}
-use Rattle.mcs_sat.specs.Trails.{StandsNowhere}
+use Rattle.mcs_engine.specs.States.{IsDecided}
+use Rattle.mcs_engine.specs.Trails.{StandsNowhere}
 use Rattle.mcs_sat.proofs.UnitRunLemmas.{free-nowhere}
 use Rattle.mcs_sat.proofs.SolverLemmas.{trues-are, view-decided}
 use Rattle.mcs_sat.proofs.solver.Solver.decide.Goals as goal

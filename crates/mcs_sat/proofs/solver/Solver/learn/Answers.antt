@@ -1,10 +1,10 @@
 use Rattle.std.proofs.Common.{ℕ, ℤ, List, sym, subst}
 use Rattle.mcs_trace.specs.declared.trace.Step.{Step}
-use Rattle.mcs_sat.specs.declared.state.State.{State}
-use Rattle.mcs_sat.specs.Learning.{IsSingle}
-use Rattle.mcs_sat.specs.Solvers.{IsAsserting, IsLearned, SolverView}
-use Rattle.mcs_sat.specs.States.{IsLearntBack, view_of}
-use Rattle.mcs_sat.specs.Trails.{IsFalse}
+use Rattle.mcs_engine.specs.declared.state.State.{State}
+use Rattle.mcs_engine.specs.Learning.{IsSingle}
+use Rattle.mcs_sat.specs.Solvers.{IsAsserting, IsLearned, SolverView, view_of}
+use Rattle.mcs_engine.specs.States.{IsLearntBack}
+use Rattle.mcs_engine.specs.Trails.{IsFalse}
 use Rattle.mcs_sat.proofs.AssertingLemmas.{asserting-false, asserting-single, learned, some-levels}
 use Rattle.mcs_sat.proofs.solver.Solver.learn.Goals as goal
 

@@ -2,9 +2,9 @@ use Rattle.std.proofs.Common.{ℕ, ◌+◌, ◌↔◌, List, ℤ, Option, Some, 
 use Rattle.std.specs.List.{AllByRecursion}
 use Rattle.std.specs.Option.{IfNone}
 use Rattle.mcs_base.proofs.Results.{IfOk-from_ok, IfOk-from_is_err}
-use Rattle.mcs_sat.specs.declared.state.State.{State}
+use Rattle.mcs_engine.specs.declared.state.State.{State}
 use Rattle.mcs_sat.specs.Solvers.{GoesOn, IsUnitRun, LeadsToConflict, SolverView, trues}
-use Rattle.mcs_sat.specs.Trails.{IsFalseAt, IsOpen, levels_of}
+use Rattle.mcs_engine.specs.Trails.{IsFalseAt, IsOpen, levels_of}
 use Rattle.mcs_sat.proofs.SolverLemmas.{false-number, grown-conflict, grown-goes_on, grown-no_conflict, opens-under}
 use Rattle.mcs_sat.proofs.solver.Solver.propagate.Goals as goal
 use Rattle.mcs_sat.proofs.solver.Solver.propagate.Goals.{in-Ok-Some+else-prove, in-Ok-None, in-Err}

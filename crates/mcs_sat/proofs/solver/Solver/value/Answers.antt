@@ -2,9 +2,9 @@ use Rattle.std.proofs.Common.{◌≡◌, ℤ, neg_ℤ, List, sym, subst, unsigne
 use Rattle.std.specs.Bool.{MatchBool}
 use Rattle.mcs_base.specs.Listings.{IsAmong}
 use Rattle.mcs_trace.proofs.OrderLemmas.{fits_literal}
-use Rattle.mcs_sat.specs.declared.trail.Entry.{Entry}
+use Rattle.mcs_engine.specs.declared.trail.Entry.{Entry}
 use Rattle.mcs_sat.specs.Solvers.{HasNoValue, IsSolver}
-use Rattle.mcs_sat.specs.Trails.{IsOn, StandsNowhere}
+use Rattle.mcs_engine.specs.Trails.{IsOn, StandsNowhere}
 use Rattle.mcs_sat.proofs.UnitRunLemmas.{value-seen}
 use Rattle.mcs_sat.proofs.SolverLemmas.{is-solver, trues-are}
 use Rattle.mcs_sat.proofs.solver.Solver.value.Goals as goal

@@ -1,0 +1,17 @@
+pub mod FindingLemmas
+pub mod KnownLemmas
+pub mod LatestLemmas
+pub mod TrailLemmas
+pub mod PairsLemmas
+pub mod ListsLemmas
+pub mod WatchLemmas
+pub mod GrowLemmas
+pub mod KeptLemmas
+pub mod LevelLemmas
+pub mod StateLemmas
+pub mod TurnLemmas
+pub mod Keeping
+pub mod StoreLemmas
+pub mod ChainLemmas
+pub mod MarkLemmas
+pub mod ReasonLemmas

@@ -1,0 +1,9 @@
+pub mod Trails
+pub mod Learning
+pub mod Pairs
+pub mod Lists
+pub mod Watching
+pub mod Chains
+pub mod States
+pub mod Stores
+pub mod Marking

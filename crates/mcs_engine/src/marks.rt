@@ -1,0 +1,118 @@
+//! A false clause, as marks at the places of the trail at which its literals became false.
+
+ghost use Rattle.std.specs.Prelude.{◌≡◌, ◌≢◌, ◌≤◌, ◌<◌, ◌⊎◌, ◌↔◌, ℕ, length, unsigned_abs, IfOk, OnOk};
+ghost use Rattle.std.specs.Bool.{MatchBool};
+ghost use Rattle.mcs_base.specs.Listings.{IsListing};
+ghost use Rattle.mcs_trace.specs.Clauses.{IsClause, LiteralBefore};
+ghost use Rattle.mcs_engine.specs.Trails.{AreCovered, ArePlaced, IsTrail, literal_at, reason_at};
+ghost use Rattle.mcs_engine.specs.Learning.{GoesOnByReasons};
+ghost use Rattle.mcs_engine.specs.Marking.{AreUnmarked, IsVariableMarked, IsMarkedChain, IsMarkedWithin, IsMetAt, IsOfMarks, IsTakenOff};
+
+use crate::trail::Trail;
+use mcs_base::{Memory, Rows};
+use mcs_trace::Clause;
+use std::alloc::Global;
+
+/// Marks the place of the literal's variable on the trail, if it has one.
+fn mark_one(trail: &Trail, literal: i64, marks: &mut Vec<bool>)
+    requires placed { ArePlaced trail.now.entries.items trail.now.positions.items }
+    requires within { unsigned_abs literal < length trail.now.positions.items }
+    requires sized { length marks.old.items ≡ length trail.now.entries.items }
+    ensures sized { length marks.new.items ≡ length marks.old.items }
+    ensures exactly { (p : ℕ) → p < length trail.now.entries.items
+        → IsVariableMarked marks.new.items p ↔ (IsVariableMarked marks.old.items p ⊎ (unsigned_abs (literal_at trail.now.entries.items p) ≡ unsigned_abs literal)) }
+{
+    let Some(place) = trail.position(literal) else {
+        return;
+    };
+    marks[place] = true;
+}
+
+/// Marks the places of the variables of the clause.
+pub(crate) fn mark_all(trail: &Trail, literals: &[i64], marks: &mut Vec<bool>)
+    requires placed { ArePlaced trail.now.entries.items trail.now.positions.items }
+    requires clause { IsClause literals.now }
+    requires covered { AreCovered trail.now.positions.items literals.now }
+    requires sized { length marks.old.items ≡ length trail.now.entries.items }
+    ensures sized { length marks.new.items ≡ length marks.old.items }
+    ensures exactly { (p : ℕ) → p < length trail.now.entries.items
+        → IsVariableMarked marks.new.items p ↔ (IsVariableMarked marks.old.items p ⊎ IsMetAt trail.now.entries.items literals.now p) }
+{
+    for literal in literals {
+        mark_one(trail, *literal, marks);
+    }
+}
+
+/// Whether the places of the variables of the clause are marked.
+pub(crate) fn are_marked(trail: &Trail, literals: &[i64], marks: &[bool]) -> bool
+    requires placed { ArePlaced trail.now.entries.items trail.now.positions.items }
+    requires clause { IsClause literals.now }
+    requires covered { AreCovered trail.now.positions.items literals.now }
+    requires sized { length marks.now ≡ length trail.now.entries.items }
+{
+    for literal in literals {
+        let Some(place) = trail.position(*literal) else {
+            return false;
+        };
+        if !marks[place] {
+            return false;
+        }
+    }
+    true
+}
+
+/// Whether a place from `from` up to, but not including, `to` is marked.
+pub(crate) fn is_any_marked(marks: &[bool], from: usize, to: usize) -> bool
+    requires { to ≤ length marks.now }
+    ensures { MatchBool result (IsMarkedWithin marks.now from to) (AreUnmarked marks.now from to) }
+{
+    let mut place = to;
+    while place > from {
+        place -= 1;
+        if marks[place] {
+            return true;
+        }
+    }
+    false
+}
+
+/// Resolves the marked clause with the reason of the literal at the place, and appends the number of the reason to the
+/// chain.
+pub(crate) fn resolve_at(
+    clauses: &Rows<i64>,
+    trail: &Trail,
+    place: usize,
+    chain: &mut Vec<u64>,
+    marks: &mut Vec<bool>,
+) -> Result<(), Memory>
+    requires trail { IsTrail clauses.now trail.now }
+    requires marked { IsMarkedChain clauses.now trail.now.entries.items chain.old.items marks.old.items }
+    requires here { IsVariableMarked marks.old.items place }
+    requires within { place < length trail.now.entries.items }
+    requires implied { reason_at trail.now.entries.items place ≢ 0 }
+    ensures marked { OnOk result (IsMarkedChain clauses.now trail.now.entries.items chain.new.items marks.new.items) }
+    ensures off { OnOk result (IsTakenOff marks.old.items marks.new.items place) }
+    ensures reasons { OnOk result (GoesOnByReasons clauses.now trail.now.entries.items chain.old.items chain.new.items) }
+{
+    let cause = trail.entries[place].reason;
+    chain.push(cause)?;
+    mark_all(trail, clauses.row(cause as usize - 1), marks);
+    marks[place] = false;
+    Ok(())
+}
+
+/// The marked clause.
+pub(crate) fn clause_of(alloc: Global, trail: &Trail, marks: &[bool]) -> Result<Clause, Memory>
+    requires placed { ArePlaced trail.now.entries.items trail.now.positions.items }
+    requires sized { length marks.now ≡ length trail.now.entries.items }
+    ensures { IfOk result (IsListing (IsOfMarks trail.now.entries.items marks.now (length marks.now)) LiteralBefore) }
+{
+    let mut clause = Clause::empty(alloc);
+    for place in 0..marks.len() {
+        if !marks[place] {
+            continue;
+        }
+        clause.insert(trail.negated(place))?;
+    }
+    Ok(clause)
+}

@@ -1,8 +1,0 @@
-use Rattle.mcs_sat.proofs.Keeping.{KeepsState}
-use Rattle.mcs_sat.proofs.adding.sweep.Given as goal
-
-abbrev pub invariant-loop-index : goal.invariant-loop-index
-invariant-loop-index l = KeepsState l.fn.state l.state
-
-abbrev pub decreases-loop-index : goal.decreases-loop-index
-decreases-loop-index l = l.index

@@ -1,6 +1,0 @@
-use Rattle.std.proofs.Common.{◌≤◌}
-use Rattle.mcs_sat.specs.Watching.{AreUnwatched}
-use Rattle.mcs_sat.proofs.adding.unwatched.Given as goal
-
-abbrev pub invariant-loop-index : goal.invariant-loop-index
-invariant-loop-index l = (l.place ≤ l.most) × AreUnwatched l.trail.entries.items l.pairs l.from l.index l.place

@@ -1,5 +1,0 @@
-use Rattle.mcs_sat.proofs.FindingLemmas.{FoundSoFar}
-use Rattle.mcs_sat.proofs.examine.examine.Given as goal
-
-abbrev pub invariant-loop-literal : goal.invariant-loop-literal
-invariant-loop-literal l = FoundSoFar l.trail.entries.items l.literals l.literal-index l.free

@@ -1,5 +1,0 @@
-use Rattle.mcs_sat.proofs.ListsLemmas.{list-none}
-use Rattle.mcs_sat.proofs.lists.Lists.new.Goals as goal
-
-pub returns : goal.returns
-returns c = list-none _ c.new.ensures.items

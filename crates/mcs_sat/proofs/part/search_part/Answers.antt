@@ -1,8 +1,0 @@
-use Rattle.mcs_sat.proofs.PartLemmas.{part-later}
-use Rattle.mcs_sat.proofs.StoreLemmas.{later-then}
-use Rattle.mcs_sat.proofs.part.search_part.Goals as goal
-
-pub adopt-requires-clause-part : goal.adopt-requires-clause-part
-adopt-requires-clause-part c =
-    let p = c.in_ok-part.part.state in
-    part-later c.args.state.now p c.go_back.new.state c.in_ok-part.part.numbers.items c.in_ok-part.ensures.taken (later-then p c.explore-explored.new.state c.go_back.new.state c.explore-explored.ensures.later c.go_back.ensures.later) c.go_back.ensures.base

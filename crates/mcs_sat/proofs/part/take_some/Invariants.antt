@@ -1,5 +1,0 @@
-use Rattle.mcs_sat.specs.Parts.{IsGathered}
-use Rattle.mcs_sat.proofs.part.take_some.Given as goal
-
-abbrev pub invariant-loop-index : goal.invariant-loop-index
-invariant-loop-index l = IsGathered l.whole l.part.state l.part.numbers.items

@@ -1,5 +1,0 @@
-use Rattle.mcs_sat.specs.Numbering.{IsNumbering}
-use Rattle.mcs_sat.proofs.trace.numbering_of.Given as goal
-
-abbrev pub invariant-loop-index : goal.invariant-loop-index
-invariant-loop-index l = IsNumbering l.clauses l.chains l.needed l.index l.numbering

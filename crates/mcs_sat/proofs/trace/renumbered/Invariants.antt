@@ -1,6 +1,0 @@
-use Rattle.std.proofs.Common.{◌≡◌, map, take}
-use Rattle.mcs_sat.specs.Numbering.{number_now}
-use Rattle.mcs_sat.proofs.trace.renumbered.Given as goal
-
-abbrev pub invariant-loop-number : goal.invariant-loop-number
-invariant-loop-number l = l.renumbered.items ≡ map (number_now l.numbers) (take l.number-index l.chain)

@@ -1,5 +1,0 @@
-use Rattle.mcs_sat.specs.Trails.{AreAssigned}
-use Rattle.mcs_sat.proofs.trail.Trail.first_free.Given as goal
-
-abbrev pub invariant-loop-variable : goal.invariant-loop-variable
-invariant-loop-variable l = AreAssigned l.self.entries.items l.from l.variable
