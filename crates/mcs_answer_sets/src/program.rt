@@ -1,20 +1,20 @@
 //! Certificates of programs.
 
-ghost use Rattle.std.specs.Prelude.{◌≡◌, ℕ, ◌≤◌, ◌++◌, ◌↔◌, List, false, length, map, IsTrue, IfOk, MatchOption};
+ghost use Rattle.std.specs.Prelude.{◌≡◌, ℕ, ◌≤◌, ◌++◌, ◌↔◌, List, length, map, IsTrue, IfOk, MatchOption};
 ghost use Rattle.std.specs.List.{AllByRecursion, filter_map, list_all, list_any};
 ghost use Rattle.mcs_sets.specs.Orders.{StateBefore};
 ghost use Rattle.mcs_base.specs.Listings.{IsAscending};
 ghost use Rattle.mcs_system.specs.Faults.{is_atom};
 ghost use Rattle.mcs_system.specs.Logic.{is_in, fact_of, holds, holds_all, true_names, Atoms};
-ghost use Rattle.mcs_system.specs.Plain.{Atom};
 ghost use Rattle.mcs_system.specs.Seen.{formula_of, rule_of};
 ghost use Rattle.mcs_system.specs.Views.{Shows};
 ghost use Rattle.mcs_trace.specs.Traces.{inferences_of};
 ghost use Rattle.mcs_cnf.specs.ClauseLists.{AreOver};
 ghost use Rattle.mcs_evidence.specs.Programs.{rule_formula, rest_formulas, model_shown_of, program_shown_of, AreOverRules, IsInRange, IsModelShown, IsRefutation, IsAcceptedProgram};
-ghost use Rattle.mcs_evidence.specs.Pushing.{AreNamesOf};
+ghost use Rattle.mcs_asked.specs.Questions.{asked_beliefs, program_rules, program_beliefs};
 ghost use Rattle.mcs_answer_sets.specs.Models.{AreModelsShown};
 
+use mcs_asked::{Asked, AskedProgram};
 use mcs_base::{Memory, Vars, state_before};
 use mcs_entailment::is_in_range;
 use mcs_evidence::{rest_clauses, smaller_clauses};
@@ -73,16 +73,14 @@ pub fn rules_hold(atoms: &[Name], places: Vars, rules: &[ProgRule]) -> bool
     rules.iter().all(|rule| rule_holds(atoms, places, rule))
 }
 
-/// The indices of the beliefs that are true if exactly the atoms at these places are. There are at most 64 atoms and at
-/// most 64 beliefs.
-pub fn view_of(atoms: &[Name], places: Vars, beliefs: &[&Name]) -> Vars
-    requires few { length atoms.now ≤ 64 }
-    requires few_beliefs { length beliefs.now ≤ 64 }
-    ensures { Shows (Atoms (true_names 0 atoms.now places)) (map Atom (map (λ b. b.now) beliefs.now)) result }
+/// The indices of the beliefs that are true if exactly the atoms at these places are.
+pub fn view_of(program: &AskedProgram<'_>, places: Vars) -> Vars
+    ensures { Shows (Atoms (true_names 0 program.now.atoms.now places)) (program_beliefs program.now) result }
 {
+    let beliefs = program.beliefs;
     let mut view = Vars::empty();
     for (k, belief) in beliefs.iter().enumerate() {
-        if is_true_at(atoms, places, belief) {
+        if is_true_at(program.atoms, places, belief) {
             view = view.with(k as u32);
         }
     }
@@ -92,48 +90,39 @@ pub fn view_of(atoms: &[Name], places: Vars, beliefs: &[&Name]) -> Vars
 /// Whether it is shown that the atoms of the model are an answer set.
 fn is_model_shown(
     alloc: Global,
-    atoms: &[Name],
-    rules: &[ProgRule],
+    program: &AskedProgram<'_>,
     shown: &AnswerSetCert,
 ) -> Result<bool, Memory>
-    requires few { length atoms.now ≤ 64 }
-    requires rules { AreOverRules atoms.now (map rule_of rules.now) }
-    ensures { IfOk result (λ yes. IsTrue yes ↔ IsModelShown atoms.now (map rule_of rules.now) (model_shown_of shown.now)) }
+    ensures { IfOk result (λ yes. IsTrue yes ↔ IsModelShown program.now.atoms.now (program_rules program.now) (model_shown_of shown.now)) }
 {
     let model = Vars::numbered(shown.model);
-    if !is_in_range(atoms, shown.model) {
+    if !is_in_range(program.atoms, shown.model) {
         return Ok(false);
     }
-    if !rules_hold(atoms, model, rules) {
+    if !rules_hold(program.atoms, model, program.rules) {
         return Ok(false);
     }
-    let smaller = smaller_clauses(alloc, atoms, rules, model)?;
+    let smaller = smaller_clauses(alloc, program.atoms, program.rules, model)?;
     check(alloc, &smaller, &shown.minimal)
 }
 
 /// The views of the models, in their order, if each is shown to be an answer set.
 fn model_views(
     alloc: Global,
-    atoms: &[Name],
-    rules: &[ProgRule],
-    beliefs: &[&Name],
+    program: &AskedProgram<'_>,
     models: &[AnswerSetCert],
 ) -> Result<Option<Vec<Vars>>, Memory>
-    requires few { length atoms.now ≤ 64 }
-    requires few_beliefs { length beliefs.now ≤ 64 }
-    requires rules { AreOverRules atoms.now (map rule_of rules.now) }
     ensures { IfOk result (λ shown. MatchOption shown
-        ((views : List ℕ) → ¬ AreModelsShown atoms.now (map rule_of rules.now) (map Atom (map (λ b. b.now) beliefs.now)) views (map model_shown_of models.now))
-        (λ views. AreModelsShown atoms.now (map rule_of rules.now) (map Atom (map (λ b. b.now) beliefs.now)) views.items (map model_shown_of models.now))) }
+        ((views : List ℕ) → ¬ AreModelsShown program.now.atoms.now (program_rules program.now) (program_beliefs program.now) views (map model_shown_of models.now))
+        (λ views. AreModelsShown program.now.atoms.now (program_rules program.now) (program_beliefs program.now) views.items (map model_shown_of models.now))) }
 {
     let mut views = Vec::new(alloc);
     for shown in models {
-        let fine = is_model_shown(alloc, atoms, rules, shown)?;
+        let fine = is_model_shown(alloc, program, shown)?;
         if !fine {
             return Ok(None);
         }
-        let view = view_of(atoms, Vars::numbered(shown.model), beliefs);
-        views.push(view)?;
+        views.push(view_of(program, Vars::numbered(shown.model)))?;
     }
     Ok(Some(views))
 }
@@ -169,52 +158,47 @@ fn sets_of(alloc: Global, atoms: &[Name], numbers: &[u64]) -> Result<Option<Vec<
 /// Whether the trace shows that no model is left: each has one of these views, or one of the smaller sets undoes it.
 fn is_rest_refuted(
     alloc: Global,
-    atoms: &[Name],
-    rules: &[ProgRule],
-    beliefs: &[&Name],
+    program: &AskedProgram<'_>,
     smaller: &[Vars],
     views: &[Vars],
     trace: &Trace,
 ) -> Result<bool, Memory>
-    requires few { length atoms.now ≤ 64 }
-    requires few_beliefs { length beliefs.now ≤ 64 }
-    requires rules { AreOverRules atoms.now (map rule_of rules.now) }
-    requires beliefs { AreNamesOf atoms.now (map (λ b. b.now) beliefs.now) }
     ensures { IfOk result (λ yes. IsTrue yes
-        ↔ IsRefutation atoms.now (rest_formulas atoms.now (map rule_of rules.now) (map Atom (map (λ b. b.now) beliefs.now)) smaller.now views.now) (inferences_of trace.now)) }
+        ↔ IsRefutation program.now.atoms.now (rest_formulas program.now.atoms.now (program_rules program.now) (program_beliefs program.now) smaller.now views.now) (inferences_of trace.now)) }
 {
-    let rest = rest_clauses(alloc, atoms, rules, beliefs, smaller, views)?;
+    let rest = rest_clauses(
+        alloc,
+        program.atoms,
+        program.rules,
+        program.beliefs,
+        smaller,
+        views,
+    )?;
     check(alloc, &rest, trace)
 }
 
 /// The views that the certificate shows for the rules, if it is accepted.
 fn views_of_rules(
     alloc: Global,
-    atoms: &[Name],
-    rules: &[ProgRule],
-    beliefs: &[&Name],
+    program: &AskedProgram<'_>,
     cert: &ProgramCert,
 ) -> Result<Option<Vec<Vars>>, Memory>
-    requires few { length atoms.now ≤ 64 }
-    requires few_beliefs { length beliefs.now ≤ 64 }
-    requires rules { AreOverRules atoms.now (map rule_of rules.now) }
-    requires beliefs { AreNamesOf atoms.now (map (λ b. b.now) beliefs.now) }
     ensures { IfOk result (λ shown. MatchOption shown
-        ((views : List ℕ) → ¬ IsAcceptedProgram atoms.now (map rule_of rules.now) (map Atom (map (λ b. b.now) beliefs.now)) views (program_shown_of cert.now))
-        (λ views. IsAcceptedProgram atoms.now (map rule_of rules.now) (map Atom (map (λ b. b.now) beliefs.now)) views.items (program_shown_of cert.now))) }
+        ((views : List ℕ) → ¬ IsAcceptedProgram program.now.atoms.now (program_rules program.now) (program_beliefs program.now) views (program_shown_of cert.now))
+        (λ views. IsAcceptedProgram program.now.atoms.now (program_rules program.now) (program_beliefs program.now) views.items (program_shown_of cert.now))) }
 {
-    let sets = sets_of(alloc, atoms, &cert.smaller)?;
+    let sets = sets_of(alloc, program.atoms, &cert.smaller)?;
     let Some(smaller) = sets else {
         return Ok(None);
     };
-    let shown = model_views(alloc, atoms, rules, beliefs, &cert.models)?;
+    let shown = model_views(alloc, program, &cert.models)?;
     let Some(views) = shown else {
         return Ok(None);
     };
     if !are_ascending(&views) {
         return Ok(None);
     }
-    let refuted = is_rest_refuted(alloc, atoms, rules, beliefs, &smaller, &views, &cert.none)?;
+    let refuted = is_rest_refuted(alloc, program, &smaller, &views, &cert.none)?;
     if !refuted {
         return Ok(None);
     }
@@ -227,23 +211,24 @@ pub fn program_views(
     alloc: Global,
     rules: &[ProgRule],
     heads: &[&Formula],
-    beliefs: &[&Formula],
-    atoms: &[Name],
+    asked: &Asked<'_>,
     cert: &ProgramCert,
 ) -> Result<Option<Vec<Vars>>, Memory>
-    requires few { length atoms.now ≤ 64 }
-    requires few_beliefs { length beliefs.now ≤ 64 }
-    requires rules { AreOverRules atoms.now (map rule_of rules.now) }
-    requires heads { AreOver atoms.now (map (λ f. formula_of f.now) heads.now) }
-    requires beliefs { AreOver atoms.now (map (λ f. formula_of f.now) beliefs.now) }
-    requires belief_atoms { AllByRecursion (λ f. IsTrue (is_atom (formula_of f.now))) beliefs.now }
+    requires rules { AreOverRules asked.now.atoms.now (map rule_of rules.now) }
+    requires heads { AreOver asked.now.atoms.now (map (λ f. formula_of f.now) heads.now) }
+    requires belief_atoms { AllByRecursion (λ f. IsTrue (is_atom (formula_of f.now))) asked.now.beliefs.now }
     ensures { IfOk result (λ shown. MatchOption shown
-        ((views : List ℕ) → ¬ IsAcceptedProgram atoms.now (map rule_of rules.now ++ filter_map fact_of (map (λ f. formula_of f.now) heads.now)) (map (λ f. formula_of f.now) beliefs.now) views (program_shown_of cert.now))
-        (λ views. IsAcceptedProgram atoms.now (map rule_of rules.now ++ filter_map fact_of (map (λ f. formula_of f.now) heads.now)) (map (λ f. formula_of f.now) beliefs.now) views.items (program_shown_of cert.now))) }
+        ((views : List ℕ) → ¬ IsAcceptedProgram asked.now.atoms.now (map rule_of rules.now ++ filter_map fact_of (map (λ f. formula_of f.now) heads.now)) (asked_beliefs asked.now) views (program_shown_of cert.now))
+        (λ views. IsAcceptedProgram asked.now.atoms.now (map rule_of rules.now ++ filter_map fact_of (map (λ f. formula_of f.now) heads.now)) (asked_beliefs asked.now) views.items (program_shown_of cert.now))) }
 {
-    let names = names_of(alloc, beliefs)?;
+    let names = names_of(alloc, asked.beliefs)?;
     let all = with_heads(alloc, rules, heads)?;
-    let shown = views_of_rules(alloc, atoms, &all, &names, cert);
+    let program = AskedProgram {
+        atoms: asked.atoms,
+        rules: &all,
+        beliefs: &names,
+    };
+    let shown = views_of_rules(alloc, &program, cert);
     drop(all);
     shown
 }

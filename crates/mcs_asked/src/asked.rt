@@ -1,20 +1,18 @@
 //! The atoms of a context and the beliefs that it is asked for.
 
-ghost use Rattle.std.specs.Prelude.{◌≡◌, ◌≤◌, false, length, map};
-ghost use Rattle.mcs_system.specs.Faults.{has_twins};
+ghost use Rattle.std.specs.Prelude.{◌≤◌, length, map};
 ghost use Rattle.mcs_system.specs.Seen.{formula_of};
 ghost use Rattle.mcs_cnf.specs.ClauseLists.{AreOver};
 ghost use Rattle.mcs_asked.specs.OneProof.{AreOver-prop};
 
 use mcs_system::{Formula, Name};
 
-/// The atoms of a context, each once and at most 64, and beliefs over them, at most 64.
+/// The atoms of a context, at most 64, and beliefs over them, at most 64.
 #[derive(Clone, Copy)]
 pub struct Asked<'a> {
     pub atoms: &'a [Name],
     pub beliefs: &'a [&'a Formula],
     pub ghost few: { length atoms.now ≤ 64 },
-    pub ghost different: { has_twins atoms.now ≡ false },
     pub ghost few_beliefs: { length beliefs.now ≤ 64 },
     pub ghost over: { AreOver atoms.now (map (λ b. formula_of b.now) beliefs.now) } by { AreOver-prop atoms.now (map (λ b. formula_of b.now) beliefs.now) },
 }

@@ -1,64 +1,54 @@
 //! Whether a certificate of a context is accepted.
 
-ghost use Rattle.std.specs.Prelude.{ℕ, ◌<◌, ◌≤◌, ◌↔◌, List, length, map, IsTrue, IfOk, MatchOption};
+ghost use Rattle.std.specs.Prelude.{ℕ, ◌<◌, ◌↔◌, List, length, map, IsTrue, IfOk, MatchOption};
 ghost use Rattle.mcs_sets.specs.Orders.{StateBefore};
 ghost use Rattle.mcs_sets.specs.Sets.{Within};
 ghost use Rattle.mcs_base.specs.Listings.{IsListing};
-ghost use Rattle.mcs_system.specs.Faults.{default_count};
 ghost use Rattle.mcs_system.specs.Imports.{rules_into};
 ghost use Rattle.mcs_system.specs.Logic.{with_heads};
 ghost use Rattle.mcs_system.specs.Seen.{formula_of, kb_of};
 ghost use Rattle.mcs_system.specs.Systems.{IsAcceptedPart};
-ghost use Rattle.mcs_cnf.specs.ClauseLists.{AreOver};
+ghost use Rattle.mcs_asked.specs.Questions.{asked_beliefs};
 ghost use Rattle.mcs_asking.specs.Certificates.{plain_of, IsAccepted, IsAcceptedFor};
-ghost use Rattle.mcs_asking.specs.Kinds.{IsOverKb, AreOfKind};
 
+use crate::question::Question;
 use mcs_answer_sets::program_views;
+use mcs_asked::Asked;
 use mcs_asking::{AnswerCert, beliefs_of, heads_into, parts_at};
 use mcs_base::{Active, Memory, Vars};
 use mcs_entailment::classical_views;
 use mcs_extensions::default_views;
-use mcs_system::{Formula, Kb, Name, System};
+use mcs_system::{Kb, System};
 use std::alloc::Global;
 
 /// The views that the certificate shows for the knowledge base with the heads, if it is accepted. A certificate of
 /// another kind than the knowledge base is not.
 fn shown_views(
     alloc: Global,
-    kb: &Kb,
-    heads: &[&Formula],
-    beliefs: &[&Formula],
-    atoms: &[Name],
+    question: &Question<'_>,
     cert: &AnswerCert,
 ) -> Result<Option<Vec<Vars>>, Memory>
-    requires few { length atoms.now ≤ 64 }
-    requires few_beliefs { length beliefs.now ≤ 64 }
-    requires few_defaults { default_count (kb_of kb.now) ≤ 10 }
-    requires kb { IsOverKb atoms.now (kb_of kb.now) }
-    requires heads { AreOver atoms.now (map (λ f. formula_of f.now) heads.now) }
-    requires beliefs { AreOver atoms.now (map (λ f. formula_of f.now) beliefs.now) }
-    requires fitting_beliefs { AreOfKind (kb_of kb.now) (map (λ f. formula_of f.now) beliefs.now) }
     ensures { IfOk result (λ shown. MatchOption shown
-        ((views : List ℕ) → ¬ IsAcceptedFor atoms.now (with_heads (kb_of kb.now) (map (λ f. formula_of f.now) heads.now)) (map (λ f. formula_of f.now) beliefs.now) views (plain_of cert.now))
-        (λ views. IsAcceptedFor atoms.now (with_heads (kb_of kb.now) (map (λ f. formula_of f.now) heads.now)) (map (λ f. formula_of f.now) beliefs.now) views.items (plain_of cert.now))) }
+        ((views : List ℕ) → ¬ IsAcceptedFor question.now.asked.now.atoms.now (with_heads (kb_of question.now.kb.now) (map (λ f. formula_of f.now) question.now.heads.now)) (asked_beliefs question.now.asked.now) views (plain_of cert.now))
+        (λ views. IsAcceptedFor question.now.asked.now.atoms.now (with_heads (kb_of question.now.kb.now) (map (λ f. formula_of f.now) question.now.heads.now)) (asked_beliefs question.now.asked.now) views.items (plain_of cert.now))) }
 {
-    match kb {
+    let asked = question.asked;
+    let heads = question.heads;
+    match question.kb {
         Kb::Classical(formulas) => match cert {
-            AnswerCert::Classical(cert) => {
-                classical_views(alloc, formulas, heads, beliefs, atoms, cert)
-            }
+            AnswerCert::Classical(cert) => classical_views(alloc, formulas, heads, asked, cert),
             AnswerCert::Default(_) => Ok(None),
             AnswerCert::Program(_) => Ok(None),
         },
         Kb::DefaultTheory(items) => match cert {
             AnswerCert::Classical(_) => Ok(None),
-            AnswerCert::Default(cert) => default_views(alloc, items, heads, beliefs, atoms, cert),
+            AnswerCert::Default(cert) => default_views(alloc, items, heads, asked, cert),
             AnswerCert::Program(_) => Ok(None),
         },
         Kb::Program(rules) => match cert {
             AnswerCert::Classical(_) => Ok(None),
             AnswerCert::Default(_) => Ok(None),
-            AnswerCert::Program(cert) => program_views(alloc, rules, heads, beliefs, atoms, cert),
+            AnswerCert::Program(cert) => program_views(alloc, rules, heads, asked, cert),
         },
     }
 }
@@ -88,7 +78,16 @@ pub fn accepts(
     let heads = heads_into(alloc, system, context, active)?;
     let beliefs = beliefs_of(alloc, system, context)?;
     let kb = &system.contexts()[context as usize].kb;
-    let shown = shown_views(alloc, kb, &heads, &beliefs, system.atoms_of(context), cert)?;
+    let asked = Asked {
+        atoms: system.atoms_of(context),
+        beliefs: &beliefs,
+    };
+    let question = Question {
+        asked: &asked,
+        kb,
+        heads: &heads,
+    };
+    let shown = shown_views(alloc, &question, cert)?;
     let Some(views) = shown else {
         return Ok(false);
     };

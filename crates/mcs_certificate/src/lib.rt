@@ -2,6 +2,7 @@
 #![tactic(auto)]
 
 mod acceptance;
+mod question;
 
 pub use acceptance::accepts;
 pub use mcs_asking::AnswerCert;

@@ -114,8 +114,8 @@ pub answer_yes : (fs : List Formula) (g : Formula) (names : List Name) (known ne
 answer_yes fs g names known new steps is pushed accepted = subst (λ (x : ClauseList). IsAcceptedTrace x.clauses steps) (with_goal fs g names known new is pushed) accepted
 
 -- ---- clauses that are made apart
-pub formula_apart : (names : List Name) (f : Formula) (known more new : ClauseList) → more ≡ with_formulas names (record { vars = known.vars; clauses = [] }) (f ∷ []) → new ≡ record { vars = more.vars; clauses = known.clauses ++ more.clauses } → new ≡ with_formulas names known (f ∷ [])
-formula_apart names f known more new made added = added ∙ ap (λ (m : ClauseList). (let g : ClauseList = record { vars = m.vars; clauses = known.clauses ++ m.clauses } in g)) made
+pub formulas_apart : (names : List Name) (fs : List Formula) (known more new : ClauseList) → more ≡ with_formulas names (record { vars = known.vars; clauses = [] }) fs → new ≡ record { vars = more.vars; clauses = known.clauses ++ more.clauses } → new ≡ with_formulas names known fs
+formulas_apart names fs known more new made added = added ∙ ap (λ (m : ClauseList). (let g : ClauseList = record { vars = m.vars; clauses = known.clauses ++ m.clauses } in g)) made
 
 -- no clauses, over the variables of a list
 pub none_apart : (known empty : ClauseList) (n : ℕ) → n ≡ known.vars → empty ≡ record { vars = n; clauses = [] } → empty ≡ record { vars = known.vars; clauses = [] }

@@ -1,3 +1,5 @@
 pub mod Assumptions
 pub mod Consequences
 pub mod Models
+pub mod OneProof
+pub mod Given

@@ -1,14 +1,16 @@
 //! Formulas that are assumed beside others, each given by a number.
 
-ghost use Rattle.std.specs.Prelude.{◌≡◌, ◌≤◌, ◌<◌, length, map, IfOk, IsTrue};
+ghost use Rattle.std.specs.Prelude.{◌≡◌, ◌<◌, map, IfOk, IsTrue};
 ghost use Rattle.std.specs.List.{AllByRecursion};
 ghost use Rattle.mcs_sets.specs.Sets.{has};
 ghost use Rattle.mcs_system.specs.Seen.{formula_of};
 ghost use Rattle.mcs_classical.specs.Assumptions.{assumed, DoHold, HoldsAt};
+ghost use Rattle.mcs_classical.specs.Given.{given_names};
 ghost use Rattle.mcs_classical.specs.declared.assumptions.Assumption as declared;
 
+use crate::given::Given;
 use mcs_base::{Active, Memory, Vars};
-use mcs_system::{Formula, Name, holds_at};
+use mcs_system::{Formula, holds_at};
 use std::alloc::Global;
 
 /// A formula that may be assumed, with its number. Several may have one number.
@@ -38,16 +40,15 @@ pub fn assumed<'a>(
 
 /// The numbers of which all assumptions hold if exactly the atoms at the places in `values` are true. From these
 /// assumptions, and formulas that hold under this assignment, nothing follows that does not hold under it.
-pub fn holding(assumptions: &[Assumption<'_>], atoms: &[Name], values: Vars) -> Active
-    requires few { length atoms.now ≤ 64 }
-    requires numbers { AllByRecursion (λ (a : declared.Assumption). a.number < 64) assumptions.now }
-    ensures each { AllByRecursion (λ (a : declared.Assumption). IsTrue (has result a.number) → HoldsAt atoms.now values a) assumptions.now }
-    ensures all { AllByRecursion (λ (a : declared.Assumption). DoHold atoms.now values a.number assumptions.now → IsTrue (has result a.number)) assumptions.now }
+pub fn holding(given: &Given<'_>, values: Vars) -> Active
+    ensures each { AllByRecursion (λ (a : declared.Assumption). IsTrue (has result a.number) → HoldsAt (given_names given.now) values a) given.now.assumptions.now }
+    ensures all { AllByRecursion (λ (a : declared.Assumption). DoHold (given_names given.now) values a.number given.now.assumptions.now → IsTrue (has result a.number)) given.now.assumptions.now }
 {
+    let assumptions = given.assumptions;
     let mut held = Active::empty();
     let mut failed = Active::empty();
     for assumption in assumptions {
-        if holds_at(atoms, values, assumption.formula) {
+        if holds_at(given.asked.atoms, values, assumption.formula) {
             held = held.with(assumption.number);
         } else {
             failed = failed.with(assumption.number);

@@ -12,8 +12,11 @@ ghost use Rattle.mcs_system.specs.Views.{IsAcceptedView};
 ghost use Rattle.mcs_cnf.specs.ClauseLists.{clause_list, AreOver};
 ghost use Rattle.mcs_cnf.specs.Classical.{IsAcceptedClassical, certificate_of};
 ghost use Rattle.mcs_cnf.specs.Entailments.{entailment_of, says_yes};
+ghost use Rattle.mcs_classical.specs.Given.{given_names, given_beliefs};
 
 use crate::consequence::entails_beside;
+use crate::given::Given;
+use mcs_asked::Asked;
 use mcs_base::{Memory, Vars};
 use mcs_cnf::{clauses, model_shown};
 use mcs_sat::ClauseBase;
@@ -54,35 +57,39 @@ pub fn outputs(
 {
     let mut known = clauses(alloc, kb, atoms)?;
     let lent: Vec<&Formula> = beliefs.iter().collect(alloc)?;
-    outputs_from(alloc, &mut known, &lent, atoms)
+    let asked = Asked {
+        atoms,
+        beliefs: &lent,
+    };
+    let given = Given {
+        asked: &asked,
+        assumptions: &[],
+    };
+    outputs_from(alloc, &mut known, &given)
 }
 
-/// The same for formulas whose clauses are `known`, and for references to beliefs. The clauses of each belief are added
-/// for the search and removed again. So `known` is as before, also if memory runs out, and can be used for the next
-/// question, with what was learnt. The assignment under which a belief does not follow is tried on the next ones before
-/// any search.
+/// The same for formulas whose clauses are `known`, and for references to beliefs. What may be assumed plays no part.
+/// The clauses of each belief are added for the search and removed again. So `known` is as before, also if memory runs
+/// out, and can be used for the next question, with what was learnt. The assignment under which a belief does not follow
+/// is tried on the next ones before any search.
 pub fn outputs_in(
     alloc: Global,
     known: &mut ClauseBase,
-    beliefs: &[&Formula],
-    atoms: &[Name],
+    given: &Given<'_>,
 ) -> Result<(Vars, ClassicalCert), Memory>
-    requires few { length atoms.now ≤ 64 }
-    requires few_beliefs { length beliefs.now ≤ 64 }
-    requires different { has_twins atoms.now ≡ false }
-    requires beliefs { AreOver atoms.now (map (λ b. formula_of b.now) beliefs.now) }
-    requires room { length atoms.now ≤ known.old.vars }
+    requires { length (given_names given.now) ≤ known.old.vars }
     ensures kept { known.new ≡ known.old }
-    ensures exact { IfOk result (λ r. (fs : List plain.Formula) → known.old ≡ clause_list atoms.now fs → AreOver atoms.now fs
-        → IsListing (IsAcceptedView (Classical fs) (map (λ b. formula_of b.now) beliefs.now)) StateBefore (r.0 ∷ [])) }
-    ensures accepted { IfOk result (λ r. (fs : List plain.Formula) → known.old ≡ clause_list atoms.now fs → AreOver atoms.now fs
-        → IsAcceptedClassical atoms.now fs (map (λ b. formula_of b.now) beliefs.now) (r.0 ∷ []) (certificate_of r.1)) }
+    ensures exact { IfOk result (λ r. (fs : List plain.Formula) → known.old ≡ clause_list (given_names given.now) fs → AreOver (given_names given.now) fs
+        → IsListing (IsAcceptedView (Classical fs) (given_beliefs given.now)) StateBefore (r.0 ∷ [])) }
+    ensures accepted { IfOk result (λ r. (fs : List plain.Formula) → known.old ≡ clause_list (given_names given.now) fs → AreOver (given_names given.now) fs
+        → IsAcceptedClassical (given_names given.now) fs (given_beliefs given.now) (r.0 ∷ []) (certificate_of r.1)) }
 {
+    let beliefs = given.asked.beliefs;
     let mut state = Vars::empty();
     let mut model: Option<Vars> = None;
     let mut entails = Vec::new(alloc);
     for (number, belief) in beliefs.iter().enumerate() {
-        let entail = entails_beside(alloc, known, &model, belief, atoms)?;
+        let entail = entails_beside(alloc, known, &model, belief, given)?;
         state = with_yes(state, number as u32, &entail);
         model = model_shown(model, &entail);
         entails.push(entail)?;
@@ -94,22 +101,17 @@ pub fn outputs_in(
 pub fn outputs_from(
     alloc: Global,
     known: &mut Cnf,
-    beliefs: &[&Formula],
-    atoms: &[Name],
+    given: &Given<'_>,
 ) -> Result<(Vars, ClassicalCert), Memory>
-    requires few { length atoms.now ≤ 64 }
-    requires few_beliefs { length beliefs.now ≤ 64 }
-    requires different { has_twins atoms.now ≡ false }
-    requires beliefs { AreOver atoms.now (map (λ b. formula_of b.now) beliefs.now) }
-    requires room { length atoms.now ≤ known.old.vars }
+    requires { length (given_names given.now) ≤ known.old.vars }
     ensures kept { known.new ≡ known.old }
-    ensures exact { IfOk result (λ r. (fs : List plain.Formula) → known.old ≡ clause_list atoms.now fs → AreOver atoms.now fs
-        → IsListing (IsAcceptedView (Classical fs) (map (λ b. formula_of b.now) beliefs.now)) StateBefore (r.0 ∷ [])) }
-    ensures accepted { IfOk result (λ r. (fs : List plain.Formula) → known.old ≡ clause_list atoms.now fs → AreOver atoms.now fs
-        → IsAcceptedClassical atoms.now fs (map (λ b. formula_of b.now) beliefs.now) (r.0 ∷ []) (certificate_of r.1)) }
+    ensures exact { IfOk result (λ r. (fs : List plain.Formula) → known.old ≡ clause_list (given_names given.now) fs → AreOver (given_names given.now) fs
+        → IsListing (IsAcceptedView (Classical fs) (given_beliefs given.now)) StateBefore (r.0 ∷ [])) }
+    ensures accepted { IfOk result (λ r. (fs : List plain.Formula) → known.old ≡ clause_list (given_names given.now) fs → AreOver (given_names given.now) fs
+        → IsAcceptedClassical (given_names given.now) fs (given_beliefs given.now) (r.0 ∷ []) (certificate_of r.1)) }
 {
     let mut base = ClauseBase::of(alloc, known)?;
-    let shown = outputs_in(alloc, &mut base, beliefs, atoms);
+    let shown = outputs_in(alloc, &mut base, given);
     drop(base);
     shown
 }

@@ -7,9 +7,12 @@ ghost use Rattle.mcs_system.specs.Plain as plain;
 ghost use Rattle.mcs_system.specs.Seen.{formula_of};
 ghost use Rattle.mcs_cnf.specs.ClauseLists.{clause_list, with_formulas, IsOver, AreOver};
 ghost use Rattle.mcs_cnf.specs.Entailments.{entailment_of, says_yes, IsModelAt, IsAcceptedEntailment};
+ghost use Rattle.mcs_classical.specs.Given.{given_names};
 ghost use Rattle.mcs_classical.specs.Models.{IsCounterexample};
 
+use crate::given::Given;
 use crate::refuting::true_places;
+use mcs_asked::Asked;
 use mcs_base::{Memory, Vars};
 use mcs_cnf::{clauses, push_negation};
 use mcs_sat::{ClauseBase, Outcome};
@@ -38,26 +41,26 @@ fn push_goal(
 
 /// Whether the goal follows from the formulas whose clauses are `known`, with what shows it. This is a trace that
 /// refutes the formulas with the negated goal, or the places of the atoms that are true under an assignment under which
-/// the formulas hold and the goal does not. The clauses of the goal are added for the search and removed again. So
-/// `known` is as before, also if memory runs out, and can be used for the next goal, with what was learnt.
+/// the formulas hold and the goal does not. Of what is given only the atoms count. The clauses of the goal are added for
+/// the search and removed again. So `known` is as before, also if memory runs out, and can be used for the next goal,
+/// with what was learnt.
 pub fn entails_in(
     alloc: Global,
     known: &mut ClauseBase,
     goal: &Formula,
-    atoms: &[Name],
+    given: &Given<'_>,
 ) -> Result<Entail, Memory>
-    requires few { length atoms.now ≤ 64 }
-    requires different { has_twins atoms.now ≡ false }
-    requires goal { IsOver atoms.now (formula_of goal.now) }
-    requires room { length atoms.now ≤ known.old.vars }
+    requires goal { IsOver (given_names given.now) (formula_of goal.now) }
+    requires room { length (given_names given.now) ≤ known.old.vars }
     ensures kept { known.new ≡ known.old }
     ensures accepted { IfOk result
-        (λ e. (fs : List plain.Formula) → known.old ≡ clause_list atoms.now fs → AreOver atoms.now fs
-        → IsAcceptedEntailment atoms.now fs (formula_of goal.now) (entailment_of e)) }
+        (λ e. (fs : List plain.Formula) → known.old ≡ clause_list (given_names given.now) fs → AreOver (given_names given.now) fs
+        → IsAcceptedEntailment (given_names given.now) fs (formula_of goal.now) (entailment_of e)) }
     ensures exact { IfOk result
-        (λ e. (fs : List plain.Formula) → known.old ≡ clause_list atoms.now fs → AreOver atoms.now fs
+        (λ e. (fs : List plain.Formula) → known.old ≡ clause_list (given_names given.now) fs → AreOver (given_names given.now) fs
         → IsTrue (says_yes (entailment_of e)) ↔ Entails fs (formula_of goal.now)) }
 {
+    let atoms = given.asked.atoms;
     let vars = known.vars();
     let count = known.count();
     push_goal(alloc, known, goal, atoms)?;
@@ -75,24 +78,22 @@ pub fn counterexample_in(
     alloc: Global,
     known: &mut ClauseBase,
     goal: &Formula,
-    atoms: &[Name],
+    given: &Given<'_>,
 ) -> Result<Option<Vars>, Memory>
-    requires few { length atoms.now ≤ 64 }
-    requires different { has_twins atoms.now ≡ false }
-    requires goal { IsOver atoms.now (formula_of goal.now) }
-    requires room { length atoms.now ≤ known.old.vars }
+    requires goal { IsOver (given_names given.now) (formula_of goal.now) }
+    requires room { length (given_names given.now) ≤ known.old.vars }
     ensures kept { known.new ≡ known.old }
     ensures exact { IfOk result
-        (λ found. (fs : List plain.Formula) → known.old ≡ clause_list atoms.now fs → AreOver atoms.now fs
-        → IsCounterexample atoms.now fs (formula_of goal.now) found) }
+        (λ found. (fs : List plain.Formula) → known.old ≡ clause_list (given_names given.now) fs → AreOver (given_names given.now) fs
+        → IsCounterexample (given_names given.now) fs (formula_of goal.now) found) }
 {
     let vars = known.vars();
     let count = known.count();
-    push_goal(alloc, known, goal, atoms)?;
+    push_goal(alloc, known, goal, given.asked.atoms)?;
     let found = known.satisfy();
     known.cut(vars, count);
     match found? {
-        Some(values) => Ok(Some(true_places(&values, atoms.len()))),
+        Some(values) => Ok(Some(true_places(&values, given.asked.atoms.len()))),
         None => Ok(None),
     }
 }
@@ -102,22 +103,20 @@ pub fn entails_from(
     alloc: Global,
     known: &mut Cnf,
     goal: &Formula,
-    atoms: &[Name],
+    given: &Given<'_>,
 ) -> Result<Entail, Memory>
-    requires few { length atoms.now ≤ 64 }
-    requires different { has_twins atoms.now ≡ false }
-    requires goal { IsOver atoms.now (formula_of goal.now) }
-    requires room { length atoms.now ≤ known.old.vars }
+    requires goal { IsOver (given_names given.now) (formula_of goal.now) }
+    requires room { length (given_names given.now) ≤ known.old.vars }
     ensures kept { known.new ≡ known.old }
     ensures accepted { IfOk result
-        (λ e. (fs : List plain.Formula) → known.old ≡ clause_list atoms.now fs → AreOver atoms.now fs
-        → IsAcceptedEntailment atoms.now fs (formula_of goal.now) (entailment_of e)) }
+        (λ e. (fs : List plain.Formula) → known.old ≡ clause_list (given_names given.now) fs → AreOver (given_names given.now) fs
+        → IsAcceptedEntailment (given_names given.now) fs (formula_of goal.now) (entailment_of e)) }
     ensures exact { IfOk result
-        (λ e. (fs : List plain.Formula) → known.old ≡ clause_list atoms.now fs → AreOver atoms.now fs
+        (λ e. (fs : List plain.Formula) → known.old ≡ clause_list (given_names given.now) fs → AreOver (given_names given.now) fs
         → IsTrue (says_yes (entailment_of e)) ↔ Entails fs (formula_of goal.now)) }
 {
     let mut base = ClauseBase::of(alloc, known)?;
-    let entail = entails_in(alloc, &mut base, goal, atoms);
+    let entail = entails_in(alloc, &mut base, goal, given);
     drop(base);
     entail
 }
@@ -140,18 +139,25 @@ pub fn entails(
         (λ e. IsTrue (says_yes (entailment_of e)) ↔ Entails (map formula_of kb.now) (formula_of goal.now)) }
 {
     let mut known = clauses(alloc, kb, atoms)?;
-    entails_from(alloc, &mut known, goal, atoms)
+    let asked = Asked {
+        atoms,
+        beliefs: &[],
+    };
+    let given = Given {
+        asked: &asked,
+        assumptions: &[],
+    };
+    entails_from(alloc, &mut known, goal, &given)
 }
 
 /// The model, if the goal is false in it.
-fn refuting(model: &Option<Vars>, goal: &Formula, atoms: &[Name]) -> Option<Vars>
-    requires { length atoms.now ≤ 64 }
+fn refuting(model: &Option<Vars>, goal: &Formula, asked: &Asked<'_>) -> Option<Vars>
     ensures { IfSome result
-        (λ places. (model.now ≡ Some places) × (holds (true_names 0 atoms.now places) (formula_of goal.now) ≡ false)) }
+        (λ places. (model.now ≡ Some places) × (holds (true_names 0 asked.now.atoms.now places) (formula_of goal.now) ≡ false)) }
 {
     match model {
         Some(places) => {
-            if holds_at(atoms, *places, goal) {
+            if holds_at(asked.atoms, *places, goal) {
                 None
             } else {
                 Some(*places)
@@ -168,22 +174,20 @@ pub fn entails_beside(
     known: &mut ClauseBase,
     model: &Option<Vars>,
     goal: &Formula,
-    atoms: &[Name],
+    given: &Given<'_>,
 ) -> Result<Entail, Memory>
-    requires few { length atoms.now ≤ 64 }
-    requires different { has_twins atoms.now ≡ false }
-    requires goal { IsOver atoms.now (formula_of goal.now) }
-    requires room { length atoms.now ≤ known.old.vars }
+    requires goal { IsOver (given_names given.now) (formula_of goal.now) }
+    requires room { length (given_names given.now) ≤ known.old.vars }
     ensures kept { known.new ≡ known.old }
     ensures accepted { IfOk result
-        (λ e. (fs : List plain.Formula) → known.old ≡ clause_list atoms.now fs → AreOver atoms.now fs → IfSome model.now (IsModelAt atoms.now fs)
-        → IsAcceptedEntailment atoms.now fs (formula_of goal.now) (entailment_of e)) }
+        (λ e. (fs : List plain.Formula) → known.old ≡ clause_list (given_names given.now) fs → AreOver (given_names given.now) fs → IfSome model.now (IsModelAt (given_names given.now) fs)
+        → IsAcceptedEntailment (given_names given.now) fs (formula_of goal.now) (entailment_of e)) }
     ensures exact { IfOk result
-        (λ e. (fs : List plain.Formula) → known.old ≡ clause_list atoms.now fs → AreOver atoms.now fs → IfSome model.now (IsModelAt atoms.now fs)
+        (λ e. (fs : List plain.Formula) → known.old ≡ clause_list (given_names given.now) fs → AreOver (given_names given.now) fs → IfSome model.now (IsModelAt (given_names given.now) fs)
         → IsTrue (says_yes (entailment_of e)) ↔ Entails fs (formula_of goal.now)) }
 {
-    match refuting(model, goal, atoms) {
+    match refuting(model, goal, given.asked) {
         Some(places) => Ok(Entail::No(places.number())),
-        None => entails_in(alloc, known, goal, atoms),
+        None => entails_in(alloc, known, goal, given),
     }
 }

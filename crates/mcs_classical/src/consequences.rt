@@ -1,26 +1,28 @@
 //! What follows from formulas with assumptions, kept from one question to the next.
 
-ghost use Rattle.std.specs.Prelude.{◌≡◌, ℕ, ◌+◌, ◌<◌, ◌≤◌, List, IsTrue, false, true, length, map, IfOk};
+ghost use Rattle.std.specs.Prelude.{◌≡◌, ℕ, ◌+◌, ◌<◌, ◌≤◌, List, IsTrue, true, length, map, IfOk};
 ghost use Rattle.std.specs.List.{AllByRecursion};
 ghost use Rattle.mcs_sets.specs.Sets.{has, such_that};
-ghost use Rattle.mcs_system.specs.Faults.{has_twins};
 ghost use Rattle.mcs_system.specs.Logic.{Theory, true_names};
 ghost use Rattle.mcs_system.specs.Plain as plain;
 ghost use Rattle.mcs_system.specs.Seen.{formula_of};
 ghost use Rattle.mcs_system.specs.Views.{Shows};
 ghost use Rattle.mcs_cnf.specs.ClauseLists.{clause_list, AreOver};
-ghost use Rattle.mcs_classical.specs.Assumptions.{assumed};
+ghost use Rattle.mcs_asked.specs.Questions.{asked_beliefs};
 ghost use Rattle.mcs_classical.specs.Consequences.{holds_goal, with_assumed, AreConsequences, IsGoalAnswer, AreGoalsTold, IsUpperConsequence};
+ghost use Rattle.mcs_classical.specs.Given.{given_names, given_beliefs, with_given, AreConsequencesOf};
 ghost use Rattle.mcs_classical.specs.declared.assumptions.Assumption as declared;
 
 use crate::adding::add_assumed;
 use crate::among::goals_among;
-use crate::assumptions::{Assumption, holding};
+use crate::assumptions::holding;
 use crate::bounds::{Lower, Upper, entailed_with, possible_with};
 use crate::consequence::counterexample_in;
+use crate::given::Given;
+use mcs_asked::Asked;
 use mcs_base::{Active, Memory, Vars};
 use mcs_sat::ClauseBase;
-use mcs_system::{Formula, Name, holds_at};
+use mcs_system::{Formula, holds_at};
 use std::alloc::Global;
 
 /// What is known of the goals: which of them follow, and of which this is open.
@@ -39,10 +41,10 @@ pub struct Consequences {
 }
 
 /// The numbers of the assumptions.
-fn numbers_of(assumptions: &[Assumption<'_>]) -> Active
-    requires { AllByRecursion (λ (a : declared.Assumption). a.number < 64) assumptions.now }
-    ensures { AllByRecursion (λ (a : declared.Assumption). IsTrue (has result a.number)) assumptions.now }
+fn numbers_of(given: &Given<'_>) -> Active
+    ensures { AllByRecursion (λ (a : declared.Assumption). IsTrue (has result a.number)) given.now.assumptions.now }
 {
+    let assumptions = given.assumptions;
     let mut numbers = Active::empty();
     for assumption in assumptions {
         numbers = numbers.with(assumption.number);
@@ -63,52 +65,45 @@ fn places_of(count: usize) -> Vars
     places
 }
 
-/// The places of the goals that hold if exactly the atoms at the places in `values` are true.
-fn goals_holding(goals: &[&Formula], atoms: &[Name], values: Vars) -> Vars
-    requires few { length atoms.now ≤ 64 }
-    requires few_goals { length goals.now ≤ 64 }
-    ensures { result ≡ such_that (length goals.now) (holds_goal (true_names 0 atoms.now values) (map (λ g. formula_of g.now) goals.now)) }
+/// The places of the beliefs that hold if exactly the atoms at the places in `values` are true.
+fn goals_holding(asked: &Asked<'_>, values: Vars) -> Vars
+    ensures { result ≡ such_that (length asked.now.beliefs.now) (holds_goal (true_names 0 asked.now.atoms.now values) (asked_beliefs asked.now)) }
 {
+    let goals = asked.beliefs;
     let mut places = Vars::empty();
     for (place, goal) in goals.iter().enumerate() {
-        if holds_at(atoms, values, goal) {
+        if holds_at(asked.atoms, values, goal) {
             places = places.with(place as u32);
         }
     }
     places
 }
 
-/// Searches whether the goal at the place follows from the formulas whose clauses are `known`. `None` is returned if it
-/// does, and otherwise the places of the goals that hold in the model that was found: no others can follow, and this
-/// goal is none of them. The model is kept as an upper bound.
+/// Searches whether the belief at the place follows from the formulas whose clauses are `known`. `None` is returned if
+/// it does, and otherwise the places of the beliefs that hold in the model that was found: no others can follow, and
+/// this one is none of them. The model is kept as an upper bound.
 fn ask(
     alloc: Global,
     known: &mut ClauseBase,
     upper: &mut Vec<Upper>,
-    assumptions: &[Assumption<'_>],
-    goals: &[&Formula],
-    atoms: &[Name],
+    given: &Given<'_>,
     place: usize,
 ) -> Result<Option<Vars>, Memory>
-    requires few { length atoms.now ≤ 64 }
-    requires few_goals { length goals.now ≤ 64 }
-    requires different { has_twins atoms.now ≡ false }
-    requires numbers { AllByRecursion (λ (a : declared.Assumption). a.number < 64) assumptions.now }
-    requires goals { AreOver atoms.now (map (λ g. formula_of g.now) goals.now) }
-    requires room { length atoms.now ≤ known.old.vars }
-    requires place { place < length goals.now }
+    requires room { length (given_names given.now) ≤ known.old.vars }
+    requires place { place < length given.now.asked.now.beliefs.now }
     ensures kept { known.new ≡ known.old }
-    ensures right { (fs : List plain.Formula) (set : ℕ) → known.old ≡ clause_list atoms.now (with_assumed fs assumptions.now set) → AreOver atoms.now (with_assumed fs assumptions.now set)
-        → AllByRecursion (IsUpperConsequence fs assumptions.now (map (λ g. formula_of g.now) goals.now)) upper.old.items
-        → AllByRecursion (IsUpperConsequence fs assumptions.now (map (λ g. formula_of g.now) goals.now)) upper.new.items }
-    ensures answer { IfOk result (λ answer. (fs : List plain.Formula) → known.old ≡ clause_list atoms.now fs → AreOver atoms.now fs
-        → IsGoalAnswer fs (map (λ g. formula_of g.now) goals.now) place answer) }
+    ensures right { (fs : List plain.Formula) (set : ℕ) → known.old ≡ clause_list (given_names given.now) (with_given fs given.now set) → AreOver (given_names given.now) (with_given fs given.now set)
+        → AllByRecursion (IsUpperConsequence fs given.now.assumptions.now (given_beliefs given.now)) upper.old.items
+        → AllByRecursion (IsUpperConsequence fs given.now.assumptions.now (given_beliefs given.now)) upper.new.items }
+    ensures answer { IfOk result (λ answer. (fs : List plain.Formula) → known.old ≡ clause_list (given_names given.now) fs → AreOver (given_names given.now) fs
+        → IsGoalAnswer fs (given_beliefs given.now) place answer) }
 {
-    match counterexample_in(alloc, known, goals[place], atoms)? {
+    let goals = given.asked.beliefs;
+    match counterexample_in(alloc, known, goals[place], given)? {
         None => Ok(None),
         Some(values) => {
-            let assumed = holding(assumptions, atoms, values);
-            let possible = goals_holding(goals, atoms, values);
+            let assumed = holding(given, values);
+            let possible = goals_holding(given.asked, values);
             upper.push(Upper { assumed, possible })?;
             Ok(Some(possible))
         }
@@ -133,34 +128,28 @@ fn with_answer(told: Told, place: u32, answer: Option<Vars>) -> Told
     }
 }
 
-/// The goals that follow from the formulas whose clauses are `known`: those already known to follow, and those found to
-/// follow by searches. Each model that is found is kept, and decides later goals that are false in it.
+/// The beliefs that follow from the formulas whose clauses are `known`: those already known to follow, and those found to
+/// follow by searches. Each model that is found is kept, and decides later beliefs that are false in it.
 fn ask_left(
     alloc: Global,
     known: &mut ClauseBase,
     upper: &mut Vec<Upper>,
-    assumptions: &[Assumption<'_>],
-    goals: &[&Formula],
-    atoms: &[Name],
+    given: &Given<'_>,
     before: Told,
 ) -> Result<Vars, Memory>
-    requires few { length atoms.now ≤ 64 }
-    requires few_goals { length goals.now ≤ 64 }
-    requires different { has_twins atoms.now ≡ false }
-    requires numbers { AllByRecursion (λ (a : declared.Assumption). a.number < 64) assumptions.now }
-    requires goals { AreOver atoms.now (map (λ g. formula_of g.now) goals.now) }
-    requires room { length atoms.now ≤ known.old.vars }
+    requires { length (given_names given.now) ≤ known.old.vars }
     ensures kept { known.new ≡ known.old }
-    ensures right { (fs : List plain.Formula) (set : ℕ) → known.old ≡ clause_list atoms.now (with_assumed fs assumptions.now set) → AreOver atoms.now (with_assumed fs assumptions.now set)
-        → AllByRecursion (IsUpperConsequence fs assumptions.now (map (λ g. formula_of g.now) goals.now)) upper.old.items
-        → AllByRecursion (IsUpperConsequence fs assumptions.now (map (λ g. formula_of g.now) goals.now)) upper.new.items }
-    ensures exact { IfOk result (λ view. (fs : List plain.Formula) → known.old ≡ clause_list atoms.now fs → AreOver atoms.now fs
-        → AreGoalsTold fs (map (λ g. formula_of g.now) goals.now) 0 before → Shows (Theory fs) (map (λ g. formula_of g.now) goals.now) view) }
+    ensures right { (fs : List plain.Formula) (set : ℕ) → known.old ≡ clause_list (given_names given.now) (with_given fs given.now set) → AreOver (given_names given.now) (with_given fs given.now set)
+        → AllByRecursion (IsUpperConsequence fs given.now.assumptions.now (given_beliefs given.now)) upper.old.items
+        → AllByRecursion (IsUpperConsequence fs given.now.assumptions.now (given_beliefs given.now)) upper.new.items }
+    ensures exact { IfOk result (λ view. (fs : List plain.Formula) → known.old ≡ clause_list (given_names given.now) fs → AreOver (given_names given.now) fs
+        → AreGoalsTold fs (given_beliefs given.now) 0 before → Shows (Theory fs) (given_beliefs given.now) view) }
 {
+    let goals = given.asked.beliefs;
     let mut told = before;
     for place in 0..goals.len() {
         if told.left.has(place as u32) {
-            let answer = ask(alloc, known, upper, assumptions, goals, atoms, place)?;
+            let answer = ask(alloc, known, upper, given, place)?;
             told = with_answer(told, place as u32, answer);
         }
     }
@@ -178,19 +167,18 @@ impl Consequences {
         }
     }
 
-    /// What is found without a search: the goals that are literally among the formulas follow. This is right for these
-    /// formulas and goals, and for all assumptions.
+    /// What is found without a search: the beliefs that are literally among the formulas follow. This is right for these
+    /// formulas and beliefs, and for all assumptions.
     pub fn of(
         alloc: Global,
         formulas: &[Formula],
-        goals: &[&Formula],
+        asked: &Asked<'_>,
     ) -> Result<Consequences, Memory>
-        requires { length goals.now ≤ 64 }
         ensures { IfOk result (λ found. (assumptions : List declared.Assumption)
-            → AreConsequences (map formula_of formulas.now) assumptions (map (λ g. formula_of g.now) goals.now) found) }
+            → AreConsequences (map formula_of formulas.now) assumptions (asked_beliefs asked.now) found) }
     {
         let mut found = Consequences::new(alloc);
-        let entailed = goals_among(formulas, goals);
+        let entailed = goals_among(formulas, asked);
         found.lower.push(Lower {
             assumed: Active::empty(),
             entailed,
@@ -198,21 +186,22 @@ impl Consequences {
         Ok(found)
     }
 
-    /// What is known of a list of `count` goals, with the assumptions in the set.
-    fn told(&self, set: Active, count: usize) -> Told
-        requires { count ≤ 64 }
-        ensures { (fs : List plain.Formula) (assumptions : List declared.Assumption) (goals : List plain.Formula) → length goals ≡ count
-            → AreConsequences fs assumptions goals self.now → AreGoalsTold (with_assumed fs assumptions set) goals 0 result }
+    /// What is known of the beliefs, with the assumptions in the set.
+    fn told(&self, set: Active, asked: &Asked<'_>) -> Told
+        ensures { (fs : List plain.Formula) (assumptions : List declared.Assumption)
+            → AreConsequences fs assumptions (asked_beliefs asked.now) self.now
+            → AreGoalsTold (with_assumed fs assumptions set) (asked_beliefs asked.now) 0 result }
     {
         let entailed = entailed_with(&self.lower, set);
-        let possible = possible_with(&self.upper, set, places_of(count));
+        let all = places_of(asked.beliefs.len());
+        let possible = possible_with(&self.upper, set, all);
         Told {
             entailed,
             left: possible.minus(entailed),
         }
     }
 
-    /// The places, from 0, of the goals that follow from the formulas, whose clauses are `known`, with the assumptions
+    /// The places, from 0, of the beliefs that follow from the formulas, whose clauses are `known`, with the assumptions
     /// in the set. What was found for other sets is used first, and what is found is kept. The clauses of the
     /// assumptions are added for a search and removed again, so that `known` is as before. If memory runs out, what is
     /// kept is still right.
@@ -220,43 +209,25 @@ impl Consequences {
         &mut self,
         alloc: Global,
         known: &mut ClauseBase,
-        assumptions: &[Assumption<'_>],
+        given: &Given<'_>,
         set: Active,
-        goals: &[&Formula],
-        atoms: &[Name],
     ) -> Result<Vars, Memory>
-        requires few { length atoms.now ≤ 64 }
-        requires few_goals { length goals.now ≤ 64 }
-        requires different { has_twins atoms.now ≡ false }
-        requires numbers { AllByRecursion (λ (a : declared.Assumption). a.number < 64) assumptions.now }
-        requires assumptions { AreOver atoms.now (map (λ (a : declared.Assumption). formula_of a.formula.now) assumptions.now) }
-        requires goals { AreOver atoms.now (map (λ g. formula_of g.now) goals.now) }
-        requires room { length atoms.now ≤ known.old.vars }
+        requires { length (given_names given.now) ≤ known.old.vars }
         ensures kept { known.new ≡ known.old }
-        ensures right { (fs : List plain.Formula) → known.old ≡ clause_list atoms.now fs → AreOver atoms.now fs
-            → AreConsequences fs assumptions.now (map (λ g. formula_of g.now) goals.now) self.old
-            → AreConsequences fs assumptions.now (map (λ g. formula_of g.now) goals.now) self.new }
-        ensures exact { IfOk result (λ view. (fs : List plain.Formula) → known.old ≡ clause_list atoms.now fs → AreOver atoms.now fs
-            → AreConsequences fs assumptions.now (map (λ g. formula_of g.now) goals.now) self.old
-            → Shows (Theory (with_assumed fs assumptions.now set)) (map (λ g. formula_of g.now) goals.now) view) }
+        ensures right { (fs : List plain.Formula) → known.old ≡ clause_list (given_names given.now) fs → AreOver (given_names given.now) fs
+            → AreConsequencesOf given.now fs self.old → AreConsequencesOf given.now fs self.new }
+        ensures exact { IfOk result (λ view. (fs : List plain.Formula) → known.old ≡ clause_list (given_names given.now) fs → AreOver (given_names given.now) fs
+            → AreConsequencesOf given.now fs self.old → Shows (Theory (with_given fs given.now set)) (given_beliefs given.now) view) }
     {
-        let assumed = set.common(numbers_of(assumptions));
-        let told = self.told(assumed, goals.len());
+        let assumed = set.common(numbers_of(given));
+        let told = self.told(assumed, given.asked);
         if told.left == Vars::empty() {
             return Ok(told.entailed);
         }
         let vars = known.vars();
         let count = known.count();
-        add_assumed(alloc, known, assumptions, assumed, atoms)?;
-        let found = ask_left(
-            alloc,
-            known,
-            &mut self.upper,
-            assumptions,
-            goals,
-            atoms,
-            told,
-        );
+        add_assumed(alloc, known, given, assumed)?;
+        let found = ask_left(alloc, known, &mut self.upper, given, told);
         known.cut(vars, count);
         let entailed = found?;
         if entailed != told.entailed {

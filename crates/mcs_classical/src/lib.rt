@@ -8,6 +8,7 @@ mod beliefs;
 mod bounds;
 mod consequence;
 mod consequences;
+mod given;
 mod refuting;
 mod satisfying;
 
@@ -16,5 +17,6 @@ pub use assumptions::{Assumption, assumed, holding};
 pub use beliefs::{outputs, outputs_from, outputs_in};
 pub use consequence::{counterexample_in, entails, entails_beside, entails_from, entails_in};
 pub use consequences::Consequences;
+pub use given::Given;
 pub use refuting::true_places;
 pub use satisfying::{Satisfied, satisfy, satisfy_from};

@@ -87,7 +87,3 @@ formula_at fs k = let e : k + 1 ≡ suc k = omega arith in ap (numbered_formula 
 
 pub get_later : (d : Default) (ds : List Default) (i : ℕ) → slice_get (d ∷ ds) (i + 1) ≡ slice_get ds i
 get_later d ds i = let e : i + 1 ≡ suc i = omega arith in ap (slice_get (d ∷ ds)) e
-
--- clauses that are made apart, and then added
-pub formulas_apart : (names : List Name) (fs : List Formula) (known more new : ClauseList) → more ≡ with_formulas names (record { vars = known.vars; clauses = [] }) fs → new ≡ record { vars = more.vars; clauses = known.clauses ++ more.clauses } → new ≡ with_formulas names known fs
-formulas_apart names fs known more new made added = added ∙ ap (λ (m : ClauseList). (let g : ClauseList = record { vars = m.vars; clauses = known.clauses ++ m.clauses } in g)) made

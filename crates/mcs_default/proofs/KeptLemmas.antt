@@ -4,13 +4,13 @@ use Rattle.std.proofs.lemmas.Bool.{and_parts, and_from}
 use Rattle.std.proofs.lemmas.List.Folds.{list_all-append}
 use Rattle.std.specs.List.{AllByRecursion}
 use Rattle.mcs_sets.specs.Sets.{has, Within}
-use Rattle.mcs_base.proofs.Each.{all_append, all_filter, all_left, all_map, all_right, all_weaker}
+use Rattle.mcs_base.proofs.Each.{all_append, all_left, all_right, all_weaker}
 use Rattle.mcs_system.specs.Plain.{Name, Formula, Falsity, Not, Default, Item, Fact}
 use Rattle.mcs_system.specs.Logic.{holds, holds_all, true_names, Entails}
 use Rattle.mcs_system.specs.Seen.{formula_of}
 use Rattle.mcs_system.proofs.Consequence.{each_holds}
 use Rattle.mcs_trace.specs.Clauses.{ClauseList, all_hold}
-use Rattle.mcs_cnf.specs.ClauseLists.{with_formulas, clause_list, IsOver, AreOver}
+use Rattle.mcs_cnf.specs.ClauseLists.{with_formulas, clause_list, AreOver}
 use Rattle.mcs_cnf.proofs.GrowingLemmas.{grown_clauses}
 use Rattle.mcs_cnf.proofs.MeaningLemmas.{extended, satisfied}
 use Rattle.mcs_classical.specs.Assumptions.{assumed, HoldsAt}
@@ -155,11 +155,6 @@ parts_with names items fs ds known new over over' same facts grown = (
 )
 
 -- ---- what is kept
-pub assumed_over : (names : List Name) (set : ℕ) (given : List Assumption) → AllByRecursion (λ (x : Assumption). IsOver names (formula_of x.formula.now)) given → AreOver names (assumed set given)
-assumed_over names set given over =
-    all_map (λ (x : Assumption). formula_of x.formula.now) (λ (x : Assumption). IsOver names (formula_of x.formula.now)) (IsOver names) (λ x h. h) (filter (λ (x : Assumption). has set x.number) given)
-    (all_filter (λ (x : Assumption). IsOver names (formula_of x.formula.now)) (λ (x : Assumption). has set x.number) given over)
-
 pub base_same : (names : List Name) (items : List Item) (given : List Assumption) (b b' : base.TheoryBase) → b'.findings.facts ≡ b.findings.facts → b'.lower ≡ b.lower → b'.upper ≡ b.upper → b'.conflicts ≡ b.conflicts
     → IsTheoryBase names items given b → IsTheoryBase names items given b'
 base_same names items given b b' facts lows ups conflicts is = record {

@@ -4,7 +4,6 @@ pub mod Searches
 pub mod Assignments
 pub mod Keeping
 pub mod Known
-pub mod OneProof
 pub mod SearchProofs
 pub mod Asked
 pub mod Nodes

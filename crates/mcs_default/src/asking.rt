@@ -5,13 +5,14 @@ ghost use Rattle.mcs_system.specs.Plain as plain;
 ghost use Rattle.mcs_system.specs.Seen.{formula_of, default_of};
 ghost use Rattle.mcs_cnf.specs.ClauseLists.{IsOver, AreOver};
 ghost use Rattle.mcs_cnf.specs.Entailments.{entailment_of, says_yes, IsAcceptedEntailment};
+ghost use Rattle.mcs_default.specs.Asked.{theory_names};
 ghost use Rattle.mcs_default.specs.Theories.{AreClausesOf};
 ghost use Rattle.mcs_evidence.specs.Theories.{IsOverDefault};
 ghost use Rattle.mcs_default.specs.Told.{IsToldOfJusts, IsToldOfDefault};
 
-use mcs_asked::Asked;
+use crate::asked::Theory;
 use mcs_base::Memory;
-use mcs_classical::entails_from;
+use mcs_classical::{Given, entails_from};
 use mcs_system::{Default, Formula};
 use mcs_trace::{Cnf, Entail, Outside};
 use std::alloc::Global;
@@ -61,16 +62,20 @@ fn refutes_from(
     alloc: Global,
     known: &mut Cnf,
     formula: &Formula,
-    asked: &Asked<'_>,
+    theory: &Theory<'_>,
 ) -> Result<Entail, Memory>
-    requires over { IsOver asked.now.atoms.now (formula_of formula.now) }
-    requires room { length asked.now.atoms.now ≤ known.old.vars }
+    requires over { IsOver (theory_names theory.now) (formula_of formula.now) }
+    requires room { length (theory_names theory.now) ≤ known.old.vars }
     ensures kept { known.new ≡ known.old }
-    ensures accepted { IfOk result (λ e. (fs : List plain.Formula) → AreClausesOf asked.now.atoms.now fs known.old
-        → IsAcceptedEntailment asked.now.atoms.now fs (plain.Not (formula_of formula.now)) (entailment_of e)) }
+    ensures accepted { IfOk result (λ e. (fs : List plain.Formula) → AreClausesOf (theory_names theory.now) fs known.old
+        → IsAcceptedEntailment (theory_names theory.now) fs (plain.Not (formula_of formula.now)) (entailment_of e)) }
 {
     let goal = Formula::Not(Box::new(alloc, formula.copy(alloc)?)?);
-    let entail = entails_from(alloc, known, &goal, asked.atoms);
+    let given = Given {
+        asked: theory.asked,
+        assumptions: &[],
+    };
+    let entail = entails_from(alloc, known, &goal, &given);
     drop(goal);
     entail
 }
@@ -80,18 +85,18 @@ pub(crate) fn ask_justs(
     alloc: Global,
     known: &mut Cnf,
     justs: &[Formula],
-    asked: &Asked<'_>,
+    theory: &Theory<'_>,
 ) -> Result<Justs, Memory>
-    requires over { AreOver asked.now.atoms.now (map formula_of justs.now) }
-    requires room { length asked.now.atoms.now ≤ known.old.vars }
+    requires over { AreOver (theory_names theory.now) (map formula_of justs.now) }
+    requires room { length (theory_names theory.now) ≤ known.old.vars }
     ensures kept { known.new ≡ known.old }
-    ensures told { IfOk result (λ told. (fs : List plain.Formula) → AreClausesOf asked.now.atoms.now fs known.old
-        → IsToldOfJusts asked.now.atoms.now fs (map formula_of justs.now) told) }
+    ensures told { IfOk result (λ told. (fs : List plain.Formula) → AreClausesOf (theory_names theory.now) fs known.old
+        → IsToldOfJusts (theory_names theory.now) fs (map formula_of justs.now) told) }
 {
     let mut allowed = Vec::new(alloc);
     for (index, just) in justs.iter().enumerate() {
         let number = numbered(index)?;
-        let entail = refutes_from(alloc, known, just, asked)?;
+        let entail = refutes_from(alloc, known, just, theory)?;
         if says_yes(&entail) {
             return Ok(Justs::Blocked(number, entail));
         }
@@ -106,19 +111,23 @@ pub(crate) fn ask_default(
     known: &mut Cnf,
     default: &Default,
     number: u32,
-    asked: &Asked<'_>,
+    theory: &Theory<'_>,
 ) -> Result<Standing, Memory>
-    requires over { IsOverDefault asked.now.atoms.now (default_of default.now) }
-    requires room { length asked.now.atoms.now ≤ known.old.vars }
+    requires over { IsOverDefault (theory_names theory.now) (default_of default.now) }
+    requires room { length (theory_names theory.now) ≤ known.old.vars }
     ensures kept { known.new ≡ known.old }
-    ensures told { IfOk result (λ told. (fs : List plain.Formula) → AreClausesOf asked.now.atoms.now fs known.old
-        → IsToldOfDefault asked.now.atoms.now fs (default_of default.now) number told) }
+    ensures told { IfOk result (λ told. (fs : List plain.Formula) → AreClausesOf (theory_names theory.now) fs known.old
+        → IsToldOfDefault (theory_names theory.now) fs (default_of default.now) number told) }
 {
-    let pre = entails_from(alloc, known, &default.pre, asked.atoms)?;
+    let given = Given {
+        asked: theory.asked,
+        assumptions: &[],
+    };
+    let pre = entails_from(alloc, known, &default.pre, &given)?;
     if !says_yes(&pre) {
         return Ok(Standing::Absent(Outside::Unsupported(number, pre)));
     }
-    match ask_justs(alloc, known, &default.justs, asked) {
+    match ask_justs(alloc, known, &default.justs, theory) {
         Ok(Justs::Allowed(justs)) => Ok(Standing::Applies(pre, justs)),
         Ok(Justs::Blocked(just, entail)) => {
             drop(pre);

@@ -1,17 +1,14 @@
 //! A default theory that is asked with many sets of assumptions.
 
-ghost use Rattle.std.specs.Prelude.{◌≡◌, ◌≤◌, ◌<◌, List, false, length, map, IfOk, OnOk};
-ghost use Rattle.std.specs.List.{AllByRecursion};
+ghost use Rattle.std.specs.Prelude.{◌≡◌, ◌≤◌, ◌<◌, List, length, map, IfOk, OnOk};
 ghost use Rattle.mcs_sets.specs.Orders.{StateBefore};
 ghost use Rattle.mcs_base.specs.Listings.{IsListing};
-ghost use Rattle.mcs_system.specs.Faults.{has_twins};
 ghost use Rattle.mcs_system.specs.Logic.{with_heads};
 ghost use Rattle.mcs_system.specs.Plain.{DefaultTheory};
 ghost use Rattle.mcs_system.specs.Plain as plain;
-ghost use Rattle.mcs_system.specs.Seen.{formula_of, item_of};
+ghost use Rattle.mcs_system.specs.Seen.{item_of};
 ghost use Rattle.mcs_system.specs.Views.{IsAcceptedView};
-ghost use Rattle.mcs_cnf.specs.ClauseLists.{AreOver, IsOver};
-ghost use Rattle.mcs_classical.specs.Assumptions.{assumed};
+ghost use Rattle.mcs_classical.specs.Given.{given_names, given_beliefs, given_with};
 ghost use Rattle.mcs_classical.specs.declared.assumptions.Assumption as declared;
 ghost use Rattle.mcs_evidence.specs.Defaults.{AreOverItems, defaults_of};
 ghost use Rattle.mcs_default.specs.Searches.{AreRightFindings};
@@ -25,8 +22,8 @@ use crate::kept::{
 use crate::listing::list_with;
 use crate::theory::facts_base;
 use mcs_base::{Active, Memory, Vars};
-use mcs_classical::{Assumption, assumed};
-use mcs_system::{Formula, Name, TheoryItem};
+use mcs_classical::{Given, assumed};
+use mcs_system::{Name, TheoryItem};
 use std::alloc::Global;
 
 /// A default theory that is asked for its extensions with one set of assumptions after the other: the clauses of its
@@ -84,26 +81,12 @@ impl TheoryBase {
 
     /// Keeps what was found with this set of assumptions, beside what was selected; where memory runs out, a part of
     /// it.
-    fn keep(
-        &mut self,
-        selected: Selected,
-        assumptions: &[Assumption<'_>],
-        set: Active,
-        atoms: &[Name],
-    ) -> Result<(), Memory>
-        requires few { length atoms.now ≤ 64 }
-        requires numbers { AllByRecursion (λ (a : declared.Assumption). a.number < 64) assumptions.now }
-        ensures { (items : List plain.Item) → IsTheoryBase atoms.now items assumptions.now self.old → AreRightFindings atoms.now (items_with items assumptions.now set) self.old.findings
-            → IsTheoryBase atoms.now items assumptions.now self.new }
+    fn keep(&mut self, selected: Selected, given: &Given<'_>, set: Active) -> Result<(), Memory>
+        ensures { (items : List plain.Item) → IsTheoryBase (given_names given.now) items given.now.assumptions.now self.old → AreRightFindings (given_names given.now) (items_with items given.now.assumptions.now set) self.old.findings
+            → IsTheoryBase (given_names given.now) items given.now.assumptions.now self.new }
     {
         keep_lower(&self.findings.lower, selected.lower, set, &mut self.lower)?;
-        keep_upper(
-            &self.findings.upper,
-            selected.upper,
-            assumptions,
-            atoms,
-            &mut self.upper,
-        )?;
+        keep_upper(&self.findings.upper, selected.upper, given, &mut self.upper)?;
         keep_conflicts(
             &self.findings.conflicts,
             selected.conflicts,
@@ -112,36 +95,27 @@ impl TheoryBase {
         )
     }
 
-    /// The views of the extensions of the theory with some of the assumptions as facts: those whose numbers, all below
-    /// 64, are in the set. The view of an extension is the set of the numbers, from 0, of the beliefs that it has. Each
-    /// view is listed once, in the order of states. All atoms are among these, at most 64; there are at most 64 beliefs
-    /// and 10 defaults. What is found serves for the sets that come later; where memory runs out, what is kept stays
-    /// right.
+    /// The views of the extensions of the theory with some of the assumptions as facts: those whose numbers are in the
+    /// set. The view of an extension is the set of the numbers, from 0, of the beliefs that it has. Each view is listed
+    /// once, in the order of states. There are at most 10 defaults. What is found serves for the sets that come later;
+    /// where memory runs out, what is kept stays right.
     pub fn list_extensions(
         &mut self,
         alloc: Global,
         items: &[TheoryItem],
-        assumptions: &[Assumption<'_>],
+        given: &Given<'_>,
         set: Active,
-        beliefs: &[&Formula],
-        atoms: &[Name],
     ) -> Result<Vec<Vars>, Memory>
-        requires few { length atoms.now ≤ 64 }
-        requires few_beliefs { length beliefs.now ≤ 64 }
         requires few_defaults { length (defaults_of (map item_of items.now)) ≤ 10 }
-        requires different { has_twins atoms.now ≡ false }
-        requires items { AreOverItems atoms.now (map item_of items.now) }
-        requires numbers { AllByRecursion (λ (a : declared.Assumption). a.number < 64) assumptions.now }
-        requires assumptions { AllByRecursion (λ (a : declared.Assumption). IsOver atoms.now (formula_of a.formula.now)) assumptions.now }
-        requires beliefs { AreOver atoms.now (map (λ b. formula_of b.now) beliefs.now) }
-        requires base { IsTheoryBase atoms.now (map item_of items.now) assumptions.now self.old }
-        ensures base { IsTheoryBase atoms.now (map item_of items.now) assumptions.now self.new }
-        ensures exact { IfOk result (λ views. IsListing (IsAcceptedView (with_heads (DefaultTheory (map item_of items.now)) (assumed set assumptions.now)) (map (λ b. formula_of b.now) beliefs.now)) StateBefore views.items) }
+        requires items { AreOverItems (given_names given.now) (map item_of items.now) }
+        requires base { IsTheoryBase (given_names given.now) (map item_of items.now) given.now.assumptions.now self.old }
+        ensures base { IsTheoryBase (given_names given.now) (map item_of items.now) given.now.assumptions.now self.new }
+        ensures exact { IfOk result (λ views. IsListing (IsAcceptedView (with_heads (DefaultTheory (map item_of items.now)) (given_with given.now set)) (given_beliefs given.now)) StateBefore views.items) }
     {
-        let heads = assumed(alloc, assumptions, set)?;
+        let heads = assumed(alloc, given.assumptions, set)?;
         let selected = self.select(set)?;
-        let views = list_with(alloc, &mut self.findings, items, &heads, beliefs, atoms)?;
-        self.keep(selected, assumptions, set, atoms)?;
+        let views = list_with(alloc, &mut self.findings, items, &heads, given)?;
+        self.keep(selected, given, set)?;
         Ok(views)
     }
 }

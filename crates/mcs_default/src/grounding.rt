@@ -12,7 +12,7 @@ ghost use Rattle.mcs_default.specs.Told.{IsToldNext, IsNextInRange, IsToldOfOrde
 use crate::asked::Theory;
 use crate::asking::says_yes;
 use mcs_base::{Memory, Vars};
-use mcs_classical::entails_from;
+use mcs_classical::{Given, entails_from};
 use mcs_cnf::push_formula;
 use mcs_trace::{Cnf, Entail};
 use std::alloc::Global;
@@ -72,10 +72,14 @@ fn ask_next(alloc: Global, known: &mut Cnf, theory: &Theory<'_>, left: Vars) -> 
     ensures in_range { IfOk result (IsNextInRange (length theory.now.defaults.now) left) }
 {
     let defaults = theory.defaults;
+    let given = Given {
+        asked: theory.asked,
+        assumptions: &[],
+    };
     let mut denied = Vec::new(alloc);
     for (index, default) in defaults.iter().enumerate() {
         if left.has(index as u32) {
-            let pre = entails_from(alloc, known, &default.pre, theory.asked.atoms)?;
+            let pre = entails_from(alloc, known, &default.pre, &given)?;
             if says_yes(&pre) {
                 return Ok(Next::Supported(index as u32, pre));
             }

@@ -38,7 +38,7 @@ fn ask_inside(
     let mut allowed = Vec::new(alloc);
     for (index, default) in defaults.iter().enumerate() {
         if set.has(index as u32) {
-            match ask_justs(alloc, known, &default.justs, theory.asked)? {
+            match ask_justs(alloc, known, &default.justs, theory)? {
                 Justs::Allowed(mut justs) => allowed.append(&mut justs)?,
                 Justs::Blocked(just, entail) => {
                     let number = index as u32 + 1;

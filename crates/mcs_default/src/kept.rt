@@ -1,17 +1,16 @@
 //! What was found with one set of assumptions, for use with others.
 
-ghost use Rattle.std.specs.Prelude.{◌≡◌, ◌≤◌, ◌<◌, ℕ, List, length, map, OnOk};
+ghost use Rattle.std.specs.Prelude.{◌<◌, ℕ, List, OnOk};
 ghost use Rattle.std.specs.List.{AllByRecursion};
 ghost use Rattle.mcs_system.specs.Plain as plain;
-ghost use Rattle.mcs_system.specs.Seen.{formula_of};
+ghost use Rattle.mcs_classical.specs.Given.{given_names};
 ghost use Rattle.mcs_classical.specs.declared.assumptions.Assumption as declared;
 ghost use Rattle.mcs_default.specs.Searches.{IsLower, IsUpper, IsConflict};
 ghost use Rattle.mcs_default.specs.Keeping.{items_with, IsKeptLower, IsKeptUpper, IsKeptConflict};
 
 use crate::findings::{Lower, Upper};
 use mcs_base::{Active, Memory, Vars};
-use mcs_classical::{Assumption, holding};
-use mcs_system::Name;
+use mcs_classical::{Given, holding};
 
 /// What was found with a set of assumptions, and so with each larger one.
 #[derive(Clone, Copy)]
@@ -112,19 +111,16 @@ pub(crate) fn keep_lower(
 pub(crate) fn keep_upper(
     upper: &[Upper],
     from: usize,
-    assumptions: &[Assumption<'_>],
-    atoms: &[Name],
+    given: &Given<'_>,
     kept: &mut Vec<KeptUpper>,
 ) -> Result<(), Memory>
-    requires few { length atoms.now ≤ 64 }
-    requires numbers { AllByRecursion (λ (a : declared.Assumption). a.number < 64) assumptions.now }
-    ensures { (items : List plain.Item) (set : ℕ) → AllByRecursion (IsUpper atoms.now (items_with items assumptions.now set)) upper.now
-        → AllByRecursion (IsKeptUpper atoms.now items assumptions.now) kept.old.items → AllByRecursion (IsKeptUpper atoms.now items assumptions.now) kept.new.items }
+    ensures { (items : List plain.Item) (set : ℕ) → AllByRecursion (IsUpper (given_names given.now) (items_with items given.now.assumptions.now set)) upper.now
+        → AllByRecursion (IsKeptUpper (given_names given.now) items given.now.assumptions.now) kept.old.items → AllByRecursion (IsKeptUpper (given_names given.now) items given.now.assumptions.now) kept.new.items }
 {
     for index in from..upper.len() {
         let found = upper[index];
         kept.push(KeptUpper {
-            assumed: holding(assumptions, atoms, found.values),
+            assumed: holding(given, found.values),
             upper: found,
         })?;
     }

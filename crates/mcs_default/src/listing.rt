@@ -10,6 +10,7 @@ ghost use Rattle.mcs_system.specs.Plain as plain;
 ghost use Rattle.mcs_system.specs.Seen.{formula_of, item_of};
 ghost use Rattle.mcs_system.specs.Views.{IsAcceptedView};
 ghost use Rattle.mcs_cnf.specs.ClauseLists.{AreOver, clause_list};
+ghost use Rattle.mcs_classical.specs.Given.{given_names, given_beliefs};
 ghost use Rattle.mcs_evidence.specs.Defaults.{AreOverItems, IsAcceptedDefault, facts_of, defaults_of, verdicts_of};
 ghost use Rattle.mcs_default.specs.Asked.{theory_names, theory_beliefs, theory_defaults, AreItemsOf, IsSameTheory, IsSearchOf};
 ghost use Rattle.mcs_default.specs.Searches.{CanBeAsked, AreRightFindings};
@@ -20,10 +21,11 @@ use crate::findings::Findings;
 use crate::known::{Node, known_of};
 use crate::search::add_views;
 use crate::searching::Search;
-use crate::theory::{append_formulas, facts};
+use crate::theory::facts;
 use crate::verdict::judge;
 use mcs_asked::Asked;
 use mcs_base::{Memory, Vars, list_states};
+use mcs_classical::{Given, add_formulas};
 use mcs_evidence::defaults_of;
 use mcs_system::{Formula, Name, TheoryItem};
 use mcs_trace::{Cnf, DefaultCert};
@@ -136,30 +138,36 @@ pub fn extensions(
 {
     let lent_added: Vec<&Formula> = added.iter().collect(alloc)?;
     let lent_beliefs: Vec<&Formula> = beliefs.iter().collect(alloc)?;
-    extensions_from(alloc, items, &lent_added, &lent_beliefs, atoms)
+    let asked = Asked {
+        atoms,
+        beliefs: &lent_beliefs,
+    };
+    let given = Given {
+        asked: &asked,
+        assumptions: &[],
+    };
+    extensions_from(alloc, items, &lent_added, &given)
 }
 
-/// The same where the added facts and the beliefs are lent one by one.
+/// The same where the added facts and the beliefs are lent one by one. What may be assumed plays no part.
 pub fn extensions_from(
     alloc: Global,
     items: &[TheoryItem],
     added: &[&Formula],
-    beliefs: &[&Formula],
-    atoms: &[Name],
+    given: &Given<'_>,
 ) -> Result<(Vec<Vars>, DefaultCert), Memory>
-    requires few { length atoms.now ≤ 64 }
-    requires few_beliefs { length beliefs.now ≤ 64 }
     requires few_defaults { length (defaults_of (map item_of items.now)) ≤ 10 }
-    requires different { has_twins atoms.now ≡ false }
-    requires items { AreOverItems atoms.now (map item_of items.now) }
-    requires added { AreOver atoms.now (map (λ f. formula_of f.now) added.now) }
-    requires beliefs { AreOver atoms.now (map (λ b. formula_of b.now) beliefs.now) }
-    ensures exact { IfOk result (λ r. IsListing (IsAcceptedView (with_heads (DefaultTheory (map item_of items.now)) (map (λ f. formula_of f.now) added.now)) (map (λ b. formula_of b.now) beliefs.now)) StateBefore r.0.items) }
-    ensures accepted { IfOk result (λ r. IsAcceptedDefault atoms.now (map item_of items.now ++ map Fact (map (λ f. formula_of f.now) added.now)) (map (λ b. formula_of b.now) beliefs.now) r.0.items (verdicts_of r.1)) }
+    requires items { AreOverItems (given_names given.now) (map item_of items.now) }
+    requires added { AreOver (given_names given.now) (map (λ f. formula_of f.now) added.now) }
+    ensures exact { IfOk result (λ r. IsListing (IsAcceptedView (with_heads (DefaultTheory (map item_of items.now)) (map (λ f. formula_of f.now) added.now)) (given_beliefs given.now)) StateBefore r.0.items) }
+    ensures accepted { IfOk result (λ r. IsAcceptedDefault (given_names given.now) (map item_of items.now ++ map Fact (map (λ f. formula_of f.now) added.now)) (given_beliefs given.now) r.0.items (verdicts_of r.1)) }
 {
     let defaults = defaults_of(alloc, items)?;
-    let mut known = facts(alloc, items, added, atoms)?;
-    let asked = Asked { atoms, beliefs };
+    let mut known = facts(alloc, items, added, given.asked.atoms)?;
+    let asked = Asked {
+        atoms: given.asked.atoms,
+        beliefs: given.asked.beliefs,
+    };
     let theory = Theory {
         asked: &asked,
         defaults: &defaults,
@@ -174,27 +182,25 @@ pub(crate) fn list_with(
     findings: &mut Findings,
     items: &[TheoryItem],
     added: &[&Formula],
-    beliefs: &[&Formula],
-    atoms: &[Name],
+    given: &Given<'_>,
 ) -> Result<Vec<Vars>, Memory>
-    requires few { length atoms.now ≤ 64 }
-    requires few_beliefs { length beliefs.now ≤ 64 }
     requires few_defaults { length (defaults_of (map item_of items.now)) ≤ 10 }
-    requires different { has_twins atoms.now ≡ false }
-    requires items { AreOverItems atoms.now (map item_of items.now) }
-    requires added { AreOver atoms.now (map (λ f. formula_of f.now) added.now) }
-    requires beliefs { AreOver atoms.now (map (λ b. formula_of b.now) beliefs.now) }
-    requires facts { findings.old.facts ≡ clause_list atoms.now (facts_of (map item_of items.now)) }
-    requires right { AreRightFindings atoms.now (map item_of items.now ++ map Fact (map (λ f. formula_of f.now) added.now)) findings.old }
+    requires items { AreOverItems (given_names given.now) (map item_of items.now) }
+    requires added { AreOver (given_names given.now) (map (λ f. formula_of f.now) added.now) }
+    requires facts { findings.old.facts ≡ clause_list (given_names given.now) (facts_of (map item_of items.now)) }
+    requires right { AreRightFindings (given_names given.now) (map item_of items.now ++ map Fact (map (λ f. formula_of f.now) added.now)) findings.old }
     ensures kept { findings.new.facts ≡ findings.old.facts }
-    ensures right { OnOk result (AreRightFindings atoms.now (map item_of items.now ++ map Fact (map (λ f. formula_of f.now) added.now)) findings.new) }
-    ensures exact { IfOk result (λ views. IsListing (IsAcceptedView (with_heads (DefaultTheory (map item_of items.now)) (map (λ f. formula_of f.now) added.now)) (map (λ b. formula_of b.now) beliefs.now)) StateBefore views.items) }
+    ensures right { OnOk result (AreRightFindings (given_names given.now) (map item_of items.now ++ map Fact (map (λ f. formula_of f.now) added.now)) findings.new) }
+    ensures exact { IfOk result (λ views. IsListing (IsAcceptedView (with_heads (DefaultTheory (map item_of items.now)) (map (λ f. formula_of f.now) added.now)) (given_beliefs given.now)) StateBefore views.items) }
 {
     let defaults = defaults_of(alloc, items)?;
     let vars = findings.facts.vars();
     let count = findings.facts.count();
-    append_formulas(alloc, &mut findings.facts, added, atoms)?;
-    let asked = Asked { atoms, beliefs };
+    add_formulas(alloc, &mut findings.facts, added, given.asked.atoms)?;
+    let asked = Asked {
+        atoms: given.asked.atoms,
+        beliefs: given.asked.beliefs,
+    };
     let theory = Theory {
         asked: &asked,
         defaults: &defaults,

@@ -10,7 +10,7 @@ use crate::asked::Theory;
 use crate::asking::{Standing, ask_default};
 use crate::theory::push_consequents;
 use mcs_base::{Memory, Vars};
-use mcs_classical::outputs_from;
+use mcs_classical::{Given, outputs_from};
 use mcs_trace::{Cnf, Entail, Outside};
 use std::alloc::Global;
 
@@ -49,7 +49,7 @@ fn ask_outside(
     for (index, default) in defaults.iter().enumerate() {
         if !set.has(index as u32) {
             let number = index as u32 + 1;
-            match ask_default(alloc, known, default, number, theory.asked)? {
+            match ask_default(alloc, known, default, number, theory)? {
                 Standing::Absent(absence) => absent.push(absence)?,
                 Standing::Applies(pre, justs) => return Ok(Others::Applied(number, pre, justs)),
             }
@@ -65,14 +65,13 @@ fn ask_rest(alloc: Global, known: &mut Cnf, theory: &Theory<'_>, set: Vars) -> R
     ensures told { IfOk result (λ told. (fs : List plain.Formula) → AreClausesOf (theory_names theory.now) fs known.old
         → IsToldOfRest (theory_names theory.now) fs (theory_defaults theory.now) (theory_beliefs theory.now) set told) }
 {
+    let given = Given {
+        asked: theory.asked,
+        assumptions: &[],
+    };
     match ask_outside(alloc, known, theory, set)? {
         Others::Applied(number, pre, justs) => Ok(Rest::Applied(number, pre, justs)),
-        Others::Absent(absent) => match outputs_from(
-            alloc,
-            known,
-            theory.asked.beliefs,
-            theory.asked.atoms,
-        ) {
+        Others::Absent(absent) => match outputs_from(alloc, known, &given) {
             Ok((view, shown)) => Ok(Rest::Complete(absent, view, shown.entails)),
             Err(want) => {
                 drop(absent);

@@ -22,7 +22,7 @@ use crate::models::upper_at;
 use crate::searching::Search;
 use crate::theory::append_consequents;
 use mcs_base::{Memory, Vars};
-use mcs_classical::counterexample_in;
+use mcs_classical::{Given, counterexample_in};
 use mcs_sat::ClauseBase;
 use mcs_system::{Formula, same_formula};
 use std::alloc::Global;
@@ -45,7 +45,11 @@ fn counterexample(
     let vars = known.vars();
     let count = known.count();
     append_consequents(alloc, known, theory, set)?;
-    let found = counterexample_in(alloc, known, goal, theory.asked.atoms);
+    let given = Given {
+        asked: theory.asked,
+        assumptions: &[],
+    };
+    let found = counterexample_in(alloc, known, goal, &given);
     known.cut(vars, count);
     found
 }

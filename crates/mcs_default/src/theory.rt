@@ -90,25 +90,6 @@ pub(crate) fn append_consequents(
     added
 }
 
-/// Adds the clauses of the formulas to clauses that are ready for searches. Where memory runs out, these are as before.
-pub(crate) fn append_formulas(
-    alloc: Global,
-    known: &mut ClauseBase,
-    formulas: &[&Formula],
-    atoms: &[Name],
-) -> Result<(), Memory>
-    requires over { AreOver atoms.now (map (λ f. formula_of f.now) formulas.now) }
-    requires room { length atoms.now ≤ known.old.vars }
-    ensures ok { OnOk result (known.new ≡ with_formulas atoms.now known.old (map (λ f. formula_of f.now) formulas.now)) }
-    ensures err { OnErr result (known.new ≡ known.old) }
-{
-    let mut more = Cnf::new(alloc, known.vars());
-    push_all(alloc, &mut more, formulas, atoms)?;
-    let added = known.append(&more);
-    drop(more);
-    added
-}
-
 /// The clauses of the facts among the items, ready for many searches.
 pub(crate) fn facts_base(
     alloc: Global,

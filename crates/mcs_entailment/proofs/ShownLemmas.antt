@@ -12,7 +12,8 @@ use Rattle.mcs_base.proofs.Mapped.{slice_get-map_read}
 use Rattle.mcs_system.specs.Plain.{Name, Formula}
 use Rattle.mcs_trace.specs.declared.certificate.Entail.{Entail}
 use Rattle.mcs_cnf.specs.Classical.{HasYes}
-use Rattle.mcs_cnf.specs.Entailments.{entailment_of, says_yes, IsModelAt, IsRefuted}
+use Rattle.mcs_cnf.specs.Entailments.{Entailment, Yes, No, entailment_of, says_yes, IsAcceptedEntailment, IsModelAt, IsRefuted}
+use Rattle.mcs_evidence.specs.Defaults.{IsEntailmentShown, IsDenied}
 
 said_at : (es : List Entail) (i : ℕ) (e : Entail) (b : Bool) → i < length es → e ≡ get_or es i e → says_yes (entailment_of e) ≡ b → slice_get (map says_yes (map entailment_of es)) i ≡ Some b
 said_at es i e b less is said = slice_get-map_some says_yes (map entailment_of es) i (entailment_of e) (slice_get-map_read entailment_of es i e less is) ∙ some said
@@ -52,3 +53,8 @@ refuted_iff names fs g places values b is told model = (
     at : (b : Bool) → not b ≡ true → b ≡ false
     at true h = sym h
     at false h = refl
+
+-- what is accepted shows that the goal follows or that it does not
+pub unless_told : (names : List Name) (fs : List Formula) (g : Formula) (e : Entailment) → ¬ IsDenied names fs g e → ¬ IsEntailmentShown names fs g e → ¬ IsAcceptedEntailment names fs g e
+unless_told names fs g (Yes steps) not_denied not_shown h = not_shown (h, refl)
+unless_told names fs g (No places) not_denied not_shown h = not_denied (h, refl)

@@ -1,14 +1,16 @@
 //! Certificates of classical contexts.
 
-ghost use Rattle.std.specs.Prelude.{◌≡◌, ℕ, [], ◌∷◌, ◌≤◌, ◌++◌, List, length, map, IfOk, MatchOption};
+ghost use Rattle.std.specs.Prelude.{◌≡◌, ℕ, [], ◌∷◌, ◌++◌, List, map, IfOk, MatchOption};
 ghost use Rattle.mcs_system.specs.Seen.{formula_of};
+ghost use Rattle.mcs_asked.specs.Questions.{asked_beliefs};
 ghost use Rattle.mcs_cnf.specs.ClauseLists.{AreOver};
 ghost use Rattle.mcs_cnf.specs.Classical.{IsAcceptedClassical, certificate_of};
 
 use crate::entailment::shown_places;
 use crate::premises::{clauses_of, formulas_with};
+use mcs_asked::Asked;
 use mcs_base::{Memory, Vars};
-use mcs_system::{Formula, Name};
+use mcs_system::Formula;
 use mcs_trace::ClassicalCert;
 use std::alloc::Global;
 
@@ -26,22 +28,18 @@ pub fn classical_views(
     alloc: Global,
     formulas: &[Formula],
     heads: &[&Formula],
-    beliefs: &[&Formula],
-    atoms: &[Name],
+    asked: &Asked<'_>,
     cert: &ClassicalCert,
 ) -> Result<Option<Vec<Vars>>, Memory>
-    requires few { length atoms.now ≤ 64 }
-    requires few_beliefs { length beliefs.now ≤ 64 }
-    requires formulas { AreOver atoms.now (map formula_of formulas.now) }
-    requires heads { AreOver atoms.now (map (λ f. formula_of f.now) heads.now) }
-    requires beliefs { AreOver atoms.now (map (λ f. formula_of f.now) beliefs.now) }
+    requires formulas { AreOver asked.now.atoms.now (map formula_of formulas.now) }
+    requires heads { AreOver asked.now.atoms.now (map (λ f. formula_of f.now) heads.now) }
     ensures { IfOk result (λ shown. MatchOption shown
-        ((views : List ℕ) → ¬ IsAcceptedClassical atoms.now (map formula_of formulas.now ++ map (λ f. formula_of f.now) heads.now) (map (λ f. formula_of f.now) beliefs.now) views (certificate_of cert.now))
-        (λ views. IsAcceptedClassical atoms.now (map formula_of formulas.now ++ map (λ f. formula_of f.now) heads.now) (map (λ f. formula_of f.now) beliefs.now) views.items (certificate_of cert.now))) }
+        ((views : List ℕ) → ¬ IsAcceptedClassical asked.now.atoms.now (map formula_of formulas.now ++ map (λ f. formula_of f.now) heads.now) (asked_beliefs asked.now) views (certificate_of cert.now))
+        (λ views. IsAcceptedClassical asked.now.atoms.now (map formula_of formulas.now ++ map (λ f. formula_of f.now) heads.now) (asked_beliefs asked.now) views.items (certificate_of cert.now))) }
 {
     let premises = formulas_with(alloc, formulas, heads)?;
-    let mut known = clauses_of(alloc, &premises, atoms)?;
-    let shown = shown_places(alloc, &mut known, &premises, beliefs, atoms, &cert.entails)?;
+    let mut known = clauses_of(alloc, asked, &premises)?;
+    let shown = shown_places(alloc, &mut known, asked, &premises, &cert.entails)?;
     let Some(view) = shown else {
         return Ok(None);
     };

@@ -7,13 +7,14 @@ ghost use Rattle.mcs_system.specs.Logic.{holds_all, true_names};
 ghost use Rattle.mcs_system.specs.Plain as plain;
 ghost use Rattle.mcs_system.specs.Seen.{formula_of};
 ghost use Rattle.mcs_trace.specs.Traces.{inferences_of};
-ghost use Rattle.mcs_cnf.specs.ClauseLists.{clause_list, IsOver, AreOver};
+ghost use Rattle.mcs_cnf.specs.ClauseLists.{clause_list, IsOver};
 ghost use Rattle.mcs_cnf.specs.Classical.{HasYes, AreShown};
 ghost use Rattle.mcs_cnf.specs.Entailments.{Yes, entailment_of, says_yes, IsAcceptedEntailment, IsModelAt, IsRefuted};
 ghost use Rattle.mcs_evidence.specs.Defaults.{IsEntailmentShown, IsDenied, AreDenied};
 ghost use Rattle.mcs_evidence.specs.Programs.{IsInRange};
-ghost use Rattle.mcs_cnf.specs.Classical.{AreAcceptedEntailments};
+ghost use Rattle.mcs_asked.specs.Questions.{asked_beliefs};
 
+use mcs_asked::Asked;
 use mcs_base::{Memory, Vars};
 use mcs_cnf::{model_shown, push_negation};
 use mcs_system::{Formula, Name, holds_at};
@@ -60,37 +61,35 @@ fn hold_at(atoms: &[Name], values: Vars, formulas: &[&Formula]) -> bool
 
 /// Whether the places are those of atoms, and the formulas hold if exactly these are true. `model` may be such a set
 /// that was found before.
-fn is_model_at(atoms: &[Name], premises: &[&Formula], places: u64, model: &Option<Vars>) -> bool
-    requires few { length atoms.now ≤ 64 }
-    requires known { IfSome model.now (IsModelAt atoms.now (map (λ f. formula_of f.now) premises.now)) }
-    ensures { IsTrue result ↔ IsModelAt atoms.now (map (λ f. formula_of f.now) premises.now) places }
+fn is_model_at(asked: &Asked<'_>, premises: &[&Formula], places: u64, model: &Option<Vars>) -> bool
+    requires known { IfSome model.now (IsModelAt asked.now.atoms.now (map (λ f. formula_of f.now) premises.now)) }
+    ensures { IsTrue result ↔ IsModelAt asked.now.atoms.now (map (λ f. formula_of f.now) premises.now) places }
 {
     let values = Vars::numbered(places);
     if *model == Some(values) {
         return true;
     }
-    if !is_in_range(atoms, places) {
+    if !is_in_range(asked.atoms, places) {
         return false;
     }
-    hold_at(atoms, values, premises)
+    hold_at(asked.atoms, values, premises)
 }
 
 /// Whether the formulas hold and the goal does not, if exactly the atoms at these places are true.
 fn is_refuted_at(
-    atoms: &[Name],
+    asked: &Asked<'_>,
     premises: &[&Formula],
     goal: &Formula,
     places: u64,
     model: &Option<Vars>,
 ) -> bool
-    requires few { length atoms.now ≤ 64 }
-    requires known { IfSome model.now (IsModelAt atoms.now (map (λ f. formula_of f.now) premises.now)) }
-    ensures { IsTrue result ↔ IsRefuted atoms.now (map (λ f. formula_of f.now) premises.now) (formula_of goal.now) places }
+    requires known { IfSome model.now (IsModelAt asked.now.atoms.now (map (λ f. formula_of f.now) premises.now)) }
+    ensures { IsTrue result ↔ IsRefuted asked.now.atoms.now (map (λ f. formula_of f.now) premises.now) (formula_of goal.now) places }
 {
-    if !is_model_at(atoms, premises, places, model) {
+    if !is_model_at(asked, premises, places, model) {
         return false;
     }
-    !holds_at(atoms, Vars::numbered(places), goal)
+    !holds_at(asked.atoms, Vars::numbered(places), goal)
 }
 
 /// Whether it is shown that the goal follows from the formulas whose clauses are `known`.
@@ -115,26 +114,29 @@ pub fn shows(
 
 /// Whether it is shown that the goal does not follow from the formulas. `model` may be a known model of these.
 pub fn denies(
-    atoms: &[Name],
+    asked: &Asked<'_>,
     premises: &[&Formula],
     goal: &Formula,
     entail: &Entail,
     model: &Option<Vars>,
 ) -> bool
-    requires few { length atoms.now ≤ 64 }
-    requires known { IfSome model.now (IsModelAt atoms.now (map (λ f. formula_of f.now) premises.now)) }
-    ensures { IsTrue result ↔ IsDenied atoms.now (map (λ f. formula_of f.now) premises.now) (formula_of goal.now) (entailment_of entail.now) }
+    requires known { IfSome model.now (IsModelAt asked.now.atoms.now (map (λ f. formula_of f.now) premises.now)) }
+    ensures { IsTrue result ↔ IsDenied asked.now.atoms.now (map (λ f. formula_of f.now) premises.now) (formula_of goal.now) (entailment_of entail.now) }
 {
     match entail {
         Entail::Yes(_) => false,
-        Entail::No(places) => is_refuted_at(atoms, premises, goal, *places, model),
+        Entail::No(places) => is_refuted_at(asked, premises, goal, *places, model),
     }
 }
 
 /// Whether it is shown, for each of the goals in order, that it does not follow.
-pub fn deny(atoms: &[Name], premises: &[&Formula], goals: &[&Formula], entails: &[Entail]) -> bool
-    requires few { length atoms.now ≤ 64 }
-    ensures { IsTrue result ↔ AreDenied atoms.now (map (λ f. formula_of f.now) premises.now) (map (λ f. formula_of f.now) goals.now) (map entailment_of entails.now) }
+pub fn deny(
+    asked: &Asked<'_>,
+    premises: &[&Formula],
+    goals: &[&Formula],
+    entails: &[Entail],
+) -> bool
+    ensures { IsTrue result ↔ AreDenied asked.now.atoms.now (map (λ f. formula_of f.now) premises.now) (map (λ f. formula_of f.now) goals.now) (map entailment_of entails.now) }
 {
     if goals.len() != entails.len() {
         return false;
@@ -142,68 +144,12 @@ pub fn deny(atoms: &[Name], premises: &[&Formula], goals: &[&Formula], entails: 
     let mut model = None;
     for (index, goal) in goals.iter().enumerate() {
         let entail = &entails[index];
-        if !denies(atoms, premises, goal, entail, &model) {
+        if !denies(asked, premises, goal, entail, &model) {
             return false;
         }
         model = model_shown(model, entail);
     }
     true
-}
-
-/// Whether the claim about the goal is shown, be it that it follows from the formulas or that it does not. `model` may
-/// be a known model of the formulas.
-fn tells(
-    alloc: Global,
-    known: &mut Cnf,
-    premises: &[&Formula],
-    goal: &Formula,
-    atoms: &[Name],
-    entail: &Entail,
-    model: &Option<Vars>,
-) -> Result<bool, Memory>
-    requires few { length atoms.now ≤ 64 }
-    requires model { IfSome model.now (IsModelAt atoms.now (map (λ f. formula_of f.now) premises.now)) }
-    requires goal { IsOver atoms.now (formula_of goal.now) }
-    requires made { known.old ≡ clause_list atoms.now (map (λ f. formula_of f.now) premises.now) }
-    ensures kept { known.new ≡ known.old }
-    ensures exact { IfOk result (λ yes. IsTrue yes
-        ↔ IsAcceptedEntailment atoms.now (map (λ f. formula_of f.now) premises.now) (formula_of goal.now) (entailment_of entail.now)) }
-{
-    match entail {
-        Entail::Yes(trace) => is_refuted_by(alloc, known, goal, atoms, trace),
-        Entail::No(places) => Ok(is_refuted_at(atoms, premises, goal, *places, model)),
-    }
-}
-
-/// Whether the claim about each of the goals, in order, is shown.
-fn tell(
-    alloc: Global,
-    known: &mut Cnf,
-    premises: &[&Formula],
-    goals: &[&Formula],
-    atoms: &[Name],
-    entails: &[Entail],
-) -> Result<bool, Memory>
-    requires few { length atoms.now ≤ 64 }
-    requires goals { AreOver atoms.now (map (λ f. formula_of f.now) goals.now) }
-    requires made { known.old ≡ clause_list atoms.now (map (λ f. formula_of f.now) premises.now) }
-    ensures kept { known.new ≡ known.old }
-    ensures exact { IfOk result (λ yes. IsTrue yes
-        ↔ AreAcceptedEntailments atoms.now (map (λ f. formula_of f.now) premises.now) (map (λ f. formula_of f.now) goals.now) (map entailment_of entails.now)) }
-{
-    if goals.len() != entails.len() {
-        return Ok(false);
-    }
-    let mut model = None;
-    for (index, goal) in goals.iter().enumerate() {
-        let entail = &entails[index];
-        let told = tells(alloc, known, premises, goal, atoms, entail, &model)?;
-        if !told {
-            return Ok(false);
-        }
-        model = model_shown(model, entail);
-    }
-    Ok(true)
 }
 
 /// Whether the entailment is a `yes`.
@@ -230,30 +176,34 @@ fn places_with_yes(entails: &[Entail]) -> Vars
     places
 }
 
-/// The places of the beliefs that follow from the formulas, if the claim about each belief is shown.
+/// The places of the beliefs that follow from the formulas, whose clauses are `known`, if it is shown of each belief that
+/// it does or that it does not.
 pub fn shown_places(
     alloc: Global,
     known: &mut Cnf,
+    asked: &Asked<'_>,
     premises: &[&Formula],
-    beliefs: &[&Formula],
-    atoms: &[Name],
     entails: &[Entail],
 ) -> Result<Option<Vars>, Memory>
-    requires few { length atoms.now ≤ 64 }
-    requires few_beliefs { length beliefs.now ≤ 64 }
-    requires beliefs { AreOver atoms.now (map (λ f. formula_of f.now) beliefs.now) }
-    requires made { known.old ≡ clause_list atoms.now (map (λ f. formula_of f.now) premises.now) }
+    requires made { known.old ≡ clause_list asked.now.atoms.now (map (λ f. formula_of f.now) premises.now) }
     ensures kept { known.new ≡ known.old }
     ensures exact { IfOk result (λ view. MatchOption view
-        ((places : ℕ) → ¬ AreShown atoms.now (map (λ f. formula_of f.now) premises.now) (map (λ f. formula_of f.now) beliefs.now) places (map entailment_of entails.now))
-        (λ places. AreShown atoms.now (map (λ f. formula_of f.now) premises.now) (map (λ f. formula_of f.now) beliefs.now) places (map entailment_of entails.now))) }
+        ((places : ℕ) → ¬ AreShown asked.now.atoms.now (map (λ f. formula_of f.now) premises.now) (asked_beliefs asked.now) places (map entailment_of entails.now))
+        (λ places. AreShown asked.now.atoms.now (map (λ f. formula_of f.now) premises.now) (asked_beliefs asked.now) places (map entailment_of entails.now))) }
 {
+    let beliefs = asked.beliefs;
     if entails.len() != beliefs.len() {
         return Ok(None);
     }
-    let told = tell(alloc, known, premises, beliefs, atoms, entails)?;
-    if !told {
-        return Ok(None);
+    let mut model = None;
+    for (index, belief) in beliefs.iter().enumerate() {
+        let entail = &entails[index];
+        if !denies(asked, premises, belief, entail, &model)
+            && !shows(alloc, known, belief, asked.atoms, entail)?
+        {
+            return Ok(None);
+        }
+        model = model_shown(model, entail);
     }
     Ok(Some(places_with_yes(entails)))
 }

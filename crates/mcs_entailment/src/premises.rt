@@ -1,23 +1,23 @@
 //! The formulas with which a context is asked, and their clauses.
 
-ghost use Rattle.std.specs.Prelude.{◌≡◌, ◌≤◌, ◌++◌, length, map, IfOk};
+ghost use Rattle.std.specs.Prelude.{◌≡◌, ◌++◌, map, IfOk};
 ghost use Rattle.mcs_system.specs.Seen.{formula_of};
 ghost use Rattle.mcs_cnf.specs.ClauseLists.{clause_list, AreOver};
 
+use mcs_asked::Asked;
 use mcs_base::Memory;
 use mcs_cnf::push_all;
-use mcs_system::{Formula, Name};
+use mcs_system::Formula;
 use mcs_trace::Cnf;
 use std::alloc::Global;
 
 /// The clauses of the formulas.
-pub fn clauses_of(alloc: Global, formulas: &[&Formula], atoms: &[Name]) -> Result<Cnf, Memory>
-    requires few { length atoms.now ≤ 64 }
-    requires over { AreOver atoms.now (map (λ f. formula_of f.now) formulas.now) }
-    ensures { IfOk result (λ known. known ≡ clause_list atoms.now (map (λ f. formula_of f.now) formulas.now)) }
+pub fn clauses_of(alloc: Global, asked: &Asked<'_>, formulas: &[&Formula]) -> Result<Cnf, Memory>
+    requires { AreOver asked.now.atoms.now (map (λ f. formula_of f.now) formulas.now) }
+    ensures { IfOk result (λ known. known ≡ clause_list asked.now.atoms.now (map (λ f. formula_of f.now) formulas.now)) }
 {
-    let mut known = Cnf::new(alloc, atoms.len() as u64);
-    push_all(alloc, &mut known, formulas, atoms)?;
+    let mut known = Cnf::new(alloc, asked.atoms.len() as u64);
+    push_all(alloc, &mut known, formulas, asked.atoms)?;
     Ok(known)
 }
 

@@ -4,15 +4,16 @@ ghost use Rattle.std.specs.Prelude.{◌≡◌, ◌≤◌, ◌<◌, false, length
 ghost use Rattle.std.specs.List.{AllByRecursion};
 ghost use Rattle.mcs_system.specs.Faults.{has_twins};
 ghost use Rattle.mcs_system.specs.Seen.{formula_of, item_of};
-ghost use Rattle.mcs_cnf.specs.ClauseLists.{AreOver, IsOver};
+ghost use Rattle.mcs_cnf.specs.ClauseLists.{AreOver};
 ghost use Rattle.mcs_classical.specs.declared.assumptions.Assumption as declared;
 ghost use Rattle.mcs_evidence.specs.Defaults.{AreOverItems, defaults_of};
 
 use crate::numbered::are_numbered;
 use crate::systems::{first_knowledge, system_of};
 use crate::theories::{beliefs_of, theory_in};
+use mcs_asked::Asked;
 use mcs_base::{Active, Memory};
-use mcs_classical::Assumption;
+use mcs_classical::{Assumption, Given};
 use mcs_cnf::{are_different, are_over};
 use mcs_default::TheoryBase;
 use mcs_system::{Formula, Name, System, TheoryItem};
@@ -49,18 +50,23 @@ fn are_found_in_turn(
 ) -> Result<bool, Memory>
     requires over { AreOverItems atoms.now (map item_of items.now) }
     requires numbers { AllByRecursion (λ (a : declared.Assumption). a.number < 64) assumptions.now }
-    requires assumptions { AllByRecursion (λ (a : declared.Assumption). IsOver atoms.now (formula_of a.formula.now)) assumptions.now }
+    requires assumptions { AreOver atoms.now (map (λ (a : declared.Assumption). formula_of a.formula.now) assumptions.now) }
     requires beliefs { AreOver atoms.now (map (λ b. formula_of b.now) beliefs.now) }
     requires different { has_twins atoms.now ≡ false }
     requires few { length atoms.now ≤ 64 }
     requires few_beliefs { length beliefs.now ≤ 64 }
     requires few_defaults { length (defaults_of (map item_of items.now)) ≤ 10 }
 {
+    let asked = Asked { atoms, beliefs };
+    let given = Given {
+        asked: &asked,
+        assumptions,
+    };
     let mut base = TheoryBase::new(alloc, items, atoms)?;
     let mut are_right = true;
     for (number, wanted) in turns {
         let set = Active::numbered(*number);
-        are_right &= match base.list_extensions(alloc, items, assumptions, set, beliefs, atoms) {
+        are_right &= match base.list_extensions(alloc, items, &given, set) {
             Ok(found) => are_numbered(&found, wanted),
             Err(_) => false,
         };

@@ -169,19 +169,18 @@ judged_test names items beliefs set v true none tells = (tells.0 refl, none)
 judged_test names items beliefs set v false none tells = λ h. true≢false (sym (tells.1 h))
 
 -- ---- sets that are not grounded
-pub ungrounded_iff : (names : List Name) (items : List Item) (ds : List Default) (set closed part : ℕ) (premises goals : List Formula) (es : List Entailment) (b : Bool) → ds ≡ defaults_of items → part ≡ closed → Within part set → ¬ (part ≡ set)
-    → premises ≡ facts_of items ++ map (λ (d : Default). d.conclusion) (defaults_at 0 ds part) → goals ≡ map (λ (d : Default). d.pre) (defaults_at 0 ds (minus set part))
+pub ungrounded_iff : (names : List Name) (items : List Item) (set closed part : ℕ) (premises goals : List Formula) (es : List Entailment) (b : Bool) → part ≡ closed → Within part set → ¬ (part ≡ set)
+    → premises ≡ generated items part → goals ≡ map (λ (d : Default). d.pre) (defaults_in items (minus set part))
     → IsTrue b ↔ AreDenied names premises goals es → IsTrue b ↔ IsUngrounded names items set closed es
-ungrounded_iff names items ds set closed part premises goals es b same is within less premises_are goals_are tells = subst (λ (s : ℕ). IsTrue b ↔ IsUngrounded names items set s es) is (
+ungrounded_iff names items set closed part premises goals es b is within less premises_are goals_are tells = subst (λ (s : ℕ). IsTrue b ↔ IsUngrounded names items set s es) is (
   λ h. record { part = within; less = less; unsupported = there.0 h },
   λ u. there.1 u.unsupported,
 )
   where
     there : IsTrue b ↔ AreDenied names (generated items part) (map (λ (d : Default). d.pre) (defaults_in items (minus set part))) es
     there =
-        subst (λ (xs : List Default). IsTrue b ↔ AreDenied names (facts_of items ++ map (λ (d : Default). d.conclusion) (defaults_at 0 xs part)) (map (λ (d : Default). d.pre) (defaults_at 0 xs (minus set part))) es) same
-        (subst (λ (gs : List Formula). IsTrue b ↔ AreDenied names (facts_of items ++ map (λ (d : Default). d.conclusion) (defaults_at 0 ds part)) gs es) goals_are
-        (subst (λ (fs : List Formula). IsTrue b ↔ AreDenied names fs goals es) premises_are tells))
+        subst (λ (gs : List Formula). IsTrue b ↔ AreDenied names (generated items part) gs es) goals_are
+        (subst (λ (fs : List Formula). IsTrue b ↔ AreDenied names fs goals es) premises_are tells)
 
 -- the same of equal lists
 pub complete_as : (names : List Name) (items : List Item) (fs fs' beliefs : List Formula) (set : ℕ) (justs justs' : List Entailment) (outside outside' : List Absence) (outputs outputs' : List Entailment) (view : Option ℕ) → fs ≡ fs' → justs ≡ justs' → outside ≡ outside' → outputs ≡ outputs'

@@ -4,9 +4,11 @@ use Rattle.std.specs.List.{AllZip}
 use Rattle.mcs_sets.specs.Sets.{has, minus, members}
 use Rattle.mcs_base.specs.Listings.{IsAmong, AreApart}
 use Rattle.mcs_system.specs.Plain.{Name, Formula, Item}
+use Rattle.mcs_trace.specs.Clauses.{ClauseList}
+use Rattle.mcs_cnf.specs.ClauseLists.{clause_list}
 use Rattle.mcs_cnf.specs.Entailments.{Entailment}
 use Rattle.mcs_cnf.specs.Classical.{AreShown}
-use Rattle.mcs_evidence.specs.Defaults.{Absence, Unsupported, Blocked, Verdict, Fails, Applied, Ungrounded, Extension, facts_of, defaults_in, all_defaults, negated_justs, AreDenied, IsAbsent, AreGrounded, IsAcceptedVerdict, ShowsView}
+use Rattle.mcs_evidence.specs.Defaults.{Absence, Unsupported, Blocked, Verdict, Fails, Applied, Ungrounded, Extension, facts_of, generated, defaults_in, all_defaults, negated_justs, AreDenied, IsAbsent, AreGrounded, IsAcceptedVerdict, ShowsView}
 use Rattle.mcs_extensions.specs.declared.verdict.Judged as code
 use Rattle.mcs_extensions.specs.declared.verdict.Judged.TheVariants as variants
 
@@ -26,6 +28,11 @@ AreNumbersOf set order = AreApart order × ((number : ℕ) → IsAmong number or
 -- each default outside the set is shown to be unsupported or blocked by the formulas
 abbrev pub AreAbsent : List Name → List Item → List Formula → List ℕ → List Absence → Type 0
 AreAbsent names items fs places absences = AllZip (λ k absence. IsAbsent names items fs (k + 1) absence) places absences
+
+-- these formulas are what the set generates, and these are their clauses
+pub record AreGenerated (names : List Name) (items : List Item) (set : ℕ) (known : ClauseList) (fs : List Formula) : Type 0 where
+  pub are : fs ≡ generated items set
+  pub made : known ≡ clause_list names fs
 
 -- what is shown of a set that generates an extension beside the order in which its defaults apply
 pub record IsComplete (names : List Name) (items : List Item) (fs beliefs : List Formula) (set : ℕ) (justs : List Entailment) (outside : List Absence) (outputs : List Entailment) (places : ℕ) : Type 0 where

@@ -7,12 +7,14 @@ ghost use Rattle.mcs_system.specs.Plain as plain;
 ghost use Rattle.mcs_system.specs.Seen.{default_of, formula_of};
 ghost use Rattle.mcs_cnf.specs.ClauseLists.{clause_list, IsOver};
 ghost use Rattle.mcs_cnf.specs.Entailments.{entailment_of};
-ghost use Rattle.mcs_evidence.specs.Defaults.{absence_of, defaults_of, IsAbsent, IsEntailmentShown};
+ghost use Rattle.mcs_evidence.specs.Defaults.{absence_of, IsAbsent, IsEntailmentShown};
 ghost use Rattle.mcs_extensions.specs.Checks.{at_number, AreAbsent};
-ghost use Rattle.mcs_evidence.specs.Theories.{all_of, AreOverDefaults};
+ghost use Rattle.mcs_asked.specs.Questions.{theory_names, theory_items, theory_defaults};
+ghost use Rattle.mcs_evidence.specs.Theories.{all_of};
 
 use crate::order::numbered_default;
 use crate::theory::negated;
+use mcs_asked::AskedTheory;
 use mcs_base::{Memory, Vars};
 use mcs_entailment::{denies, shows};
 use mcs_system::{Default, Formula, Name};
@@ -71,24 +73,21 @@ fn is_blocked(
     shows_negation(alloc, known, formula, atoms, entail)
 }
 
-/// Whether it is shown that the default with this number is unsupported or blocked.
+/// Whether it is shown that the default with this number is unsupported or blocked. `known` has the clauses of the
+/// premises.
 pub(crate) fn is_absent(
     alloc: Global,
     known: &mut Cnf,
+    theory: &AskedTheory<'_>,
     premises: &[&Formula],
-    defaults: &[&Default],
-    atoms: &[Name],
     number: u32,
     absence: &Outside,
 ) -> Result<bool, Memory>
-    requires few { length atoms.now ≤ 64 }
-    requires over { AreOverDefaults atoms.now (map (λ d. default_of d.now) defaults.now) }
-    requires made { known.old ≡ clause_list atoms.now (map (λ f. formula_of f.now) premises.now) }
+    requires { known.old ≡ clause_list (theory_names theory.now) (map (λ f. formula_of f.now) premises.now) }
     ensures kept { known.new ≡ known.old }
-    ensures exact { IfOk result (λ yes. (items : List plain.Item) → map (λ d. default_of d.now) defaults.now ≡ defaults_of items
-        → IsTrue yes ↔ IsAbsent atoms.now items (map (λ f. formula_of f.now) premises.now) number (absence_of absence.now)) }
+    ensures exact { IfOk result (λ yes. IsTrue yes ↔ IsAbsent (theory_names theory.now) (theory_items theory.now) (map (λ f. formula_of f.now) premises.now) number (absence_of absence.now)) }
 {
-    let Some(default) = numbered_default(defaults, number) else {
+    let Some(default) = numbered_default(theory.defaults, number) else {
         return Ok(false);
     };
     match absence {
@@ -96,13 +95,13 @@ pub(crate) fn is_absent(
             if *told != number {
                 return Ok(false);
             }
-            Ok(denies(atoms, premises, &default.pre, entail, &None))
+            Ok(denies(theory.asked, premises, &default.pre, entail, &None))
         }
         Outside::Blocked(told, just, entail) => {
             if *told != number {
                 return Ok(false);
             }
-            is_blocked(alloc, known, default, atoms, *just, entail)
+            is_blocked(alloc, known, default, theory.asked.atoms, *just, entail)
         }
     }
 }
@@ -122,38 +121,27 @@ fn places_outside(alloc: Global, defaults: &[&Default], set: Vars) -> Result<Vec
     Ok(places)
 }
 
-/// Whether it is shown, for each of the defaults at these places in order, that it is unsupported or blocked.
+/// Whether it is shown, for each of the defaults at these places in order, that it is unsupported or blocked. `known`
+/// has the clauses of the premises.
 fn are_absent_at(
     alloc: Global,
     known: &mut Cnf,
+    theory: &AskedTheory<'_>,
     premises: &[&Formula],
-    defaults: &[&Default],
-    atoms: &[Name],
     places: &[u32],
     absences: &[Outside],
 ) -> Result<bool, Memory>
-    requires few { length atoms.now ≤ 64 }
-    requires over { AreOverDefaults atoms.now (map (λ d. default_of d.now) defaults.now) }
-    requires made { known.old ≡ clause_list atoms.now (map (λ f. formula_of f.now) premises.now) }
+    requires made { known.old ≡ clause_list (theory_names theory.now) (map (λ f. formula_of f.now) premises.now) }
     requires below { AllByRecursion (λ k. k < 64) places.now }
     ensures kept { known.new ≡ known.old }
-    ensures exact { IfOk result (λ yes. (items : List plain.Item) → map (λ d. default_of d.now) defaults.now ≡ defaults_of items
-        → IsTrue yes ↔ AreAbsent atoms.now items (map (λ f. formula_of f.now) premises.now) places.now (map absence_of absences.now)) }
+    ensures exact { IfOk result (λ yes. IsTrue yes ↔ AreAbsent (theory_names theory.now) (theory_items theory.now) (map (λ f. formula_of f.now) premises.now) places.now (map absence_of absences.now)) }
 {
     if places.len() != absences.len() {
         return Ok(false);
     }
     for (index, place) in places.iter().enumerate() {
         let number = *place + 1;
-        let absent = is_absent(
-            alloc,
-            known,
-            premises,
-            defaults,
-            atoms,
-            number,
-            &absences[index],
-        )?;
+        let absent = is_absent(alloc, known, theory, premises, number, &absences[index])?;
         if !absent {
             return Ok(false);
         }
@@ -161,25 +149,21 @@ fn are_absent_at(
     Ok(true)
 }
 
-/// Whether it is shown, for each default outside the set in ascending order, that it is unsupported or blocked.
+/// Whether it is shown, for each default outside the set in ascending order, that it is unsupported or blocked. `known`
+/// has the clauses of the premises.
 pub(crate) fn are_absent(
     alloc: Global,
     known: &mut Cnf,
+    theory: &AskedTheory<'_>,
     premises: &[&Formula],
-    defaults: &[&Default],
-    atoms: &[Name],
     set: Vars,
     absences: &[Outside],
 ) -> Result<bool, Memory>
-    requires few { length atoms.now ≤ 64 }
-    requires few_defaults { length defaults.now ≤ 64 }
-    requires over { AreOverDefaults atoms.now (map (λ d. default_of d.now) defaults.now) }
-    requires made { known.old ≡ clause_list atoms.now (map (λ f. formula_of f.now) premises.now) }
+    requires { known.old ≡ clause_list (theory_names theory.now) (map (λ f. formula_of f.now) premises.now) }
     ensures kept { known.new ≡ known.old }
-    ensures exact { IfOk result (λ yes. (items : List plain.Item) → map (λ d. default_of d.now) defaults.now ≡ defaults_of items
-        → IsTrue yes ↔ AreAbsent atoms.now items (map (λ f. formula_of f.now) premises.now)
-        (members (minus (all_of (map (λ d. default_of d.now) defaults.now)) set)) (map absence_of absences.now)) }
+    ensures exact { IfOk result (λ yes. IsTrue yes ↔ AreAbsent (theory_names theory.now) (theory_items theory.now) (map (λ f. formula_of f.now) premises.now)
+        (members (minus (all_of (theory_defaults theory.now)) set)) (map absence_of absences.now)) }
 {
-    let places = places_outside(alloc, defaults, set)?;
-    are_absent_at(alloc, known, premises, defaults, atoms, &places, absences)
+    let places = places_outside(alloc, theory.defaults, set)?;
+    are_absent_at(alloc, known, theory, premises, &places, absences)
 }

@@ -10,5 +10,5 @@ mod verdict;
 
 pub use default::default_views;
 pub use order::is_member;
-pub use theory::{chosen, consequents, facts_with, negated, negations, prerequisites};
+pub use theory::{chosen, facts_with, generated, negated, negations, prerequisites, push_added};
 pub use verdict::{Judged, judged_as, judged_by};

@@ -1,20 +1,19 @@
 //! The order in which the defaults of a set apply.
 
-ghost use Rattle.std.specs.Prelude.{◌≡◌, ◌≤◌, ◌↔◌, List, length, map, IsTrue, IfOk, OnOk};
-ghost use Rattle.std.specs.Prelude.{MatchOption, None, Some};
-ghost use Rattle.mcs_system.specs.Plain as plain;
+ghost use Rattle.std.specs.Prelude.{◌≡◌, ◌≤◌, ◌↔◌, map, IsTrue, IfOk, OnOk, MatchOption, None, Some};
 ghost use Rattle.mcs_system.specs.Seen.{default_of};
 ghost use Rattle.mcs_cnf.specs.ClauseLists.{clause_list};
 ghost use Rattle.mcs_cnf.specs.Entailments.{entailment_of};
-ghost use Rattle.mcs_evidence.specs.Defaults.{defaults_of, AreGrounded};
+ghost use Rattle.mcs_evidence.specs.Defaults.{facts_of, AreGrounded};
+ghost use Rattle.mcs_asked.specs.Questions.{theory_names, theory_items};
 ghost use Rattle.mcs_extensions.specs.Checks.{at_number, IsNumberIn, AreNumbersOf};
 ghost use Rattle.mcs_cnf.specs.Growing.{HasMoreFormulas};
-ghost use Rattle.mcs_evidence.specs.Theories.{AreOverDefaults};
 
+use mcs_asked::AskedTheory;
 use mcs_base::{Memory, Vars};
 use mcs_cnf::push_formula;
 use mcs_entailment::shows;
-use mcs_system::{Default, Name};
+use mcs_system::Default;
 use mcs_trace::{Cnf, Entail};
 use std::alloc::Global;
 
@@ -60,28 +59,26 @@ pub(crate) fn numbered_default<'f>(defaults: &[&'f Default], number: u32) -> Opt
 }
 
 /// Whether it is shown that the prerequisites of the defaults with these numbers follow one after the other, each by
-/// means of the consequents before it. The clauses of the consequents are added to `known`.
+/// means of the consequents before it. The clauses of the consequents are added to `known`, which has those of the
+/// facts.
 fn derives(
     alloc: Global,
     known: &mut Cnf,
-    defaults: &[&Default],
-    atoms: &[Name],
+    theory: &AskedTheory<'_>,
     order: &[u32],
     pres: &[Entail],
 ) -> Result<bool, Memory>
-    requires over { AreOverDefaults atoms.now (map (λ d. default_of d.now) defaults.now) }
-    requires room { length atoms.now ≤ known.old.vars }
-    ensures grown { OnOk result (HasMoreFormulas atoms.now known.old known.new) }
-    ensures exact { IfOk result (λ yes. (items : List plain.Item) (fs : List plain.Formula)
-        → map (λ d. default_of d.now) defaults.now ≡ defaults_of items → known.old ≡ clause_list atoms.now fs
-        → IsTrue yes ↔ AreGrounded atoms.now items fs order.now (map entailment_of pres.now)) }
+    requires { known.old ≡ clause_list (theory_names theory.now) (facts_of (theory_items theory.now)) }
+    ensures grown { OnOk result (HasMoreFormulas (theory_names theory.now) known.old known.new) }
+    ensures exact { IfOk result (λ yes. IsTrue yes ↔ AreGrounded (theory_names theory.now) (theory_items theory.now) (facts_of (theory_items theory.now)) order.now (map entailment_of pres.now)) }
 {
     if order.len() != pres.len() {
         return Ok(false);
     }
+    let atoms = theory.asked.atoms;
     for (index, number) in order.iter().enumerate() {
         let pre = &pres[index];
-        let Some(default) = numbered_default(defaults, *number) else {
+        let Some(default) = numbered_default(theory.defaults, *number) else {
             return Ok(false);
         };
         let shown = shows(alloc, known, &default.pre, atoms, pre)?;
@@ -97,21 +94,17 @@ fn derives(
 pub(crate) fn are_grounded(
     alloc: Global,
     known: &mut Cnf,
-    defaults: &[&Default],
-    atoms: &[Name],
+    theory: &AskedTheory<'_>,
     order: &[u32],
     pres: &[Entail],
 ) -> Result<bool, Memory>
-    requires over { AreOverDefaults atoms.now (map (λ d. default_of d.now) defaults.now) }
-    requires room { length atoms.now ≤ known.old.vars }
+    requires { known.old ≡ clause_list (theory_names theory.now) (facts_of (theory_items theory.now)) }
     ensures kept { OnOk result (known.new ≡ known.old) }
-    ensures exact { IfOk result (λ yes. (items : List plain.Item) (fs : List plain.Formula)
-        → map (λ d. default_of d.now) defaults.now ≡ defaults_of items → known.old ≡ clause_list atoms.now fs
-        → IsTrue yes ↔ AreGrounded atoms.now items fs order.now (map entailment_of pres.now)) }
+    ensures exact { IfOk result (λ yes. IsTrue yes ↔ AreGrounded (theory_names theory.now) (theory_items theory.now) (facts_of (theory_items theory.now)) order.now (map entailment_of pres.now)) }
 {
     let vars = known.vars();
     let count = known.clauses().len();
-    let grounded = derives(alloc, known, defaults, atoms, order, pres)?;
+    let grounded = derives(alloc, known, theory, order, pres)?;
     known.cut(vars, count);
     Ok(grounded)
 }

@@ -1,13 +1,18 @@
-//! The facts of a theory, and the defaults in a set.
+//! The facts of a theory, the defaults in a set, and the formulas that the set generates.
 
-ghost use Rattle.std.specs.Prelude.{◌≡◌, ◌≤◌, ◌++◌, length, map, IfOk};
+ghost use Rattle.std.specs.Prelude.{◌≡◌, ◌≤◌, ◌++◌, length, map, IfOk, OnOk};
 ghost use Rattle.mcs_system.specs.Plain.{Not};
 ghost use Rattle.mcs_system.specs.Seen.{formula_of, default_of, item_of};
-ghost use Rattle.mcs_evidence.specs.Defaults.{facts_of, defaults_at, negated_justs};
+ghost use Rattle.mcs_cnf.specs.ClauseLists.{with_formulas};
+ghost use Rattle.mcs_evidence.specs.Defaults.{facts_of, defaults_at, defaults_in, generated, negated_justs};
+ghost use Rattle.mcs_asked.specs.Questions.{theory_names, theory_items};
 ghost use Rattle.mcs_system.specs.Plain as plain;
 
+use mcs_asked::AskedTheory;
 use mcs_base::{Memory, Vars};
+use mcs_cnf::push_all;
 use mcs_system::{Default, Formula, TheoryItem};
+use mcs_trace::Cnf;
 use std::alloc::Global;
 
 /// The facts of the items, in their order.
@@ -69,7 +74,7 @@ pub fn prerequisites<'f>(
 }
 
 /// The consequents of the defaults.
-pub fn consequents<'f>(alloc: Global, defaults: &[&'f Default]) -> Result<Vec<&'f Formula>, Memory>
+fn consequents<'f>(alloc: Global, defaults: &[&'f Default]) -> Result<Vec<&'f Formula>, Memory>
     ensures { IfOk result (λ fs. map (λ f. formula_of f.now) fs.items ≡ map (λ (d : plain.Default). d.conclusion) (map (λ d. default_of d.now) defaults.now)) }
 {
     let mut formulas = Vec::new(alloc);
@@ -110,4 +115,40 @@ pub fn negations(alloc: Global, defaults: &[&Default]) -> Result<Vec<Formula>, M
         push_negations(alloc, &mut negations, &default.justs)?;
     }
     Ok(negations)
+}
+
+/// The consequents of the defaults of the set.
+fn added<'t>(alloc: Global, theory: &AskedTheory<'t>, set: Vars) -> Result<Vec<&'t Formula>, Memory>
+    ensures { IfOk result (λ fs. map (λ f. formula_of f.now) fs.items ≡ map (λ (d : plain.Default). d.conclusion) (defaults_in (theory_items theory.now) set)) }
+{
+    let inside = chosen(alloc, theory.defaults, set)?;
+    consequents(alloc, &inside)
+}
+
+/// The formulas that the set generates: the facts, and then the consequents of its defaults.
+pub fn generated<'t>(
+    alloc: Global,
+    theory: &AskedTheory<'t>,
+    set: Vars,
+) -> Result<Vec<&'t Formula>, Memory>
+    ensures { IfOk result (λ fs. map (λ f. formula_of f.now) fs.items ≡ generated (theory_items theory.now) set) }
+{
+    let mut formulas = facts_with(alloc, theory.items, theory.heads)?;
+    let more = added(alloc, theory, set)?;
+    formulas.extend_from_slice(&more)?;
+    Ok(formulas)
+}
+
+/// Adds the clauses of the consequents of the set's defaults.
+pub fn push_added(
+    alloc: Global,
+    known: &mut Cnf,
+    theory: &AskedTheory<'_>,
+    set: Vars,
+) -> Result<(), Memory>
+    requires { length (theory_names theory.now) ≤ known.old.vars }
+    ensures { OnOk result (known.new ≡ with_formulas (theory_names theory.now) known.old (map (λ (d : plain.Default). d.conclusion) (defaults_in (theory_items theory.now) set))) }
+{
+    let more = added(alloc, theory, set)?;
+    push_all(alloc, known, &more, theory.asked.atoms)
 }

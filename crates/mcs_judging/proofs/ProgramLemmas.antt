@@ -23,8 +23,9 @@ use Rattle.mcs_proof_lines.proofs.WalkLemmas.{many_ok, many_err, many_end, front
 use Rattle.mcs_steps.specs.Judging.{IsJudged, Judges, IsPassed, PassesBy}
 use Rattle.mcs_steps.proofs.Judged.{passed_wrong}
 use Rattle.mcs_judging.specs.Judging.{IsTold, AreViewsOf}
-use Rattle.mcs_judging.specs.Programs.{rules_in, beliefs_in, IsViewOf, Refutes, MayBeShown, Completes}
-use Rattle.mcs_judging.specs.declared.programs.Asked as code
+use Rattle.mcs_judging.specs.Programs.{IsViewOf, Refutes, MayBeShown, Completes}
+use Rattle.mcs_asked.specs.Questions.{program_rules, program_beliefs}
+use Rattle.mcs_asked.specs.declared.program.AskedProgram.{AskedProgram}
 
 -- ---- traces
 pub refutes_some : (o : Option ClauseList) (known : ClauseList) → o ≡ Some known → (steps : List Inference) → Refutes o steps ↔ IsAcceptedTrace known.clauses steps
@@ -179,7 +180,7 @@ pub shown_all : {A : Type 0} (p : At → Reading A) (Shown : ℕ → A → Type 
 shown_all p Shown count left start at views h none = record { value = h.so_far.values; is = read_all p count left start at h.so_far none; fits = h.shown }
 
 -- ---- the clauses for the last trace
-module _ (p : code.Asked) (smaller : List ℕ) (shown : Option (Vec ℕ Global)) (rest : List Inference) where
+module _ (p : AskedProgram) (smaller : List ℕ) (shown : Option (Vec ℕ Global)) (rest : List Inference) where
   pub none_to_complete : shown ≡ None → Completes p smaller shown rest ↔ Refutes None rest
   none_to_complete e = (λ h. subst (λ (o : Option (Vec ℕ Global)). Completes p smaller o rest) e h, λ h. absurd h)
 
@@ -190,7 +191,7 @@ module _ (p : code.Asked) (smaller : List ℕ) (shown : Option (Vec ℕ Global))
     pub not_to_complete : ¬ MayBeShown p.atoms.now smaller views.items → Completes p smaller shown rest ↔ Refutes None rest
     not_to_complete not = (λ h. not (completed.0 h).0, λ h. absurd h)
 
-    pub to_complete : (known : ClauseList) → MayBeShown p.atoms.now smaller views.items → known ≡ clause_list p.atoms.now (rest_formulas p.atoms.now (rules_in p) (beliefs_in p) smaller views.items)
+    pub to_complete : (known : ClauseList) → MayBeShown p.atoms.now smaller views.items → known ≡ clause_list p.atoms.now (rest_formulas p.atoms.now (program_rules p) (program_beliefs p) smaller views.items)
         → Completes p smaller shown rest ↔ Refutes (Some known) rest
     to_complete known may made = (
       λ h. subst (λ (c : ClauseList). IsAcceptedTrace c.clauses rest) (sym made) (completed.0 h).1,
@@ -206,23 +207,23 @@ pub rest_read : (Holds : List Inference → Type 0) (r : Result Bool ReportFault
 rest_read Holds r at mid now e h = subst (λ (read : Reading (List Inference)). Judges Holds r now read) (sym (ap (λ (x : Result At ℕ). x >>= trace_at) e)) h
 
 -- ---- certificates
-module _ (p : code.Asked) (models : List ModelShown) (smaller : List ℕ) (rest : List Inference) where
+module _ (p : AskedProgram) (models : List ModelShown) (smaller : List ℕ) (rest : List Inference) where
   abbrev certificate : ProgramShown
   certificate = record { models = models; smaller = smaller; rest = rest }
 
-  accepted : (shown : Option (Vec ℕ Global)) → AreViewsOf (AreModelsShown p.atoms.now (rules_in p) (beliefs_in p)) shown models → Completes p smaller shown rest
-      → AreViewsOf (IsAcceptedProgram p.atoms.now (rules_in p) (beliefs_in p)) shown certificate
+  accepted : (shown : Option (Vec ℕ Global)) → AreViewsOf (AreModelsShown p.atoms.now (program_rules p) (program_beliefs p)) shown models → Completes p smaller shown rest
+      → AreViewsOf (IsAcceptedProgram p.atoms.now (program_rules p) (program_beliefs p)) shown certificate
   accepted None told h = absurd h
   accepted (Some views) told h = record { ascending = h.0.ascending; models = told; in_range = h.0.in_range; others = h.1 }
 
-  not_accepted : (shown : Option (Vec ℕ Global)) → AreViewsOf (AreModelsShown p.atoms.now (rules_in p) (beliefs_in p)) shown models → ¬ Completes p smaller shown rest
-      → (views : List ℕ) → ¬ IsAcceptedProgram p.atoms.now (rules_in p) (beliefs_in p) views certificate
+  not_accepted : (shown : Option (Vec ℕ Global)) → AreViewsOf (AreModelsShown p.atoms.now (program_rules p) (program_beliefs p)) shown models → ¬ Completes p smaller shown rest
+      → (views : List ℕ) → ¬ IsAcceptedProgram p.atoms.now (program_rules p) (program_beliefs p) views certificate
   not_accepted None told not views h = told views h.models
   not_accepted (Some v) told not views h =
-      let same : views ≡ v.items = models_one p.atoms.now (rules_in p) (beliefs_in p) views v.items models h.models told in
+      let same : views ≡ v.items = models_one p.atoms.now (program_rules p) (program_beliefs p) views v.items models h.models told in
       not (
         record { ascending = subst (IsAscending StateBefore) same h.ascending; in_range = h.in_range },
-        subst (λ (ws : List ℕ). IsRefutation p.atoms.now (rest_formulas p.atoms.now (rules_in p) (beliefs_in p) smaller ws) rest) same h.others,
+        subst (λ (ws : List ℕ). IsRefutation p.atoms.now (rest_formulas p.atoms.now (program_rules p) (program_beliefs p) smaller ws) rest) same h.others,
       )
 
 module _ (texts : List (List ℕ)) (count : ℕ) (start : At) where
@@ -250,16 +251,16 @@ module _ (texts : List (List ℕ)) (count : ℕ) (start : At) where
     program_read now rest e = to_rest ∙ ap (λ (r : Reading (List Inference)). r >>= with_rest) e
 
 -- whether it is accepted
-module _ (p : code.Asked) (count : ℕ) (start mid last now : At) (smaller : List ℕ) (shown : Option (Vec ℕ Global)) (told : Bool)
-    (models : IsTold (AreViewsOf (AreModelsShown p.atoms.now (rules_in p) (beliefs_in p))) shown mid (many_at (model_at p.texts.now) count start))
-    (next : smaller_at p.texts.now mid ≡ (smaller, last)) (judged : IsJudged (Completes p smaller shown) told now (rest_at last)) where
-  whole : program_at p.texts.now count start ≡ Ok (certificate p models.value smaller judged.value, now)
-  whole = program_read p.texts.now count start mid last models.value smaller models.is next now judged.value judged.is
+module _ (p : AskedProgram) (texts : List (List ℕ)) (count : ℕ) (start mid last now : At) (smaller : List ℕ) (shown : Option (Vec ℕ Global)) (told : Bool)
+    (models : IsTold (AreViewsOf (AreModelsShown p.atoms.now (program_rules p) (program_beliefs p))) shown mid (many_at (model_at texts) count start))
+    (next : smaller_at texts mid ≡ (smaller, last)) (judged : IsJudged (Completes p smaller shown) told now (rest_at last)) where
+  whole : program_at texts count start ≡ Ok (certificate p models.value smaller judged.value, now)
+  whole = program_read texts count start mid last models.value smaller models.is next now judged.value judged.is
 
-  pub program_shown : told ≡ true → IsTold (AreViewsOf (IsAcceptedProgram p.atoms.now (rules_in p) (beliefs_in p))) shown now (program_at p.texts.now count start)
+  pub program_shown : told ≡ true → IsTold (AreViewsOf (IsAcceptedProgram p.atoms.now (program_rules p) (program_beliefs p))) shown now (program_at texts count start)
   program_shown e = record { value = certificate p models.value smaller judged.value; is = whole; fits = accepted p models.value smaller judged.value shown models.fits (judged.right.0 e) }
 
-  pub program_not_shown : told ≡ false → IsTold (AreViewsOf (IsAcceptedProgram p.atoms.now (rules_in p) (beliefs_in p))) None now (program_at p.texts.now count start)
+  pub program_not_shown : told ≡ false → IsTold (AreViewsOf (IsAcceptedProgram p.atoms.now (program_rules p) (program_beliefs p))) None now (program_at texts count start)
   program_not_shown e = record {
     value = certificate p models.value smaller judged.value;
     is = whole;

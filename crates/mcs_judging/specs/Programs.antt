@@ -10,22 +10,8 @@ use Rattle.mcs_trace.specs.Clauses.{ClauseList}
 use Rattle.mcs_trace.specs.Traces.{Inference, IsAcceptedTrace}
 use Rattle.mcs_evidence.specs.Programs.{AreOverRules, IsInRange, IsRefutation, rest_formulas}
 use Rattle.mcs_evidence.specs.Pushing.{AreNamesOf}
-use Rattle.mcs_judging.specs.declared.programs.Asked as code
-
--- ---- what is asked
-abbrev pub rules_in : code.Asked → List ProgramRule
-rules_in p = map rule_of p.rules.now
-
-abbrev pub beliefs_in : code.Asked → List Formula
-beliefs_in p = map Atom (map (λ b. b.now) p.beliefs.now)
-
--- there are few atoms and beliefs, and the rules and beliefs are over the atoms
-pub record IsReady (p : code.Asked) : Type 0 where
-  pub few : length p.atoms.now ≤ 64
-  pub few_texts : length p.texts.now ≤ 64
-  pub few_beliefs : length p.beliefs.now ≤ 64
-  pub rules : AreOverRules p.atoms.now (rules_in p)
-  pub beliefs : AreNamesOf p.atoms.now (map (λ b. b.now) p.beliefs.now)
+use Rattle.mcs_asked.specs.declared.program.AskedProgram.{AskedProgram}
+use Rattle.mcs_asked.specs.Questions.{program_rules, program_beliefs}
 
 -- ---- what is told
 -- this is the view that is shown, if one is
@@ -43,6 +29,6 @@ pub record MayBeShown (names : List Name) (smaller views : List ℕ) : Type 0 wh
   pub in_range : AllByRecursion (IsInRange names) smaller
 
 -- there are views, and with them, the smaller sets and this last trace a certificate is accepted
-abbrev pub Completes : code.Asked → List ℕ → Option (Vec ℕ Global) → List Inference → Type 0
+abbrev pub Completes : AskedProgram → List ℕ → Option (Vec ℕ Global) → List Inference → Type 0
 Completes p smaller None rest = ⊥
-Completes p smaller (Some views) rest = MayBeShown p.atoms.now smaller views.items × IsRefutation p.atoms.now (rest_formulas p.atoms.now (rules_in p) (beliefs_in p) smaller views.items) rest
+Completes p smaller (Some views) rest = MayBeShown p.atoms.now smaller views.items × IsRefutation p.atoms.now (rest_formulas p.atoms.now (program_rules p) (program_beliefs p) smaller views.items) rest

@@ -13,25 +13,6 @@ use Rattle.mcs_extensions.specs.declared.verdict.Judged.TheVariants as variants
 use Rattle.mcs_proof_lines.specs.Walks.{At, Reading, ◌>>=◌, no_at, entailment_at, many_at, each_at, absence_of_place}
 use Rattle.mcs_proof_lines.specs.Verdicts.{Terms, all_places, just_total}
 use Rattle.mcs_steps.specs.Words.{spaced_numbers}
-use Rattle.mcs_judging.specs.declared.theory.Asked as code
-
--- ---- a theory that is asked
--- its items, with the heads as facts
-abbrev pub theory_of : code.Asked → List Item
-theory_of a = map item_of a.items.now ++ map Fact (map (λ f. formula_of f.now) a.heads.now)
-
--- its defaults are those of the items, all is over the atoms, and the lines may name what there is
-pub record IsPrepared (a : code.Asked) : Type 0 where
-  pub defaults : map (λ d. default_of d.now) a.defaults.now ≡ defaults_of (theory_of a)
-  pub over : AreOverItems a.atoms.now (theory_of a)
-  pub over_beliefs : AreOver a.atoms.now (map (λ f. formula_of f.now) a.beliefs.now)
-  pub justs : a.terms.now.justs.now ≡ map (λ (d : Default). length d.justs) (defaults_of (theory_of a))
-  pub beliefs : a.terms.now.beliefs ≡ length a.beliefs.now
-  pub few : length a.atoms.now ≤ 64
-  pub few_texts : length a.terms.now.atoms.now ≤ 64
-  pub few_numbers : length a.terms.now.numbers.now ≤ 64
-  pub few_beliefs : length a.beliefs.now ≤ 64
-  pub few_defaults : length a.terms.now.justs.now ≤ 10
 
 -- ---- absences
 -- the number that is told is that of a default of which it is shown that it is unsupported or blocked

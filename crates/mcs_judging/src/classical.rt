@@ -8,6 +8,8 @@ ghost use Rattle.mcs_proof_lines.specs.Walks.{entailment_at, many_at};
 ghost use Rattle.mcs_judging.specs.Judging.{Tells, AreViewsOf};
 
 use crate::entailments::judge_places;
+use crate::named::Named;
+use mcs_asked::Asked;
 use mcs_base::{Memory, Text, Vars};
 use mcs_entailment::{clauses_of, extended, lend};
 use mcs_proof_lines::{Lines, ReportFault};
@@ -45,8 +47,13 @@ pub fn judge_classical(
 {
     let own = lend(alloc, formulas)?;
     let premises = extended(alloc, &own, heads)?;
-    let mut known = clauses_of(alloc, &premises, atoms)?;
-    let shown = judge_places(alloc, &mut known, &premises, beliefs, atoms, texts, lines)?;
+    let asked = Asked { atoms, beliefs };
+    let named = Named {
+        asked: &asked,
+        texts,
+    };
+    let mut known = clauses_of(alloc, &asked, &premises)?;
+    let shown = judge_places(alloc, &mut known, &named, &premises, lines)?;
     let Some(view) = shown else {
         return Ok(None);
     };

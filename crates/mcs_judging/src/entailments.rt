@@ -1,16 +1,18 @@
 //! Entailments, judged one at a time as they are read.
 
-ghost use Rattle.std.specs.Prelude.{◌≡◌, ◌≤◌, ◌<◌, ◌↔◌, ℕ, List, length, map, IsTrue, IfSome};
+ghost use Rattle.std.specs.Prelude.{◌≡◌, ◌≤◌, ◌<◌, ◌↔◌, List, length, map, IsTrue, IfSome};
 ghost use Rattle.mcs_system.specs.Plain as plain;
 ghost use Rattle.mcs_system.specs.Seen.{formula_of};
-ghost use Rattle.mcs_cnf.specs.ClauseLists.{clause_list, IsOver, AreOver};
+ghost use Rattle.mcs_asked.specs.Questions.{asked_beliefs};
+ghost use Rattle.mcs_cnf.specs.ClauseLists.{clause_list, IsOver};
 ghost use Rattle.mcs_cnf.specs.Entailments.{Yes, IsAcceptedEntailment, IsModelAt};
 ghost use Rattle.mcs_evidence.specs.Defaults.{IsEntailmentShown, IsDenied, AreDenied};
 ghost use Rattle.mcs_proof_lines.specs.Walks.{trace_at, yes_at, no_at, entailment_at, many_at};
 ghost use Rattle.mcs_steps.specs.Judging.{Judges};
 ghost use Rattle.mcs_judging.specs.Judging.{Tells, ArePlacesShown, IsToldOn};
 
-use mcs_base::{Text, Vars};
+use crate::named::Named;
+use mcs_base::Vars;
 use mcs_cnf::{model_shown, push_negation};
 use mcs_entailment::denies;
 use mcs_proof_lines::{Lines, ReportFault, expect, is_next, take_no};
@@ -26,6 +28,15 @@ struct Told {
     are_right: bool,
     places: Vars,
     model: Option<Vars>,
+}
+
+/// What an entailment that is read is about: whether the goal, which has this index, below 64, follows from the formulas.
+#[derive(Clone, Copy)]
+struct Claim<'p, 'g> {
+    premises: &'p [&'p Formula],
+    goal: &'g Formula,
+    index: u32,
+    ghost low: { index < 64 },
 }
 
 /// Whether both are true.
@@ -81,22 +92,19 @@ pub(crate) fn judge_yes(
 /// Reads a certificate that a formula does not follow, as `take_no` does, and returns whether it shows that the goal
 /// does not follow from the formulas. `model` may be a known model of these; if the certificate shows one, it is that.
 pub(crate) fn judge_no(
-    atoms: &[Name],
-    texts: &[Text],
+    named: &Named<'_>,
     premises: &[&Formula],
     goal: &Formula,
     model: &mut Option<Vars>,
     lines: &mut Lines<'_>,
 ) -> Result<bool, ReportFault>
-    requires few { length atoms.now ≤ 64 }
-    requires few_texts { length texts.now ≤ 64 }
-    requires known { IfSome model.old (IsModelAt atoms.now (map (λ f. formula_of f.now) premises.now)) }
-    ensures known { IfSome model.new (IsModelAt atoms.now (map (λ f. formula_of f.now) premises.now)) }
-    ensures exact { Judges (IsDenied atoms.now (map (λ f. formula_of f.now) premises.now) (formula_of goal.now)) result lines.new (no_at texts.now lines.old) }
+    requires known { IfSome model.old (IsModelAt named.now.asked.now.atoms.now (map (λ f. formula_of f.now) premises.now)) }
+    ensures known { IfSome model.new (IsModelAt named.now.asked.now.atoms.now (map (λ f. formula_of f.now) premises.now)) }
+    ensures exact { Judges (IsDenied named.now.asked.now.atoms.now (map (λ f. formula_of f.now) premises.now) (formula_of goal.now)) result lines.new (no_at named.now.texts.now lines.old) }
 {
-    let entail = take_no(texts, lines)?;
+    let entail = take_no(named.texts, lines)?;
     let before = *model;
-    if !denies(atoms, premises, goal, &entail, &before) {
+    if !denies(named.asked, premises, goal, &entail, &before) {
         return Ok(false);
     }
     let next = model_shown(before, &entail);
@@ -107,21 +115,18 @@ pub(crate) fn judge_no(
 /// Reads a certificate for each of the goals, in order, and returns whether they show that none of them follows from
 /// the formulas.
 pub(crate) fn judge_all_no(
-    atoms: &[Name],
-    texts: &[Text],
+    named: &Named<'_>,
     premises: &[&Formula],
     goals: &[&Formula],
     lines: &mut Lines<'_>,
 ) -> Result<bool, ReportFault>
-    requires few { length atoms.now ≤ 64 }
-    requires few_texts { length texts.now ≤ 64 }
-    ensures { Judges (AreDenied atoms.now (map (λ f. formula_of f.now) premises.now) (map (λ f. formula_of f.now) goals.now)) result lines.new
-        (many_at (no_at texts.now) (length goals.now) lines.old) }
+    ensures { Judges (AreDenied named.now.asked.now.atoms.now (map (λ f. formula_of f.now) premises.now) (map (λ f. formula_of f.now) goals.now)) result lines.new
+        (many_at (no_at named.now.texts.now) (length goals.now) lines.old) }
 {
     let mut are_right = true;
     let mut model = None;
     for formula in goals {
-        match judge_no(atoms, texts, premises, formula, &mut model, lines) {
+        match judge_no(named, premises, formula, &mut model, lines) {
             Ok(is_right) => are_right = both(are_right, is_right),
             Err(fault) => return Err(fault),
         }
@@ -129,37 +134,31 @@ pub(crate) fn judge_all_no(
     Ok(are_right)
 }
 
-/// What is told after one entailment more, which is about the goal and has this index.
+/// What is told after one entailment more. `known` has the clauses of the formulas that it is about.
 fn judge_next(
     alloc: Global,
     known: &mut Cnf,
-    premises: &[&Formula],
-    goal: &Formula,
-    atoms: &[Name],
-    texts: &[Text],
-    index: u32,
+    named: &Named<'_>,
+    claim: &Claim<'_, '_>,
     told: Told,
     lines: &mut Lines<'_>,
 ) -> Result<Told, ReportFault>
-    requires few { length atoms.now ≤ 64 }
-    requires few_texts { length texts.now ≤ 64 }
-    requires index { index < 64 }
-    requires model { IfSome told.model (IsModelAt atoms.now (map (λ f. formula_of f.now) premises.now)) }
-    requires goal { IsOver atoms.now (formula_of goal.now) }
-    requires made { known.old ≡ clause_list atoms.now (map (λ f. formula_of f.now) premises.now) }
+    requires model { IfSome told.model (IsModelAt named.now.asked.now.atoms.now (map (λ f. formula_of f.now) claim.now.premises.now)) }
+    requires goal { IsOver named.now.asked.now.atoms.now (formula_of claim.now.goal.now) }
+    requires made { known.old ≡ clause_list named.now.asked.now.atoms.now (map (λ f. formula_of f.now) claim.now.premises.now) }
     ensures kept { known.new ≡ known.old }
-    ensures exact { Tells (IsToldOn atoms.now (map (λ f. formula_of f.now) premises.now) (formula_of goal.now) index told) result lines.new (entailment_at texts.now lines.old) }
+    ensures exact { Tells (IsToldOn named.now.asked.now.atoms.now (map (λ f. formula_of f.now) claim.now.premises.now) (formula_of claim.now.goal.now) claim.now.index told) result lines.new (entailment_at named.now.texts.now lines.old) }
 {
     if is_next(lines, b"yes") {
-        let shown = judge_yes(alloc, known, goal, atoms, lines)?;
+        let shown = judge_yes(alloc, known, claim.goal, named.asked.atoms, lines)?;
         return Ok(Told {
             are_right: both(told.are_right, shown),
-            places: told.places.with(index),
+            places: told.places.with(claim.index),
             model: told.model,
         });
     }
     let mut model = told.model;
-    let denied = judge_no(atoms, texts, premises, goal, &mut model, lines)?;
+    let denied = judge_no(named, claim.premises, claim.goal, &mut model, lines)?;
     Ok(Told {
         are_right: both(told.are_right, denied),
         places: told.places,
@@ -172,31 +171,28 @@ fn judge_next(
 pub(crate) fn judge_places(
     alloc: Global,
     known: &mut Cnf,
+    named: &Named<'_>,
     premises: &[&Formula],
-    beliefs: &[&Formula],
-    atoms: &[Name],
-    texts: &[Text],
     lines: &mut Lines<'_>,
 ) -> Result<Option<Vars>, ReportFault>
-    requires few { length atoms.now ≤ 64 }
-    requires few_texts { length texts.now ≤ 64 }
-    requires few_beliefs { length beliefs.now ≤ 64 }
-    requires beliefs { AreOver atoms.now (map (λ f. formula_of f.now) beliefs.now) }
-    requires made { known.old ≡ clause_list atoms.now (map (λ f. formula_of f.now) premises.now) }
+    requires made { known.old ≡ clause_list named.now.asked.now.atoms.now (map (λ f. formula_of f.now) premises.now) }
     ensures kept { known.new ≡ known.old }
-    ensures exact { Tells (ArePlacesShown atoms.now (map (λ f. formula_of f.now) premises.now) (map (λ f. formula_of f.now) beliefs.now)) result lines.new
-        (many_at (entailment_at texts.now) (length beliefs.now) lines.old) }
+    ensures exact { Tells (ArePlacesShown named.now.asked.now.atoms.now (map (λ f. formula_of f.now) premises.now) (asked_beliefs named.now.asked.now)) result lines.new
+        (many_at (entailment_at named.now.texts.now) (length named.now.asked.now.beliefs.now) lines.old) }
 {
+    let beliefs = named.asked.beliefs;
     let mut told = Told {
         are_right: true,
         places: Vars::empty(),
         model: None,
     };
     for (index, belief) in beliefs.iter().enumerate() {
-        let place = index as u32;
-        match judge_next(
-            alloc, known, premises, belief, atoms, texts, place, told, lines,
-        ) {
+        let claim = Claim {
+            premises: &*premises,
+            goal: belief,
+            index: index as u32,
+        };
+        match judge_next(alloc, known, named, &claim, told, lines) {
             Ok(next) => told = next,
             Err(fault) => return Err(fault),
         }

@@ -5,6 +5,7 @@
 mod absences;
 mod classical;
 mod entailments;
+mod named;
 mod order;
 mod programs;
 mod theory;

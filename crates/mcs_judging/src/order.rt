@@ -6,6 +6,7 @@ ghost use Rattle.std.specs.Option.{option_map_or};
 ghost use Rattle.mcs_system.specs.Plain as plain;
 ghost use Rattle.mcs_system.specs.Seen.{default_of};
 ghost use Rattle.mcs_cnf.specs.ClauseLists.{clause_list, with_formulas};
+ghost use Rattle.mcs_asked.specs.Questions.{theory_names, theory_items};
 ghost use Rattle.mcs_cnf.specs.Growing.{HasMoreFormulas};
 ghost use Rattle.mcs_evidence.specs.Defaults.{facts_of, AreGrounded, IsEntailmentShown};
 ghost use Rattle.mcs_evidence.specs.Theories.{IsOverDefault};
@@ -14,10 +15,10 @@ ghost use Rattle.mcs_spelling.specs.Words.{numbers_of};
 ghost use Rattle.mcs_proof_lines.specs.Walks.{IsNumberOf, line_at, many_at, yes_at};
 ghost use Rattle.mcs_proof_lines.specs.Verdicts.{order_of};
 ghost use Rattle.mcs_steps.specs.Judging.{Judges, PassesBy};
-ghost use Rattle.mcs_judging.specs.Theories.{theory_of, IsPrepared, numbers_in, AreNumbers, IsOrderIn, all_within};
+ghost use Rattle.mcs_judging.specs.Theories.{numbers_in, AreNumbers, IsOrderIn, all_within};
 
 use crate::entailments::{both, judge_yes};
-use crate::theory::{Asked, default_numbered};
+use crate::theory::{TheoryLines, default_numbered};
 use mcs_base::Vars;
 use mcs_cnf::push_formula;
 use mcs_extensions::is_member;
@@ -64,12 +65,11 @@ fn read_order(most: u32, line: &[u8]) -> Option<&[u8]>
 }
 
 /// The bytes of the order in the next line, if it has one.
-pub(crate) fn next_order<'b>(asked: &Asked<'_>, lines: &Lines<'b>) -> Option<&'b [u8]>
-    requires { IsPrepared asked.now }
-    ensures { MatchOption result (line_at (order_of (length asked.now.terms.now.justs.now)) lines.now ≡ None)
-        (λ bytes. IsOrderIn (line_at (order_of (length asked.now.terms.now.justs.now)) lines.now) bytes.now) }
+pub(crate) fn next_order<'b>(reading: &TheoryLines<'_>, lines: &Lines<'b>) -> Option<&'b [u8]>
+    ensures { MatchOption result (line_at (order_of (length reading.now.terms.now.justs.now)) lines.now ≡ None)
+        (λ bytes. IsOrderIn (line_at (order_of (length reading.now.terms.now.justs.now)) lines.now) bytes.now) }
 {
-    read_order(asked.terms.justs.len() as u32, lines.current()?)
+    read_order(reading.terms.justs.len() as u32, lines.current()?)
 }
 
 /// Whether the number, counted from 1, is that of a member of the set.
@@ -158,16 +158,15 @@ fn judge_prerequisite(
 fn judge_order(
     alloc: Global,
     known: &mut Cnf,
-    asked: &Asked<'_>,
+    reading: &TheoryLines<'_>,
     numbers: &[u8],
     lines: &mut Lines<'_>,
 ) -> Result<bool, ReportFault>
-    requires prepared { IsPrepared asked.now }
     requires numbers { AreNumbers numbers.now }
-    requires within { AllByRecursion (IsNumberOf asked.now.terms.now.justs.now) (numbers_in numbers.now) }
-    requires made { known.old ≡ clause_list asked.now.atoms.now (facts_of (theory_of asked.now)) }
-    ensures grown { OnOk result (HasMoreFormulas asked.now.atoms.now known.old known.new) }
-    ensures exact { Judges (AreGrounded asked.now.atoms.now (theory_of asked.now) (facts_of (theory_of asked.now)) (numbers_in numbers.now)) result lines.new
+    requires within { AllByRecursion (IsNumberOf reading.now.terms.now.justs.now) (numbers_in numbers.now) }
+    requires made { known.old ≡ clause_list (theory_names reading.now.theory.now) (facts_of (theory_items reading.now.theory.now)) }
+    ensures grown { OnOk result (HasMoreFormulas (theory_names reading.now.theory.now) known.old known.new) }
+    ensures exact { Judges (AreGrounded (theory_names reading.now.theory.now) (theory_items reading.now.theory.now) (facts_of (theory_items reading.now.theory.now)) (numbers_in numbers.now)) result lines.new
         (many_at yes_at (length (numbers_in numbers.now)) lines.old) }
 {
     let mut left = numbers;
@@ -176,8 +175,8 @@ fn judge_order(
         let Some((number, rest)) = first_number(&left[1..]) else {
             return Ok(false);
         };
-        let default = default_numbered(asked, number as u32);
-        match judge_prerequisite(alloc, known, default, asked.atoms, lines) {
+        let default = default_numbered(reading, number as u32);
+        match judge_prerequisite(alloc, known, default, reading.theory.asked.atoms, lines) {
             Ok(shown) => are_right = both(are_right, shown),
             Err(fault) => return Err(fault),
         }
@@ -192,17 +191,16 @@ fn judge_order(
 pub(crate) fn judge_grounded(
     alloc: Global,
     known: &mut Cnf,
-    asked: &Asked<'_>,
+    reading: &TheoryLines<'_>,
     set: Vars,
     numbers: &[u8],
     lines: &mut Lines<'_>,
 ) -> Result<bool, ReportFault>
-    requires prepared { IsPrepared asked.now }
-    requires inside { set < 2 ^ length asked.now.terms.now.justs.now }
+    requires inside { set < 2 ^ length reading.now.terms.now.justs.now }
     requires numbers { AreNumbers numbers.now }
-    requires made { known.old ≡ clause_list asked.now.atoms.now (facts_of (theory_of asked.now)) }
+    requires made { known.old ≡ clause_list (theory_names reading.now.theory.now) (facts_of (theory_items reading.now.theory.now)) }
     ensures kept { OnOk result (known.new ≡ known.old) }
-    ensures exact { Judges (λ pres. AreNumbersOf set (numbers_in numbers.now) × AreGrounded asked.now.atoms.now (theory_of asked.now) (facts_of (theory_of asked.now)) (numbers_in numbers.now) pres)
+    ensures exact { Judges (λ pres. AreNumbersOf set (numbers_in numbers.now) × AreGrounded (theory_names reading.now.theory.now) (theory_items reading.now.theory.now) (facts_of (theory_items reading.now.theory.now)) (numbers_in numbers.now) pres)
         result lines.new (many_at yes_at (length (numbers_in numbers.now)) lines.old) }
 {
     if !are_numbers_of(set, numbers) {
@@ -211,7 +209,7 @@ pub(crate) fn judge_grounded(
     }
     let vars = known.vars();
     let count = known.clauses().len();
-    let grounded = judge_order(alloc, known, asked, numbers, lines)?;
+    let grounded = judge_order(alloc, known, reading, numbers, lines)?;
     known.cut(vars, count);
     Ok(grounded)
 }

@@ -13,9 +13,11 @@ ghost use Rattle.mcs_proof_lines.specs.Walks.{trace_at, many_at};
 ghost use Rattle.mcs_proof_lines.specs.Programs.{model_at, smaller_at, rest_at, program_at};
 ghost use Rattle.mcs_steps.specs.Judging.{Judges, PassesBy};
 ghost use Rattle.mcs_judging.specs.Judging.{Tells, AreViewsOf};
-ghost use Rattle.mcs_judging.specs.Programs.{rules_in, beliefs_in, IsReady, IsViewOf, Refutes, MayBeShown, Completes};
+ghost use Rattle.mcs_asked.specs.Questions.{program_rules, program_beliefs};
+ghost use Rattle.mcs_judging.specs.Programs.{IsViewOf, Refutes, MayBeShown, Completes};
 
 use mcs_answer_sets::{are_ascending, rules_hold, view_of};
+use mcs_asked::AskedProgram;
 use mcs_base::{Memory, Text, Vars};
 use mcs_entailment::is_in_range;
 use mcs_evidence::{rest_clauses, smaller_clauses};
@@ -24,16 +26,6 @@ use mcs_steps::{judge_trace, pass_trace};
 use mcs_system::{Formula, Name, ProgRule, names_of, with_heads};
 use mcs_trace::Cnf;
 use std::alloc::Global;
-
-/// A program with the facts that it was given, and what it is asked.
-#[derive(Clone, Copy)]
-struct Asked<'p> {
-    atoms: &'p [Name],
-    /// The names of the atoms in the lines.
-    texts: &'p [Text],
-    rules: &'p [ProgRule],
-    beliefs: &'p [&'p Name],
-}
 
 /// Reads a trace, as `take_trace` does, and returns whether it is accepted as refuting the clauses. Without clauses it
 /// is not.
@@ -54,34 +46,36 @@ fn judge_refutation(
 }
 
 /// The clauses that the trace of a model has to refute. There are none if the places are not a model of the rules.
-fn smaller_models(alloc: Global, asked: &Asked<'_>, model: u64) -> Result<Option<Cnf>, Memory>
-    requires { IsReady asked.now }
+fn smaller_models(
+    alloc: Global,
+    program: &AskedProgram<'_>,
+    model: u64,
+) -> Result<Option<Cnf>, Memory>
     ensures { IfOk result (λ clauses. (minimal : List Inference)
-        → IsModelShown asked.now.atoms.now (rules_in asked.now) (record { model = model; minimal = minimal }) ↔ Refutes clauses minimal) }
+        → IsModelShown program.now.atoms.now (program_rules program.now) (record { model = model; minimal = minimal }) ↔ Refutes clauses minimal) }
 {
-    if !is_in_range(asked.atoms, model) {
+    if !is_in_range(program.atoms, model) {
         return Ok(None);
     }
     let places = Vars::numbered(model);
-    if !rules_hold(asked.atoms, places, asked.rules) {
+    if !rules_hold(program.atoms, places, program.rules) {
         return Ok(None);
     }
-    let clauses = smaller_clauses(alloc, asked.atoms, asked.rules, places)?;
+    let clauses = smaller_clauses(alloc, program.atoms, program.rules, places)?;
     Ok(Some(clauses))
 }
 
 /// Reads the trace of a model, and returns whether the model is shown to be an answer set.
 fn judge_minimal(
     alloc: Global,
-    asked: &Asked<'_>,
+    program: &AskedProgram<'_>,
     model: u64,
     lines: &mut Lines<'_>,
 ) -> Result<bool, ReportFault>
-    requires { IsReady asked.now }
-    ensures { Judges (λ minimal. IsModelShown asked.now.atoms.now (rules_in asked.now) (record { model = model; minimal = minimal }))
+    ensures { Judges (λ minimal. IsModelShown program.now.atoms.now (program_rules program.now) (record { model = model; minimal = minimal }))
         result lines.new (trace_at lines.old) }
 {
-    let clauses = smaller_models(alloc, asked, model)?;
+    let clauses = smaller_models(alloc, program, model)?;
     let judged = judge_refutation(alloc, &clauses, lines);
     drop(clauses);
     judged
@@ -91,20 +85,21 @@ fn judge_minimal(
 #[tactic(auto, unfolding(mcs_proof_lines::specs::Programs::model_at))]
 fn judge_model(
     alloc: Global,
-    asked: &Asked<'_>,
+    program: &AskedProgram<'_>,
+    texts: &[Text],
     lines: &mut Lines<'_>,
 ) -> Result<Option<Vars>, ReportFault>
-    requires { IsReady asked.now }
-    ensures { Tells (IsViewOf (IsAcceptedModel asked.now.atoms.now (rules_in asked.now) (beliefs_in asked.now)))
-        result lines.new (model_at asked.now.texts.now lines.old) }
+    requires { length texts.now ≤ 64 }
+    ensures { Tells (IsViewOf (IsAcceptedModel program.now.atoms.now (program_rules program.now) (program_beliefs program.now)))
+        result lines.new (model_at texts.now lines.old) }
 {
-    let model = take_atoms(b"model ", asked.texts, lines)?;
-    let is_shown = judge_minimal(alloc, asked, model, lines)?;
+    let model = take_atoms(b"model ", texts, lines)?;
+    let is_shown = judge_minimal(alloc, program, model, lines)?;
     if !is_shown {
         return Ok(None);
     }
     let places = Vars::numbered(model);
-    Ok(Some(view_of(asked.atoms, places, asked.beliefs)))
+    Ok(Some(view_of(program, places)))
 }
 
 /// Reads a model with its trace, and keeps nothing of it.
@@ -134,20 +129,21 @@ fn pass_models(texts: &[Text], count: usize, lines: &mut Lines<'_>) -> Result<()
 /// one that is not are passed.
 fn judge_models(
     alloc: Global,
-    asked: &Asked<'_>,
+    program: &AskedProgram<'_>,
+    texts: &[Text],
     count: usize,
     lines: &mut Lines<'_>,
 ) -> Result<Option<Vec<Vars>>, ReportFault>
-    requires { IsReady asked.now }
-    ensures { Tells (AreViewsOf (AreModelsShown asked.now.atoms.now (rules_in asked.now) (beliefs_in asked.now)))
-        result lines.new (many_at (model_at asked.now.texts.now) count lines.old) }
+    requires { length texts.now ≤ 64 }
+    ensures { Tells (AreViewsOf (AreModelsShown program.now.atoms.now (program_rules program.now) (program_beliefs program.now)))
+        result lines.new (many_at (model_at texts.now) count lines.old) }
 {
     let mut views = Vec::new(alloc);
     let mut left = count;
     while left > 0 {
-        let shown = judge_model(alloc, asked, lines)?;
+        let shown = judge_model(alloc, program, texts, lines)?;
         let Some(view) = shown else {
-            pass_models(asked.texts, left - 1, lines)?;
+            pass_models(texts, left - 1, lines)?;
             return Ok(None);
         };
         views.push(view)?;
@@ -196,24 +192,23 @@ fn may_be_shown(atoms: &[Name], views: &[Vars], smaller: &[Vars]) -> bool
 /// accepted, whatever the trace is. `shown` are the views of the models, if each was shown to be an answer set.
 fn other_models(
     alloc: Global,
-    asked: &Asked<'_>,
+    program: &AskedProgram<'_>,
     shown: &Option<Vec<Vars>>,
     smaller: &[Vars],
 ) -> Result<Option<Cnf>, Memory>
-    requires { IsReady asked.now }
-    ensures { IfOk result (λ clauses. (rest : List Inference) → Completes asked.now smaller.now shown.now rest ↔ Refutes clauses rest) }
+    ensures { IfOk result (λ clauses. (rest : List Inference) → Completes program.now smaller.now shown.now rest ↔ Refutes clauses rest) }
 {
     let Some(views) = shown else {
         return Ok(None);
     };
-    if !may_be_shown(asked.atoms, views, smaller) {
+    if !may_be_shown(program.atoms, views, smaller) {
         return Ok(None);
     }
     let clauses = rest_clauses(
         alloc,
-        asked.atoms,
-        asked.rules,
-        asked.beliefs,
+        program.atoms,
+        program.rules,
+        program.beliefs,
         smaller,
         views,
     )?;
@@ -223,16 +218,15 @@ fn other_models(
 /// Reads the line `none` and the last trace, and returns whether they complete a certificate that is accepted.
 fn judge_rest(
     alloc: Global,
-    asked: &Asked<'_>,
+    program: &AskedProgram<'_>,
     shown: &Option<Vec<Vars>>,
     smaller: &[Vars],
     lines: &mut Lines<'_>,
 ) -> Result<bool, ReportFault>
-    requires { IsReady asked.now }
-    ensures { Judges (Completes asked.now smaller.now shown.now) result lines.new (rest_at lines.old) }
+    ensures { Judges (Completes program.now smaller.now shown.now) result lines.new (rest_at lines.old) }
 {
     expect(lines, b"none")?;
-    let clauses = other_models(alloc, asked, shown, smaller)?;
+    let clauses = other_models(alloc, program, shown, smaller)?;
     let judged = judge_refutation(alloc, &clauses, lines);
     drop(clauses);
     judged
@@ -241,17 +235,18 @@ fn judge_rest(
 /// Reads a certificate with `count` models, and returns the views that it shows, if it is accepted.
 fn judge_asked(
     alloc: Global,
-    asked: &Asked<'_>,
+    program: &AskedProgram<'_>,
+    texts: &[Text],
     count: usize,
     lines: &mut Lines<'_>,
 ) -> Result<Option<Vec<Vars>>, ReportFault>
-    requires { IsReady asked.now }
-    ensures { Tells (AreViewsOf (IsAcceptedProgram asked.now.atoms.now (rules_in asked.now) (beliefs_in asked.now)))
-        result lines.new (program_at asked.now.texts.now count lines.old) }
+    requires { length texts.now ≤ 64 }
+    ensures { Tells (AreViewsOf (IsAcceptedProgram program.now.atoms.now (program_rules program.now) (program_beliefs program.now)))
+        result lines.new (program_at texts.now count lines.old) }
 {
-    let shown = judge_models(alloc, asked, count, lines)?;
-    let smaller = take_smaller(alloc, asked.texts, lines)?;
-    let is_accepted = judge_rest(alloc, asked, &shown, &smaller, lines)?;
+    let shown = judge_models(alloc, program, texts, count, lines)?;
+    let smaller = take_smaller(alloc, texts, lines)?;
+    let is_accepted = judge_rest(alloc, program, &shown, &smaller, lines)?;
     if !is_accepted {
         return Ok(None);
     }
@@ -287,13 +282,12 @@ pub fn judge_program(
 {
     let names = names_of(alloc, beliefs)?;
     let all = with_heads(alloc, rules, heads)?;
-    let asked = Asked {
+    let program = AskedProgram {
         atoms,
-        texts,
         rules: &all,
         beliefs: &names,
     };
-    let judged = judge_asked(alloc, &asked, count, lines);
+    let judged = judge_asked(alloc, &program, texts, count, lines);
     drop(all);
     judged
 }

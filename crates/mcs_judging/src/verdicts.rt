@@ -4,6 +4,7 @@ ghost use Rattle.std.specs.Prelude.{◌≡◌, ◌≤◌, ◌<◌, ◌^◌, ◌+
 ghost use Rattle.mcs_sets.specs.Sets.{Within};
 ghost use Rattle.mcs_system.specs.Plain.{Fact};
 ghost use Rattle.mcs_system.specs.Seen.{default_of, formula_of, item_of};
+ghost use Rattle.mcs_asked.specs.Questions.{theory_names, theory_items, theory_beliefs};
 ghost use Rattle.mcs_cnf.specs.ClauseLists.{clause_list, AreOver};
 ghost use Rattle.mcs_evidence.specs.Defaults.{AreOverItems, AreDenied, IsAcceptedDefault, defaults_of, facts_of, generated, negated_justs};
 ghost use Rattle.mcs_extensions.specs.Checks.{IsNumberIn};
@@ -11,18 +12,21 @@ ghost use Rattle.mcs_proof_lines.specs.Walks.{IsNumberOf, many_at, no_at};
 ghost use Rattle.mcs_proof_lines.specs.Verdicts.{terms_of, defaults_of_line, extension_at, applied_at, ungrounded_at, or_absence, verdict_at, names_set, set_at, verdicts_at};
 ghost use Rattle.mcs_steps.specs.Judging.{Judges};
 ghost use Rattle.mcs_judging.specs.Judging.{Tells, AreViewsOf};
-ghost use Rattle.mcs_judging.specs.Theories.{theory_of, IsPrepared, numbers_in, AreNumbers, complete_at, TellsCompletion, shown_if, TellsVerdict, IsNoted};
+ghost use Rattle.mcs_judging.specs.Theories.{numbers_in, AreNumbers, complete_at, TellsCompletion, shown_if, TellsVerdict, IsNoted};
 ghost use Rattle.mcs_system.specs.Plain as plain;
 
 use crate::absences::{judge_absence, judge_absences};
 use crate::entailments::{judge_all_no, judge_places, judge_yes};
+use crate::named::Named;
 use crate::order::{judge_grounded, next_order};
-use crate::theory::{Asked, default_numbered, generated, push_added};
+use crate::theory::{TheoryLines, default_numbered};
+use mcs_asked::{Asked, AskedTheory};
 use mcs_base::{Memory, Vars, list_states};
 use mcs_entailment::{clauses_of, lend};
 use mcs_evidence::defaults_of;
 use mcs_extensions::{
-    Judged, chosen, facts_with, is_member, judged_as, judged_by, negations, prerequisites,
+    Judged, chosen, facts_with, generated, is_member, judged_as, judged_by, negations,
+    prerequisites, push_added,
 };
 use mcs_proof_lines::{
     Lines, ReportFault, Theory, names_set, next_applied, next_defaults, out_of_place,
@@ -35,34 +39,36 @@ use std::alloc::Global;
 /// formulas.
 fn judge_denials(
     alloc: Global,
-    asked: &Asked<'_>,
+    reading: &TheoryLines<'_>,
     premises: &[&Formula],
     goals: &[Formula],
     lines: &mut Lines<'_>,
 ) -> Result<bool, ReportFault>
-    requires { IsPrepared asked.now }
-    ensures { Judges (AreDenied asked.now.atoms.now (map (λ f. formula_of f.now) premises.now) (map formula_of goals.now)) result lines.new
-        (many_at (no_at asked.now.terms.now.atoms.now) (length goals.now) lines.old) }
+    ensures { Judges (AreDenied (theory_names reading.now.theory.now) (map (λ f. formula_of f.now) premises.now) (map formula_of goals.now)) result lines.new
+        (many_at (no_at reading.now.terms.now.atoms.now) (length goals.now) lines.old) }
 {
     let lent = lend(alloc, goals)?;
-    judge_all_no(asked.atoms, asked.terms.atoms, premises, &lent, lines)
+    let named = Named {
+        asked: reading.theory.asked,
+        texts: reading.terms.atoms,
+    };
+    judge_all_no(&named, premises, &lent, lines)
 }
 
 /// Reads a certificate for each justification of the defaults, in order, and returns whether they show that the
 /// negation of none of them follows from the formulas.
 fn judge_justs(
     alloc: Global,
-    asked: &Asked<'_>,
+    reading: &TheoryLines<'_>,
     premises: &[&Formula],
     defaults: &[&Default],
     lines: &mut Lines<'_>,
 ) -> Result<bool, ReportFault>
-    requires { IsPrepared asked.now }
-    ensures { Judges (AreDenied asked.now.atoms.now (map (λ f. formula_of f.now) premises.now) (negated_justs (map (λ d. default_of d.now) defaults.now))) result lines.new
-        (many_at (no_at asked.now.terms.now.atoms.now) (length (negated_justs (map (λ d. default_of d.now) defaults.now))) lines.old) }
+    ensures { Judges (AreDenied (theory_names reading.now.theory.now) (map (λ f. formula_of f.now) premises.now) (negated_justs (map (λ d. default_of d.now) defaults.now))) result lines.new
+        (many_at (no_at reading.now.terms.now.atoms.now) (length (negated_justs (map (λ d. default_of d.now) defaults.now))) lines.old) }
 {
     let goals = negations(alloc, defaults)?;
-    let denied = judge_denials(alloc, asked, premises, &goals, lines);
+    let denied = judge_denials(alloc, reading, premises, &goals, lines);
     drop(goals);
     denied
 }
@@ -80,31 +86,26 @@ fn shown_if(is_shown: bool, view: Option<Vars>) -> Option<Vars>
 fn judge_completion(
     alloc: Global,
     known: &mut Cnf,
-    asked: &Asked<'_>,
+    reading: &TheoryLines<'_>,
     premises: &[&Formula],
     set: Vars,
     lines: &mut Lines<'_>,
 ) -> Result<Option<Vars>, ReportFault>
-    requires prepared { IsPrepared asked.now }
-    requires inside { set < 2 ^ length asked.now.terms.now.justs.now }
-    requires made { known.old ≡ clause_list asked.now.atoms.now (map (λ f. formula_of f.now) premises.now) }
+    requires inside { set < 2 ^ length reading.now.terms.now.justs.now }
+    requires made { known.old ≡ clause_list (theory_names reading.now.theory.now) (map (λ f. formula_of f.now) premises.now) }
     ensures kept { known.new ≡ known.old }
-    ensures exact { Tells (TellsCompletion asked.now.atoms.now (theory_of asked.now) (map (λ f. formula_of f.now) premises.now) (map (λ f. formula_of f.now) asked.now.beliefs.now) set)
-        result lines.new (complete_at (terms_of asked.now.terms.now) set lines.old) }
+    ensures exact { Tells (TellsCompletion (theory_names reading.now.theory.now) (theory_items reading.now.theory.now) (map (λ f. formula_of f.now) premises.now) (theory_beliefs reading.now.theory.now) set)
+        result lines.new (complete_at (terms_of reading.now.terms.now) set lines.old) }
 {
-    let inside = chosen(alloc, asked.defaults, set)?;
-    let allowed = judge_justs(alloc, asked, premises, &inside, lines)?;
-    let others = asked.terms.places().minus(set).members();
-    let absent = judge_absences(alloc, known, asked, premises, others, lines)?;
-    let view = judge_places(
-        alloc,
-        known,
-        premises,
-        asked.beliefs,
-        asked.atoms,
-        asked.terms.atoms,
-        lines,
-    )?;
+    let inside = chosen(alloc, reading.theory.defaults, set)?;
+    let allowed = judge_justs(alloc, reading, premises, &inside, lines)?;
+    let others = reading.terms.places().minus(set).members();
+    let absent = judge_absences(alloc, known, reading, premises, others, lines)?;
+    let named = Named {
+        asked: reading.theory.asked,
+        texts: reading.terms.atoms,
+    };
+    let view = judge_places(alloc, known, &named, premises, lines)?;
     Ok(shown_if(allowed, shown_if(absent, view)))
 }
 
@@ -114,25 +115,24 @@ fn judge_completion(
 fn judge_extension(
     alloc: Global,
     known: &mut Cnf,
-    asked: &Asked<'_>,
+    reading: &TheoryLines<'_>,
     set: Vars,
     numbers: &[u8],
     lines: &mut Lines<'_>,
 ) -> Result<Judged, ReportFault>
-    requires prepared { IsPrepared asked.now }
-    requires inside { set < 2 ^ length asked.now.terms.now.justs.now }
+    requires inside { set < 2 ^ length reading.now.terms.now.justs.now }
     requires numbers { AreNumbers numbers.now }
-    requires made { known.old ≡ clause_list asked.now.atoms.now (facts_of (theory_of asked.now)) }
+    requires made { known.old ≡ clause_list (theory_names reading.now.theory.now) (facts_of (theory_items reading.now.theory.now)) }
     ensures kept { OnOk result (known.new ≡ known.old) }
-    ensures exact { Tells (TellsVerdict asked.now.atoms.now (theory_of asked.now) (map (λ f. formula_of f.now) asked.now.beliefs.now) set)
-        result lines.new (extension_at (terms_of asked.now.terms.now) set (numbers_in numbers.now) lines.old) }
+    ensures exact { Tells (TellsVerdict (theory_names reading.now.theory.now) (theory_items reading.now.theory.now) (theory_beliefs reading.now.theory.now) set)
+        result lines.new (extension_at (terms_of reading.now.terms.now) set (numbers_in numbers.now) lines.old) }
 {
-    let grounded = judge_grounded(alloc, known, asked, set, numbers, lines)?;
-    let premises = generated(alloc, asked, set)?;
+    let grounded = judge_grounded(alloc, known, reading, set, numbers, lines)?;
+    let premises = generated(alloc, reading.theory, set)?;
     let vars = known.vars();
     let count = known.clauses().len();
-    push_added(alloc, known, asked, set)?;
-    let view = judge_completion(alloc, known, asked, &premises, set, lines)?;
+    push_added(alloc, known, reading.theory, set)?;
+    let view = judge_completion(alloc, known, reading, &premises, set, lines)?;
     known.cut(vars, count);
     Ok(judged_as(shown_if(grounded, view)))
 }
@@ -144,29 +144,33 @@ fn applies(inside: bool, shown: bool, allowed: bool) -> bool
     !inside && shown && allowed
 }
 
-/// Reads what is to be shown of a default that is outside the set and applies. `premises` are what the set generates,
-/// and `known` has their clauses.
+/// Reads what is to be shown of a default that is outside the set and applies. `known` has the clauses of what the set
+/// generates.
 #[tactic(auto, unfolding(mcs_proof_lines::specs::Verdicts::applied_at))]
 fn judge_applying(
     alloc: Global,
     known: &mut Cnf,
-    asked: &Asked<'_>,
-    premises: &[&Formula],
+    reading: &TheoryLines<'_>,
     set: Vars,
     number: u32,
     lines: &mut Lines<'_>,
 ) -> Result<Judged, ReportFault>
-    requires prepared { IsPrepared asked.now }
-    requires number { IsNumberOf asked.now.terms.now.justs.now number }
-    requires premises { map (λ f. formula_of f.now) premises.now ≡ generated (theory_of asked.now) set }
-    requires made { known.old ≡ clause_list asked.now.atoms.now (generated (theory_of asked.now) set) }
+    requires number { IsNumberOf reading.now.terms.now.justs.now number }
+    requires made { known.old ≡ clause_list (theory_names reading.now.theory.now) (generated (theory_items reading.now.theory.now) set) }
     ensures kept { known.new ≡ known.old }
-    ensures exact { Tells (TellsVerdict asked.now.atoms.now (theory_of asked.now) (map (λ f. formula_of f.now) asked.now.beliefs.now) set)
-        result lines.new (applied_at (terms_of asked.now.terms.now) number lines.old) }
+    ensures exact { Tells (TellsVerdict (theory_names reading.now.theory.now) (theory_items reading.now.theory.now) (theory_beliefs reading.now.theory.now) set)
+        result lines.new (applied_at (terms_of reading.now.terms.now) number lines.old) }
 {
-    let default = default_numbered(asked, number);
-    let shown = judge_yes(alloc, known, &default.pre, asked.atoms, lines)?;
-    let allowed = judge_justs(alloc, asked, premises, &[default], lines)?;
+    let premises = generated(alloc, reading.theory, set)?;
+    let default = default_numbered(reading, number);
+    let shown = judge_yes(
+        alloc,
+        known,
+        &default.pre,
+        reading.theory.asked.atoms,
+        lines,
+    )?;
+    let allowed = judge_justs(alloc, reading, &premises, &[default], lines)?;
     Ok(judged_by(applies(is_member(set, number), shown, allowed)))
 }
 
@@ -175,23 +179,21 @@ fn judge_applying(
 fn judge_applied(
     alloc: Global,
     known: &mut Cnf,
-    asked: &Asked<'_>,
+    reading: &TheoryLines<'_>,
     set: Vars,
     number: u32,
     lines: &mut Lines<'_>,
 ) -> Result<Judged, ReportFault>
-    requires prepared { IsPrepared asked.now }
-    requires number { IsNumberOf asked.now.terms.now.justs.now number }
-    requires made { known.old ≡ clause_list asked.now.atoms.now (facts_of (theory_of asked.now)) }
+    requires number { IsNumberOf reading.now.terms.now.justs.now number }
+    requires made { known.old ≡ clause_list (theory_names reading.now.theory.now) (facts_of (theory_items reading.now.theory.now)) }
     ensures kept { OnOk result (known.new ≡ known.old) }
-    ensures exact { Tells (TellsVerdict asked.now.atoms.now (theory_of asked.now) (map (λ f. formula_of f.now) asked.now.beliefs.now) set)
-        result lines.new (applied_at (terms_of asked.now.terms.now) number lines.old) }
+    ensures exact { Tells (TellsVerdict (theory_names reading.now.theory.now) (theory_items reading.now.theory.now) (theory_beliefs reading.now.theory.now) set)
+        result lines.new (applied_at (terms_of reading.now.terms.now) number lines.old) }
 {
-    let premises = generated(alloc, asked, set)?;
     let vars = known.vars();
     let count = known.clauses().len();
-    push_added(alloc, known, asked, set)?;
-    let judged = judge_applying(alloc, known, asked, &premises, set, number, lines)?;
+    push_added(alloc, known, reading.theory, set)?;
+    let judged = judge_applying(alloc, known, reading, set, number, lines)?;
     known.cut(vars, count);
     Ok(judged)
 }
@@ -210,21 +212,20 @@ fn is_inside(set: Vars, told: Option<u32>) -> bool
 fn judge_fails(
     alloc: Global,
     known: &mut Cnf,
-    asked: &Asked<'_>,
+    reading: &TheoryLines<'_>,
     set: Vars,
     lines: &mut Lines<'_>,
 ) -> Result<Judged, ReportFault>
-    requires prepared { IsPrepared asked.now }
-    requires made { known.old ≡ clause_list asked.now.atoms.now (facts_of (theory_of asked.now)) }
+    requires made { known.old ≡ clause_list (theory_names reading.now.theory.now) (facts_of (theory_items reading.now.theory.now)) }
     ensures kept { OnOk result (known.new ≡ known.old) }
-    ensures exact { Tells (TellsVerdict asked.now.atoms.now (theory_of asked.now) (map (λ f. formula_of f.now) asked.now.beliefs.now) set)
-        result lines.new (or_absence (terms_of asked.now.terms.now) lines.old) }
+    ensures exact { Tells (TellsVerdict (theory_names reading.now.theory.now) (theory_items reading.now.theory.now) (theory_beliefs reading.now.theory.now) set)
+        result lines.new (or_absence (terms_of reading.now.terms.now) lines.old) }
 {
-    let premises = generated(alloc, asked, set)?;
+    let premises = generated(alloc, reading.theory, set)?;
     let vars = known.vars();
     let count = known.clauses().len();
-    push_added(alloc, known, asked, set)?;
-    let told = judge_absence(alloc, known, asked, &premises, None, lines)?;
+    push_added(alloc, known, reading.theory, set)?;
+    let told = judge_absence(alloc, known, reading, &premises, None, lines)?;
     known.cut(vars, count);
     Ok(judged_by(is_inside(set, told)))
 }
@@ -240,20 +241,23 @@ fn is_stuck(part: Vars, set: Vars, none_supported: bool) -> bool
 #[tactic(auto, unfolding(mcs_proof_lines::specs::Verdicts::ungrounded_at))]
 fn judge_ungrounded(
     alloc: Global,
-    asked: &Asked<'_>,
+    reading: &TheoryLines<'_>,
     set: Vars,
     part: Vars,
     lines: &mut Lines<'_>,
 ) -> Result<Judged, ReportFault>
-    requires prepared { IsPrepared asked.now }
-    requires inside { set < 2 ^ length asked.now.terms.now.justs.now }
-    ensures { Tells (TellsVerdict asked.now.atoms.now (theory_of asked.now) (map (λ f. formula_of f.now) asked.now.beliefs.now) set)
-        result lines.new (ungrounded_at (terms_of asked.now.terms.now) set part lines.old) }
+    requires inside { set < 2 ^ length reading.now.terms.now.justs.now }
+    ensures { Tells (TellsVerdict (theory_names reading.now.theory.now) (theory_items reading.now.theory.now) (theory_beliefs reading.now.theory.now) set)
+        result lines.new (ungrounded_at (terms_of reading.now.terms.now) set part lines.old) }
 {
-    let premises = generated(alloc, asked, part)?;
-    let others = chosen(alloc, asked.defaults, set.minus(part))?;
+    let premises = generated(alloc, reading.theory, part)?;
+    let others = chosen(alloc, reading.theory.defaults, set.minus(part))?;
     let goals = prerequisites(alloc, &others)?;
-    let denied = judge_all_no(asked.atoms, asked.terms.atoms, &premises, &goals, lines)?;
+    let named = Named {
+        asked: reading.theory.asked,
+        texts: reading.terms.atoms,
+    };
+    let denied = judge_all_no(&named, &premises, &goals, lines)?;
     Ok(judged_by(is_stuck(part, set, denied)))
 }
 
@@ -262,30 +266,29 @@ fn judge_ungrounded(
 fn judge_verdict(
     alloc: Global,
     known: &mut Cnf,
-    asked: &Asked<'_>,
+    reading: &TheoryLines<'_>,
     set: Vars,
     lines: &mut Lines<'_>,
 ) -> Result<Judged, ReportFault>
-    requires prepared { IsPrepared asked.now }
-    requires inside { set < 2 ^ length asked.now.terms.now.justs.now }
-    requires made { known.old ≡ clause_list asked.now.atoms.now (facts_of (theory_of asked.now)) }
+    requires inside { set < 2 ^ length reading.now.terms.now.justs.now }
+    requires made { known.old ≡ clause_list (theory_names reading.now.theory.now) (facts_of (theory_items reading.now.theory.now)) }
     ensures kept { OnOk result (known.new ≡ known.old) }
-    ensures exact { Tells (TellsVerdict asked.now.atoms.now (theory_of asked.now) (map (λ f. formula_of f.now) asked.now.beliefs.now) set)
-        result lines.new (verdict_at (terms_of asked.now.terms.now) set lines.old) }
+    ensures exact { Tells (TellsVerdict (theory_names reading.now.theory.now) (theory_items reading.now.theory.now) (theory_beliefs reading.now.theory.now) set)
+        result lines.new (verdict_at (terms_of reading.now.terms.now) set lines.old) }
 {
-    if let Some(number) = next_applied(asked.terms, lines) {
+    if let Some(number) = next_applied(reading.terms, lines) {
         lines.advance();
-        return judge_applied(alloc, known, asked, set, number, lines);
+        return judge_applied(alloc, known, reading, set, number, lines);
     }
-    if let Some(part) = next_defaults(b"ungrounded ", asked.terms, lines) {
+    if let Some(part) = next_defaults(b"ungrounded ", reading.terms, lines) {
         lines.advance();
-        return judge_ungrounded(alloc, asked, set, part, lines);
+        return judge_ungrounded(alloc, reading, set, part, lines);
     }
-    if let Some(numbers) = next_order(asked, lines) {
+    if let Some(numbers) = next_order(reading, lines) {
         lines.advance();
-        return judge_extension(alloc, known, asked, set, numbers, lines);
+        return judge_extension(alloc, known, reading, set, numbers, lines);
     }
-    judge_fails(alloc, known, asked, set, lines)
+    judge_fails(alloc, known, reading, set, lines)
 }
 
 /// Reads the line of the set, and judges the verdict on it. `known` has the clauses of the facts.
@@ -293,22 +296,21 @@ fn judge_verdict(
 fn judge_set(
     alloc: Global,
     known: &mut Cnf,
-    asked: &Asked<'_>,
+    reading: &TheoryLines<'_>,
     set: Vars,
     lines: &mut Lines<'_>,
 ) -> Result<Judged, ReportFault>
-    requires prepared { IsPrepared asked.now }
-    requires inside { set < 2 ^ length asked.now.terms.now.justs.now }
-    requires made { known.old ≡ clause_list asked.now.atoms.now (facts_of (theory_of asked.now)) }
+    requires inside { set < 2 ^ length reading.now.terms.now.justs.now }
+    requires made { known.old ≡ clause_list (theory_names reading.now.theory.now) (facts_of (theory_items reading.now.theory.now)) }
     ensures kept { OnOk result (known.new ≡ known.old) }
-    ensures exact { Tells (TellsVerdict asked.now.atoms.now (theory_of asked.now) (map (λ f. formula_of f.now) asked.now.beliefs.now) set)
-        result lines.new (set_at (terms_of asked.now.terms.now) set lines.old) }
+    ensures exact { Tells (TellsVerdict (theory_names reading.now.theory.now) (theory_items reading.now.theory.now) (theory_beliefs reading.now.theory.now) set)
+        result lines.new (set_at (terms_of reading.now.terms.now) set lines.old) }
 {
-    if !names_set(asked.terms, set, lines) {
+    if !names_set(reading.terms, set, lines) {
         return Err(out_of_place(lines));
     }
     lines.advance();
-    judge_verdict(alloc, known, asked, set, lines)
+    judge_verdict(alloc, known, reading, set, lines)
 }
 
 /// Appends the view that a verdict shows, if it shows one. Returns whether all verdicts are accepted, this one and
@@ -332,20 +334,19 @@ fn note(judged: Judged, are_right: bool, views: &mut Vec<Vars>) -> Result<bool, 
 fn judge_sets(
     alloc: Global,
     known: &mut Cnf,
-    asked: &Asked<'_>,
+    reading: &TheoryLines<'_>,
     lines: &mut Lines<'_>,
 ) -> Result<Option<Vec<Vars>>, ReportFault>
-    requires prepared { IsPrepared asked.now }
-    requires made { known.old ≡ clause_list asked.now.atoms.now (facts_of (theory_of asked.now)) }
-    ensures { Tells (AreViewsOf (IsAcceptedDefault asked.now.atoms.now (theory_of asked.now) (map (λ f. formula_of f.now) asked.now.beliefs.now)))
-        result lines.new (verdicts_at (terms_of asked.now.terms.now) lines.old) }
+    requires made { known.old ≡ clause_list (theory_names reading.now.theory.now) (facts_of (theory_items reading.now.theory.now)) }
+    ensures { Tells (AreViewsOf (IsAcceptedDefault (theory_names reading.now.theory.now) (theory_items reading.now.theory.now) (theory_beliefs reading.now.theory.now)))
+        result lines.new (verdicts_at (terms_of reading.now.terms.now) lines.old) }
 {
     let mut views = Vec::new(alloc);
     let mut are_right = true;
-    let mut left = asked.terms.places().number() + 1;
+    let mut left = reading.terms.places().number() + 1;
     let mut set: u64 = 0;
     while left > 0 {
-        match judge_set(alloc, known, asked, Vars::numbered(set), lines) {
+        match judge_set(alloc, known, reading, Vars::numbered(set), lines) {
             Ok(judged) => are_right = note(judged, are_right, &mut views)?,
             Err(fault) => return Err(fault),
         }
@@ -389,15 +390,18 @@ pub fn judge_verdicts(
 {
     let defaults = defaults_of(alloc, items)?;
     let facts = facts_with(alloc, items, heads)?;
-    let mut known = clauses_of(alloc, &facts, atoms)?;
+    let asked = Asked { atoms, beliefs };
+    let mut known = clauses_of(alloc, &asked, &facts)?;
     drop(facts);
-    let asked = Asked {
+    let question = AskedTheory {
+        asked: &asked,
         items,
         heads,
         defaults: &defaults,
-        beliefs,
-        atoms,
+    };
+    let reading = TheoryLines {
+        theory: &question,
         terms: theory,
     };
-    judge_sets(alloc, &mut known, &asked, lines)
+    judge_sets(alloc, &mut known, &reading, lines)
 }

@@ -1,5 +1,7 @@
 pub mod Searches
 pub mod Clauses
 pub mod Placing
+pub mod PlacingProofs
 pub mod Listings
 pub mod Splitting
+pub mod Asked

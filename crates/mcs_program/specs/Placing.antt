@@ -1,16 +1,11 @@
 -- Rules and beliefs by the places of their atoms among the names, and what is tested of sets of places.
-use Rattle.std.specs.Prelude.{◌≡◌, ℕ, ◌<◌, Bool, nat_eq, not, ◌&&◌, ◌||◌, false, List, map, get_or, length}
+use Rattle.std.specs.Prelude.{◌≡◌, ℕ, ◌<◌, Bool, nat_eq, not, ◌&&◌, ◌||◌, List, get_or, length}
 use Rattle.std.specs.List.{AllZip, list_any, list_all}
 use Rattle.mcs_sets.specs.Sets.{has, common, such_that}
-use Rattle.mcs_system.specs.Plain.{Name, Atom, ProgramRule}
+use Rattle.mcs_system.specs.Plain.{Name, ProgramRule}
 use Rattle.mcs_system.specs.Logic.{is_in, true_names}
-use Rattle.mcs_system.specs.Faults.{has_twins}
-use Rattle.mcs_cnf.specs.Entailments.{IsModelAt}
-use Rattle.mcs_evidence.specs.Programs.{rest_formulas}
 use Rattle.mcs_program.specs.declared.placing.PlacedRule.{PlacedRule}
 use Rattle.mcs_program.specs.declared.placing.Placing.{Placing}
-use Rattle.mcs_program.specs.declared.search.Search.{Search}
-use Rattle.mcs_program.specs.Searches.{IsProgramSearch}
 
 -- ---- tests of sets of places
 -- each of the first is in the second
@@ -64,8 +59,3 @@ pub record IsPlacedRule (names : List Name) (r : ProgramRule) (p : PlacedRule) :
 pub record IsPlacing (names : List Name) (rules : List ProgramRule) (beliefs : List Name) (p : Placing) : Type 0 where
   pub placed_rules : AllZip (IsPlacedRule names) rules p.rules.items
   pub placed_beliefs : AllZip (IsPlaceOf names) beliefs p.beliefs.items
-
--- where the one set of places is a model of what is known, so is the other
-abbrev pub StaysModel : Placing → Search → ℕ → ℕ → Type 0
-StaysModel p s model less = (names : List Name) (rules : List ProgramRule) (beliefs : List Name) → has_twins names ≡ false → IsPlacing names rules beliefs p → IsProgramSearch names rules (map Atom beliefs) s
-    → IsModelAt names (rest_formulas names rules (map Atom beliefs) s.smaller.items s.views.items) model → IsModelAt names (rest_formulas names rules (map Atom beliefs) s.smaller.items s.views.items) less

@@ -1,15 +1,17 @@
 //! Clauses over the variables of atoms alone: those of rules, and those that a view is another one.
 
 ghost use Rattle.std.specs.Prelude.{◌≡◌, ◌<◌, ◌≤◌, ◌^◌, [], ◌∷◌, ◌++◌, length, map, IfOk, OnOk, IsTrue};
+ghost use Rattle.mcs_system.specs.Logic.{is_in};
 ghost use Rattle.mcs_system.specs.Plain as plain;
 ghost use Rattle.mcs_system.specs.Seen.{rule_of};
-ghost use Rattle.mcs_evidence.specs.Programs.{rule_formula, other_formula, AreOverRules, IsOverRule};
-ghost use Rattle.mcs_evidence.specs.Pushing.{AreNamesOf};
 ghost use Rattle.mcs_cnf.specs.ClauseLists.{atom_number};
-ghost use Rattle.mcs_system.specs.Logic.{is_in};
+ghost use Rattle.mcs_evidence.specs.Programs.{rule_formula, other_formula, IsOverRule};
+ghost use Rattle.mcs_evidence.specs.Pushing.{AreNamesOf};
+ghost use Rattle.mcs_program.specs.Asked.{program_names, program_rules, program_beliefs, belief_names};
 ghost use Rattle.mcs_program.specs.Clauses.{literal_of, literals_of_names, rule_literals, other_literals, AddsFormula, AreMeantBy};
 ghost use Rattle.mcs_program.specs.Splitting.{value_formula};
 
+use crate::asked::LogicProgram;
 use mcs_base::{Memory, Vars};
 use mcs_cnf::{atom_number, push_clause};
 use mcs_sat::ClauseBase;
@@ -32,76 +34,70 @@ fn literal(sign: bool, variable: u64) -> i64
 /// Appends for each of the names the literal that it is true, or, if `sign` is false, that it is false.
 fn add_literals(
     literals: &mut Vec<i64>,
-    atoms: &[Name],
+    program: &LogicProgram<'_>,
     sign: bool,
     names: &[Name],
 ) -> Result<(), Memory>
-    requires few { length atoms.now ≤ 64 }
-    requires over { AreNamesOf atoms.now names.now }
-    ensures { IfOk result (λ _. literals.new.items ≡ literals.old.items ++ literals_of_names atoms.now sign names.now) }
+    requires { AreNamesOf (program_names program.now) names.now }
+    ensures { IfOk result (λ _. literals.new.items ≡ literals.old.items ++ literals_of_names (program_names program.now) sign names.now) }
 {
     for name in names {
-        literals.push(literal(sign, atom_number(atoms, name)))?;
+        literals.push(literal(sign, atom_number(program.atoms, name)))?;
     }
     Ok(())
 }
 
 /// The literals of the rule as a clause: a positive body atom is false, or a negative one or a head atom is true.
-fn rule_literals(alloc: Global, atoms: &[Name], rule: &ProgRule) -> Result<Vec<i64>, Memory>
-    requires few { length atoms.now ≤ 64 }
-    requires over { IsOverRule atoms.now (rule_of rule.now) }
-    ensures { IfOk result (λ literals. literals.items ≡ rule_literals atoms.now (rule_of rule.now)) }
+fn rule_literals(
+    alloc: Global,
+    program: &LogicProgram<'_>,
+    rule: &ProgRule,
+) -> Result<Vec<i64>, Memory>
+    requires { IsOverRule (program_names program.now) (rule_of rule.now) }
+    ensures { IfOk result (λ literals. literals.items ≡ rule_literals (program_names program.now) (rule_of rule.now)) }
 {
     let mut literals = Vec::new(alloc);
-    add_literals(&mut literals, atoms, false, &rule.pos)?;
-    add_literals(&mut literals, atoms, true, &rule.neg)?;
-    add_literals(&mut literals, atoms, true, &rule.head)?;
+    add_literals(&mut literals, program, false, &rule.pos)?;
+    add_literals(&mut literals, program, true, &rule.neg)?;
+    add_literals(&mut literals, program, true, &rule.head)?;
     Ok(literals)
 }
 
 /// Adds the clause of the rule.
-fn push_rule(alloc: Global, cnf: &mut Cnf, atoms: &[Name], rule: &ProgRule) -> Result<(), Memory>
-    requires few { length atoms.now ≤ 64 }
-    requires over { IsOverRule atoms.now (rule_of rule.now) }
-    requires room { length atoms.now ≤ cnf.old.vars }
-    ensures { IfOk result (λ _. AddsFormula atoms.now (rule_formula (rule_of rule.now)) cnf.old cnf.new) }
+fn push_rule(
+    alloc: Global,
+    cnf: &mut Cnf,
+    program: &LogicProgram<'_>,
+    rule: &ProgRule,
+) -> Result<(), Memory>
+    requires over { IsOverRule (program_names program.now) (rule_of rule.now) }
+    requires room { length (program_names program.now) ≤ cnf.old.vars }
+    ensures { IfOk result (λ _. AddsFormula (program_names program.now) (rule_formula (rule_of rule.now)) cnf.old cnf.new) }
 {
-    let literals = rule_literals(alloc, atoms, rule)?;
+    let literals = rule_literals(alloc, program, rule)?;
     push_clause(alloc, cnf, &literals)
 }
 
 /// The clauses of the rules.
-pub(crate) fn clauses_of_rules(
-    alloc: Global,
-    atoms: &[Name],
-    rules: &[ProgRule],
-) -> Result<Cnf, Memory>
-    requires few { length atoms.now ≤ 64 }
-    requires rules { AreOverRules atoms.now (map rule_of rules.now) }
-    ensures { IfOk result (AreMeantBy atoms.now (map rule_formula (map rule_of rules.now))) }
+pub(crate) fn clauses_of_rules(alloc: Global, program: &LogicProgram<'_>) -> Result<Cnf, Memory>
+    ensures { IfOk result (AreMeantBy (program_names program.now) (map rule_formula (program_rules program.now))) }
 {
-    let mut cnf = Cnf::new(alloc, atoms.len() as u64);
+    let rules = program.rules;
+    let mut cnf = Cnf::new(alloc, program.atoms.len() as u64);
     for rule in rules {
-        push_rule(alloc, &mut cnf, atoms, rule)?;
+        push_rule(alloc, &mut cnf, program, rule)?;
     }
     Ok(cnf)
 }
 
 /// The literals of the clause that the view of the beliefs is another one.
-fn other_literals(
-    alloc: Global,
-    atoms: &[Name],
-    beliefs: &[&Name],
-    view: Vars,
-) -> Result<Vec<i64>, Memory>
-    requires few { length atoms.now ≤ 64 }
-    requires few_beliefs { length beliefs.now ≤ 64 }
-    requires beliefs { AreNamesOf atoms.now (map (λ b. b.now) beliefs.now) }
-    ensures { IfOk result (λ literals. literals.items ≡ other_literals atoms.now 0 (map (λ b. b.now) beliefs.now) view) }
+fn other_literals(alloc: Global, program: &LogicProgram<'_>, view: Vars) -> Result<Vec<i64>, Memory>
+    ensures { IfOk result (λ literals. literals.items ≡ other_literals (program_names program.now) 0 (belief_names program.now) view) }
 {
+    let beliefs = program.beliefs;
     let mut literals = Vec::new(alloc);
     for (k, belief) in beliefs.iter().enumerate() {
-        literals.push(literal(!view.has(k as u32), atom_number(atoms, belief)))?;
+        literals.push(literal(!view.has(k as u32), atom_number(program.atoms, belief)))?;
     }
     Ok(literals)
 }
@@ -120,17 +116,13 @@ pub(crate) fn add_to(known: &mut ClauseBase, more: Cnf) -> Result<(), Memory>
 pub(crate) fn push_other(
     alloc: Global,
     known: &mut ClauseBase,
-    atoms: &[Name],
-    beliefs: &[&Name],
+    program: &LogicProgram<'_>,
     view: Vars,
 ) -> Result<(), Memory>
-    requires few { length atoms.now ≤ 64 }
-    requires few_beliefs { length beliefs.now ≤ 64 }
-    requires beliefs { AreNamesOf atoms.now (map (λ b. b.now) beliefs.now) }
-    requires room { length atoms.now ≤ known.old.vars }
-    ensures { IfOk result (λ _. AddsFormula atoms.now (other_formula (map plain.Atom (map (λ b. b.now) beliefs.now)) view) known.old known.new) }
+    requires { length (program_names program.now) ≤ known.old.vars }
+    ensures { IfOk result (λ _. AddsFormula (program_names program.now) (other_formula (program_beliefs program.now) view) known.old known.new) }
 {
-    let literals = other_literals(alloc, atoms, beliefs, view)?;
+    let literals = other_literals(alloc, program, view)?;
     let mut more = Cnf::new(alloc, known.vars());
     push_clause(alloc, &mut more, &literals)?;
     add_to(known, more)
@@ -139,15 +131,14 @@ pub(crate) fn push_other(
 /// Adds the clause that the belief has this value.
 pub(crate) fn push_value(
     known: &mut ClauseBase,
-    atoms: &[Name],
+    program: &LogicProgram<'_>,
     belief: &Name,
     value: bool,
 ) -> Result<(), Memory>
-    requires few { length atoms.now ≤ 64 }
-    requires over { IsTrue (is_in belief.now atoms.now) }
-    requires room { length atoms.now ≤ known.old.vars }
-    ensures clause { OnOk result (known.new ≡ record known.old { clauses = known.old.clauses ++ (literal_of value (atom_number atoms.now belief.now) ∷ []) ∷ [] }) }
-    ensures adds { OnOk result (AddsFormula atoms.now (value_formula (plain.Atom belief.now) value) known.old known.new) }
+    requires over { IsTrue (is_in belief.now (program_names program.now)) }
+    requires room { length (program_names program.now) ≤ known.old.vars }
+    ensures clause { OnOk result (known.new ≡ record known.old { clauses = known.old.clauses ++ (literal_of value (atom_number (program_names program.now) belief.now) ∷ []) ∷ [] }) }
+    ensures adds { OnOk result (AddsFormula (program_names program.now) (value_formula (plain.Atom belief.now) value) known.old known.new) }
 {
-    known.add(&[literal(value, atom_number(atoms, belief))])
+    known.add(&[literal(value, atom_number(program.atoms, belief))])
 }

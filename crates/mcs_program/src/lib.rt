@@ -2,9 +2,11 @@
 #![tactic(auto)]
 
 mod answer;
+mod asked;
 mod atom_clauses;
 mod listing;
 mod outputs;
+mod placed;
 mod placing;
 mod putting;
 mod search;

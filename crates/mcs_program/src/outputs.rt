@@ -12,9 +12,9 @@ ghost use Rattle.mcs_system.specs.Seen.{rule_of};
 ghost use Rattle.mcs_system.specs.Views.{IsAcceptedView};
 ghost use Rattle.mcs_trace.specs.Traces.{inferences_of};
 ghost use Rattle.mcs_evidence.specs.Programs.{program_shown_of, rest_formulas, AreOverRules, IsAcceptedProgram, IsRefutation};
-ghost use Rattle.mcs_evidence.specs.Pushing.{AreNamesOf};
-ghost use Rattle.mcs_program.specs.Searches.{IsProgramSearch, IsExhausted};
+ghost use Rattle.mcs_program.specs.Asked.{program_names, program_rules, program_beliefs, HasFoundAll, IsSearchFor};
 
+use crate::asked::LogicProgram;
 use crate::listing::list_all;
 use crate::search::{Search, find_all};
 use mcs_base::{Memory, Vars};
@@ -27,24 +27,24 @@ use std::alloc::Global;
 /// A trace that no model is left: each has one of these views, or one of the smaller sets undoes it. This has to be so.
 fn refute_rest(
     alloc: Global,
-    atoms: &[Name],
-    rules: &[ProgRule],
-    beliefs: &[&Name],
+    program: &LogicProgram<'_>,
     smaller: &[Vars],
     views: &[Vars],
 ) -> Result<Trace, Memory>
-    requires few { length atoms.now ≤ 64 }
-    requires few_beliefs { length beliefs.now ≤ 64 }
-    requires different { has_twins atoms.now ≡ false }
-    requires rules { AreOverRules atoms.now (map rule_of rules.now) }
-    requires beliefs { AreNamesOf atoms.now (map (λ b. b.now) beliefs.now) }
-    requires none { (a : List plain.Name) → ¬ IsTrue (holds_all a
-        (rest_formulas atoms.now (map rule_of rules.now) (map Atom (map (λ b. b.now) beliefs.now)) smaller.now views.now)) }
-    ensures { IfOk result (λ t. IsRefutation atoms.now
-        (rest_formulas atoms.now (map rule_of rules.now) (map Atom (map (λ b. b.now) beliefs.now)) smaller.now views.now) (inferences_of t)) }
+    requires { (a : List plain.Name) → ¬ IsTrue (holds_all a
+        (rest_formulas (program_names program.now) (program_rules program.now) (program_beliefs program.now) smaller.now views.now)) }
+    ensures { IfOk result (λ t. IsRefutation (program_names program.now)
+        (rest_formulas (program_names program.now) (program_rules program.now) (program_beliefs program.now) smaller.now views.now) (inferences_of t)) }
 {
-    let rest = rest_clauses(alloc, atoms, rules, beliefs, smaller, views)?;
-    let found = satisfy_from(alloc, &rest, atoms);
+    let rest = rest_clauses(
+        alloc,
+        program.atoms,
+        program.rules,
+        program.beliefs,
+        smaller,
+        views,
+    )?;
+    let found = satisfy_from(alloc, &rest, program.atoms);
     drop(rest);
     match found? {
         Satisfied::Refuted(trace) => Ok(trace),
@@ -66,19 +66,12 @@ fn numbers(alloc: Global, sets: &[Vars]) -> Result<Vec<u64>, Memory>
 /// The views, and the certificate, of a search that has found all answer sets.
 fn certified(
     alloc: Global,
-    atoms: &[Name],
-    rules: &[ProgRule],
-    beliefs: &[&Name],
+    program: &LogicProgram<'_>,
     search: Search,
 ) -> Result<(Vec<Vars>, ProgramCert), Memory>
-    requires few { length atoms.now ≤ 64 }
-    requires few_beliefs { length beliefs.now ≤ 64 }
-    requires different { has_twins atoms.now ≡ false }
-    requires rules { AreOverRules atoms.now (map rule_of rules.now) }
-    requires beliefs { AreNamesOf atoms.now (map (λ b. b.now) beliefs.now) }
-    requires search { IsProgramSearch atoms.now (map rule_of rules.now) (map Atom (map (λ b. b.now) beliefs.now)) search }
-    requires all { IsExhausted atoms.now (map rule_of rules.now) (map Atom (map (λ b. b.now) beliefs.now)) search }
-    ensures { IfOk result (λ r. IsAcceptedProgram atoms.now (map rule_of rules.now) (map Atom (map (λ b. b.now) beliefs.now)) r.0.items (program_shown_of r.1)) }
+    requires search { IsSearchFor program.now search }
+    requires all { HasFoundAll program.now search }
+    ensures { IfOk result (λ r. IsAcceptedProgram (program_names program.now) (program_rules program.now) (program_beliefs program.now) r.0.items (program_shown_of r.1)) }
 {
     let Search {
         known,
@@ -87,7 +80,7 @@ fn certified(
         models,
     } = search;
     drop(known);
-    match parts(alloc, atoms, rules, beliefs, &smaller, &views) {
+    match parts(alloc, program, &smaller, &views) {
         Ok((smaller, none)) => Ok((
             views,
             ProgramCert {
@@ -106,44 +99,30 @@ fn certified(
 /// The smaller sets and the trace of a certificate.
 fn parts(
     alloc: Global,
-    atoms: &[Name],
-    rules: &[ProgRule],
-    beliefs: &[&Name],
+    program: &LogicProgram<'_>,
     smaller: &[Vars],
     views: &[Vars],
 ) -> Result<(Vec<u64>, Trace), Memory>
-    requires few { length atoms.now ≤ 64 }
-    requires few_beliefs { length beliefs.now ≤ 64 }
-    requires different { has_twins atoms.now ≡ false }
-    requires rules { AreOverRules atoms.now (map rule_of rules.now) }
-    requires beliefs { AreNamesOf atoms.now (map (λ b. b.now) beliefs.now) }
-    requires none { (a : List plain.Name) → ¬ IsTrue (holds_all a
-        (rest_formulas atoms.now (map rule_of rules.now) (map Atom (map (λ b. b.now) beliefs.now)) smaller.now views.now)) }
+    requires { (a : List plain.Name) → ¬ IsTrue (holds_all a
+        (rest_formulas (program_names program.now) (program_rules program.now) (program_beliefs program.now) smaller.now views.now)) }
     ensures smaller { IfOk result (λ r. r.0.items ≡ smaller.now) }
-    ensures rest { IfOk result (λ r. IsRefutation atoms.now
-        (rest_formulas atoms.now (map rule_of rules.now) (map Atom (map (λ b. b.now) beliefs.now)) smaller.now views.now) (inferences_of r.1)) }
+    ensures rest { IfOk result (λ r. IsRefutation (program_names program.now)
+        (rest_formulas (program_names program.now) (program_rules program.now) (program_beliefs program.now) smaller.now views.now) (inferences_of r.1)) }
 {
     let numbers = numbers(alloc, smaller)?;
-    let none = refute_rest(alloc, atoms, rules, beliefs, smaller, views)?;
+    let none = refute_rest(alloc, program, smaller, views)?;
     Ok((numbers, none))
 }
 
 /// The views of the answer sets of the rules, and a certificate that they are all.
 fn found_and_shown(
     alloc: Global,
-    atoms: &[Name],
-    rules: &[ProgRule],
-    beliefs: &[&Name],
+    program: &LogicProgram<'_>,
 ) -> Result<(Vec<Vars>, ProgramCert), Memory>
-    requires few { length atoms.now ≤ 64 }
-    requires few_beliefs { length beliefs.now ≤ 64 }
-    requires different { has_twins atoms.now ≡ false }
-    requires rules { AreOverRules atoms.now (map rule_of rules.now) }
-    requires beliefs { AreNamesOf atoms.now (map (λ b. b.now) beliefs.now) }
-    ensures { IfOk result (λ r. IsAcceptedProgram atoms.now (map rule_of rules.now) (map Atom (map (λ b. b.now) beliefs.now)) r.0.items (program_shown_of r.1)) }
+    ensures { IfOk result (λ r. IsAcceptedProgram (program_names program.now) (program_rules program.now) (program_beliefs program.now) r.0.items (program_shown_of r.1)) }
 {
-    let search = find_all(alloc, atoms, rules, beliefs)?;
-    certified(alloc, atoms, rules, beliefs, search)
+    let search = find_all(alloc, program)?;
+    certified(alloc, program, search)
 }
 
 /// The views of the beliefs that a program with further facts accepts: for each of its answer sets (Gelfond & Lifschitz
@@ -191,7 +170,12 @@ pub fn answer_sets_from(
         (map Atom (map (λ b. b.now) beliefs.now)) r.0.items (program_shown_of r.1)) }
 {
     let all = with_facts(alloc, rules, added)?;
-    let result = found_and_shown(alloc, atoms, &all, beliefs);
+    let program = LogicProgram {
+        atoms,
+        rules: &all,
+        beliefs,
+    };
+    let result = found_and_shown(alloc, &program);
     drop(all);
     result
 }
@@ -214,7 +198,12 @@ pub fn list_answer_sets(
         (map Atom (map (λ b. b.now) beliefs.now))) StateBefore r.items) }
 {
     let all = with_facts(alloc, rules, added)?;
-    let result = list_all(alloc, atoms, &all, beliefs);
+    let program = LogicProgram {
+        atoms,
+        rules: &all,
+        beliefs,
+    };
+    let result = list_all(alloc, &program);
     drop(all);
     result
 }

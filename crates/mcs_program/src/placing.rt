@@ -1,15 +1,15 @@
 //! Rules and beliefs by the places of their atoms, and tests of sets of places.
 
-ghost use Rattle.std.specs.Prelude.{◌≡◌, ◌≤◌, false, length, map, IfOk, IsTrue};
+ghost use Rattle.std.specs.Prelude.{◌≡◌, IfOk, IsTrue};
 ghost use Rattle.std.specs.List.{AllZip, list_all};
-ghost use Rattle.mcs_system.specs.Faults.{has_twins};
 ghost use Rattle.mcs_system.specs.Logic.{is_in};
-ghost use Rattle.mcs_system.specs.Plain as plain;
 ghost use Rattle.mcs_system.specs.Seen.{rule_of};
-ghost use Rattle.mcs_evidence.specs.Programs.{AreOverRules, IsOverRule};
+ghost use Rattle.mcs_evidence.specs.Programs.{IsOverRule};
 ghost use Rattle.mcs_evidence.specs.Pushing.{AreNamesOf};
+ghost use Rattle.mcs_program.specs.Asked.{program_names, program_rules, belief_names};
 ghost use Rattle.mcs_program.specs.Placing.{places_within, do_meet, placed_holds, placed_blocked, lies_beside, IsPlaceOf, ArePlaces, IsPlacedRule, IsPlacing};
 
+use crate::asked::LogicProgram;
 use mcs_base::{Memory, Vars};
 use mcs_cnf::atom_number;
 use mcs_system::{Name, ProgRule};
@@ -45,41 +45,35 @@ fn do_meet(places: Vars, others: Vars) -> bool
 }
 
 /// The place of the name among the atoms.
-fn place_of_name(atoms: &[Name], name: &Name) -> u32
-    requires few { length atoms.now ≤ 64 }
-    requires different { has_twins atoms.now ≡ false }
-    requires over { IsTrue (is_in name.now atoms.now) }
-    ensures { IsPlaceOf atoms.now name.now result }
+fn place_of_name(program: &LogicProgram<'_>, name: &Name) -> u32
+    requires { IsTrue (is_in name.now (program_names program.now)) }
+    ensures { IsPlaceOf (program_names program.now) name.now result }
 {
-    atom_number(atoms, name) as u32 - 1
+    atom_number(program.atoms, name) as u32 - 1
 }
 
 /// The places of the names among the atoms.
-fn places_of(atoms: &[Name], names: &[Name]) -> Vars
-    requires few { length atoms.now ≤ 64 }
-    requires different { has_twins atoms.now ≡ false }
-    requires over { AreNamesOf atoms.now names.now }
-    ensures { ArePlaces atoms.now names.now result }
+fn places_of(program: &LogicProgram<'_>, names: &[Name]) -> Vars
+    requires { AreNamesOf (program_names program.now) names.now }
+    ensures { ArePlaces (program_names program.now) names.now result }
 {
     let mut places = Vars::empty();
     for name in names {
-        places = places.with(place_of_name(atoms, name));
+        places = places.with(place_of_name(program, name));
     }
     places
 }
 
 impl PlacedRule {
     /// The rule, by the places of its atoms.
-    fn of(atoms: &[Name], rule: &ProgRule) -> PlacedRule
-        requires few { length atoms.now ≤ 64 }
-        requires different { has_twins atoms.now ≡ false }
-        requires over { IsOverRule atoms.now (rule_of rule.now) }
-        ensures { IsPlacedRule atoms.now (rule_of rule.now) result }
+    fn of(program: &LogicProgram<'_>, rule: &ProgRule) -> PlacedRule
+        requires { IsOverRule (program_names program.now) (rule_of rule.now) }
+        ensures { IsPlacedRule (program_names program.now) (rule_of rule.now) result }
     {
         PlacedRule {
-            head: places_of(atoms, &rule.head),
-            pos: places_of(atoms, &rule.pos),
-            neg: places_of(atoms, &rule.neg),
+            head: places_of(program, &rule.head),
+            pos: places_of(program, &rule.pos),
+            neg: places_of(program, &rule.neg),
         }
     }
 
@@ -120,57 +114,36 @@ pub(crate) fn lies_beside(rules: &[PlacedRule], places: Vars, less: Vars) -> boo
 }
 
 /// The rules, by the places of their atoms, in order.
-fn placed_rules(
-    alloc: Global,
-    atoms: &[Name],
-    rules: &[ProgRule],
-) -> Result<Vec<PlacedRule>, Memory>
-    requires few { length atoms.now ≤ 64 }
-    requires different { has_twins atoms.now ≡ false }
-    requires rules { AreOverRules atoms.now (map rule_of rules.now) }
-    ensures { IfOk result (λ placed. AllZip (IsPlacedRule atoms.now) (map rule_of rules.now) placed.items) }
+fn placed_rules(alloc: Global, program: &LogicProgram<'_>) -> Result<Vec<PlacedRule>, Memory>
+    ensures { IfOk result (λ placed. AllZip (IsPlacedRule (program_names program.now)) (program_rules program.now) placed.items) }
 {
+    let rules = program.rules;
     let mut placed = Vec::new(alloc);
     for rule in rules {
-        placed.push(PlacedRule::of(atoms, rule))?;
+        placed.push(PlacedRule::of(program, rule))?;
     }
     Ok(placed)
 }
 
 /// The places of the beliefs, in order.
-fn places_in_order(alloc: Global, atoms: &[Name], beliefs: &[&Name]) -> Result<Vec<u32>, Memory>
-    requires few { length atoms.now ≤ 64 }
-    requires different { has_twins atoms.now ≡ false }
-    requires beliefs { AreNamesOf atoms.now (map (λ b. b.now) beliefs.now) }
-    ensures { IfOk result (λ places. AllZip (IsPlaceOf atoms.now) (map (λ b. b.now) beliefs.now) places.items) }
+fn places_in_order(alloc: Global, program: &LogicProgram<'_>) -> Result<Vec<u32>, Memory>
+    ensures { IfOk result (λ places. AllZip (IsPlaceOf (program_names program.now)) (belief_names program.now) places.items) }
 {
+    let beliefs = program.beliefs;
     let mut places = Vec::new(alloc);
     for belief in beliefs {
-        places.push(place_of_name(atoms, belief))?;
+        places.push(place_of_name(program, belief))?;
     }
     Ok(places)
 }
 
 impl Placing {
     /// The rules and the beliefs, by the places of their atoms.
-    pub(crate) fn of(
-        alloc: Global,
-        atoms: &[Name],
-        rules: &[ProgRule],
-        beliefs: &[&Name],
-    ) -> Result<Placing, Memory>
-        requires few { length atoms.now ≤ 64 }
-        requires few_beliefs { length beliefs.now ≤ 64 }
-        requires different { has_twins atoms.now ≡ false }
-        requires rules { AreOverRules atoms.now (map rule_of rules.now) }
-        requires beliefs { AreNamesOf atoms.now (map (λ b. b.now) beliefs.now) }
-        ensures { IfOk result (IsPlacing atoms.now (map rule_of rules.now) (map (λ b. b.now) beliefs.now)) }
+    pub(crate) fn of(alloc: Global, program: &LogicProgram<'_>) -> Result<Placing, Memory>
+        ensures { IfOk result (IsPlacing (program_names program.now) (program_rules program.now) (belief_names program.now)) }
     {
-        let places = places_in_order(alloc, atoms, beliefs)?;
-        let rules = placed_rules(alloc, atoms, rules)?;
-        Ok(Placing {
-            rules,
-            beliefs: places,
-        })
+        let beliefs = places_in_order(alloc, program)?;
+        let rules = placed_rules(alloc, program)?;
+        Ok(Placing { rules, beliefs })
     }
 }

@@ -1,21 +1,18 @@
 //! The search for answer sets with a certificate.
 
-ghost use Rattle.std.specs.Prelude.{◌≡◌, ◌<◌, ◌≤◌, List, false, length, map, IfOk, IsTrue};
-ghost use Rattle.std.specs.List.{AllByRecursion, AllZip};
+ghost use Rattle.std.specs.Prelude.{◌≡◌, ◌<◌, ◌≤◌, List, false, length, IfOk, IsTrue};
 ghost use Rattle.mcs_sets.specs.Orders.{StateBefore};
 ghost use Rattle.mcs_base.specs.Listings.{IsAscending};
-ghost use Rattle.mcs_system.specs.Faults.{has_twins};
 ghost use Rattle.mcs_system.specs.Plain as plain;
-ghost use Rattle.mcs_system.specs.Seen.{rule_of};
 ghost use Rattle.mcs_trace.specs.Traces.{inferences_of};
 ghost use Rattle.mcs_cnf.specs.Entailments.{IsModelAt};
-ghost use Rattle.mcs_evidence.specs.Programs.{rest_formulas, AreOverRules};
-ghost use Rattle.mcs_evidence.specs.Pushing.{AreNamesOf};
-ghost use Rattle.mcs_program.specs.Searches.{IsFoundFor, IsProgramSearch, IsExcluded, IsPlaced, IsViewListed, IsExhausted, sets_left};
-ghost use Rattle.mcs_program.specs.Placing.{IsPlaceOf, IsPlacing};
+ghost use Rattle.mcs_program.specs.Asked.{program_names, program_rules, program_beliefs, search_rest, search_left, HasFoundAll, IsSearchFor};
+ghost use Rattle.mcs_program.specs.Searches.{IsFoundFor, IsProgramSearch, IsExcluded, IsPlaced, IsViewListed};
 
 use crate::answer::find_model;
+use crate::asked::LogicProgram;
 use crate::atom_clauses::{add_to, clauses_of_rules};
+use crate::placed::PlacedProgram;
 use crate::placing::Placing;
 use crate::putting::put_view;
 use crate::small::{is_possible, made_small};
@@ -24,7 +21,6 @@ use mcs_base::{Memory, Vars};
 use mcs_classical::{Satisfied, satisfy_from};
 use mcs_evidence::{push_beside, smaller_clauses};
 use mcs_sat::ClauseBase;
-use mcs_system::{Name, ProgRule};
 use mcs_trace::{AnswerSetCert, Cnf, Trace};
 use std::alloc::Global;
 
@@ -41,12 +37,10 @@ pub struct Search {
 
 impl Search {
     /// The state at first: the rules are known.
-    fn new(alloc: Global, atoms: &[Name], rules: &[ProgRule]) -> Result<Search, Memory>
-        requires few { length atoms.now ≤ 64 }
-        requires rules { AreOverRules atoms.now (map rule_of rules.now) }
-        ensures { IfOk result (λ s. (beliefs : List plain.Formula) → IsProgramSearch atoms.now (map rule_of rules.now) beliefs s) }
+    fn new(alloc: Global, program: &LogicProgram<'_>) -> Result<Search, Memory>
+        ensures { IfOk result (λ s. (beliefs : List plain.Formula) → IsProgramSearch (program_names program.now) (program_rules program.now) beliefs s) }
     {
-        let cnf = clauses_of_rules(alloc, atoms, rules)?;
+        let cnf = clauses_of_rules(alloc, program)?;
         let known = ClauseBase::of(alloc, &cnf);
         drop(cnf);
         let known = known?;
@@ -62,17 +56,14 @@ impl Search {
     fn exclude(
         &mut self,
         alloc: Global,
-        atoms: &[Name],
-        rules: &[ProgRule],
+        program: &LogicProgram<'_>,
         less: Vars,
     ) -> Result<(), Memory>
-        requires few { length atoms.now ≤ 64 }
-        requires rules { AreOverRules atoms.now (map rule_of rules.now) }
-        requires room { length atoms.now ≤ self.old.known.vars }
-        ensures { IfOk result (λ _. IsExcluded atoms.now (map rule_of rules.now) less self.old self.new) }
+        requires { length (program_names program.now) ≤ self.old.known.vars }
+        ensures { IfOk result (λ _. IsExcluded (program_names program.now) (program_rules program.now) less self.old self.new) }
     {
         let mut more = Cnf::new(alloc, self.known.vars());
-        push_beside(alloc, &mut more, atoms, rules, less)?;
+        push_beside(alloc, &mut more, program.atoms, program.rules, less)?;
         add_to(&mut self.known, more)?;
         self.smaller.push(less)?;
         Ok(())
@@ -83,50 +74,28 @@ impl Search {
     fn put_view(
         &mut self,
         alloc: Global,
-        atoms: &[Name],
-        beliefs: &[&Name],
-        placing: &Placing,
+        placed: &PlacedProgram<'_>,
         model: Vars,
     ) -> Result<usize, Memory>
-        requires few { length atoms.now ≤ 64 }
-        requires few_beliefs { length beliefs.now ≤ 64 }
-        requires beliefs { AreNamesOf atoms.now (map (λ b. b.now) beliefs.now) }
-        requires placed { AllZip (IsPlaceOf atoms.now) (map (λ b. b.now) beliefs.now) placing.now.beliefs.items }
-        requires room { length atoms.now ≤ self.old.known.vars }
+        requires room { length (program_names placed.now.program.now) ≤ self.old.known.vars }
         requires ascending { IsAscending StateBefore self.old.views.items }
-        ensures { IfOk result (λ place. IsPlaced atoms.now (map plain.Atom (map (λ b. b.now) beliefs.now)) model place self.old self.new) }
+        ensures { IfOk result (λ place. IsPlaced (program_names placed.now.program.now) (program_beliefs placed.now.program.now) model place self.old self.new) }
     {
-        put_view(
-            alloc,
-            &mut self.known,
-            &mut self.views,
-            atoms,
-            beliefs,
-            placing,
-            model,
-        )
+        put_view(alloc, &mut self.known, &mut self.views, placed, model)
     }
 
     /// Lists the model, with the trace that it is an answer set.
     fn list(
         &mut self,
         alloc: Global,
-        atoms: &[Name],
-        beliefs: &[&Name],
-        placing: &Placing,
+        placed: &PlacedProgram<'_>,
         model: Vars,
         minimal: Trace,
     ) -> Result<(), Memory>
-        requires few { length atoms.now ≤ 64 }
-        requires few_beliefs { length beliefs.now ≤ 64 }
-        requires beliefs { AreNamesOf atoms.now (map (λ b. b.now) beliefs.now) }
-        requires placed { AllZip (IsPlaceOf atoms.now) (map (λ b. b.now) beliefs.now) placing.now.beliefs.items }
-        requires room { length atoms.now ≤ self.old.known.vars }
-        requires ascending { IsAscending StateBefore self.old.views.items }
-        requires one_each { length self.old.models.items ≡ length self.old.views.items }
-        ensures { IfOk result (λ _. IsViewListed atoms.now (map plain.Atom (map (λ b. b.now) beliefs.now)) model (inferences_of minimal) self.old self.new) }
+        requires { IsSearchFor placed.now.program.now self.old }
+        ensures { IfOk result (λ _. IsViewListed (program_names placed.now.program.now) (program_beliefs placed.now.program.now) model (inferences_of minimal) self.old self.new) }
     {
-        match self.put_view(alloc, atoms, beliefs, placing, model) {
+        match self.put_view(alloc, placed, model) {
             Ok(place) => {
                 let shown = AnswerSetCert {
                     model: model.number(),
@@ -146,81 +115,49 @@ impl Search {
     fn take_up(
         &mut self,
         alloc: Global,
-        atoms: &[Name],
-        rules: &[ProgRule],
-        beliefs: &[&Name],
-        placing: &Placing,
+        placed: &PlacedProgram<'_>,
         model: Vars,
     ) -> Result<(), Memory>
-        requires few { length atoms.now ≤ 64 }
-        requires few_beliefs { length beliefs.now ≤ 64 }
-        requires different { has_twins atoms.now ≡ false }
-        requires rules { AreOverRules atoms.now (map rule_of rules.now) }
-        requires beliefs { AreNamesOf atoms.now (map (λ b. b.now) beliefs.now) }
-        requires placed { IsPlacing atoms.now (map rule_of rules.now) (map (λ b. b.now) beliefs.now) placing.now }
-        requires search { IsProgramSearch atoms.now (map rule_of rules.now) (map plain.Atom (map (λ b. b.now) beliefs.now)) self.old }
-        requires model { IsModelAt atoms.now
-            (rest_formulas atoms.now (map rule_of rules.now) (map plain.Atom (map (λ b. b.now) beliefs.now)) self.old.smaller.items self.old.views.items) model }
-        ensures search { IfOk result (λ _. IsProgramSearch atoms.now (map rule_of rules.now) (map plain.Atom (map (λ b. b.now) beliefs.now)) self.new) }
-        ensures less { IfOk result (λ _. sets_left atoms.now (map rule_of rules.now) (map plain.Atom (map (λ b. b.now) beliefs.now)) self.new
-            < sets_left atoms.now (map rule_of rules.now) (map plain.Atom (map (λ b. b.now) beliefs.now)) self.old) }
+        requires search { IsSearchFor placed.now.program.now self.old }
+        requires model { IsModelAt (program_names placed.now.program.now) (search_rest placed.now.program.now self.old) model }
+        ensures search { IfOk result (λ _. IsSearchFor placed.now.program.now self.new) }
+        ensures less { IfOk result (λ _. search_left placed.now.program.now self.new < search_left placed.now.program.now self.old) }
     {
-        let smaller = smaller_clauses(alloc, atoms, rules, model)?;
-        let found = satisfy_from(alloc, &smaller, atoms);
+        let program = placed.program;
+        let smaller = smaller_clauses(alloc, program.atoms, program.rules, model)?;
+        let found = satisfy_from(alloc, &smaller, program.atoms);
         drop(smaller);
         match found? {
-            Satisfied::Model(less) => self.exclude(alloc, atoms, rules, less),
-            Satisfied::Refuted(minimal) => self.list(
-                alloc, atoms, beliefs, placing, model, minimal,
-            ),
+            Satisfied::Model(less) => self.exclude(alloc, program, less),
+            Satisfied::Refuted(minimal) => self.list(alloc, placed, model, minimal),
         }
     }
 
     /// A model of what is known, or `None` if there is none. If the set of all atoms is one, it is taken without a
     /// search. In a program without constraints this is so until a view with all beliefs is found.
-    fn next_model(&mut self, atoms: &[Name], placing: &Placing) -> Result<Option<Vars>, Memory>
-        requires few { length atoms.now ≤ 64 }
-        requires few_beliefs { length placing.now.beliefs.items ≤ 64 }
-        requires places { AllByRecursion (λ k. k < 64) placing.now.beliefs.items }
-        requires different { has_twins atoms.now ≡ false }
-        requires room { length atoms.now ≤ self.old.known.vars }
-        requires ascending { IsAscending StateBefore self.old.views.items }
+    fn next_model(&mut self, placed: &PlacedProgram<'_>) -> Result<Option<Vars>, Memory>
+        requires { IsSearchFor placed.now.program.now self.old }
         ensures same { self.new ≡ self.old }
-        ensures found { IfOk result (λ found. (rules : List plain.ProgramRule) (ns : List plain.Name) → IsPlacing atoms.now rules ns placing.now → IsProgramSearch atoms.now rules (map plain.Atom ns) self.old
-            → IsFoundFor atoms.now (rest_formulas atoms.now rules (map plain.Atom ns) self.old.smaller.items self.old.views.items) found) }
+        ensures found { IfOk result (IsFoundFor (program_names placed.now.program.now) (search_rest placed.now.program.now self.old)) }
     {
-        let all = all_places(atoms.len());
-        if is_possible(placing, self, all) {
+        let all = all_places(placed.program.atoms.len());
+        if is_possible(placed, self, all) {
             return Ok(Some(all));
         }
-        find_model(&mut self.known, atoms)
+        find_model(&mut self.known, placed.program)
     }
 
     /// Searches for one more model of what is known, minimizes it and takes it. Returns whether there was one.
-    fn step(
-        &mut self,
-        alloc: Global,
-        atoms: &[Name],
-        rules: &[ProgRule],
-        beliefs: &[&Name],
-        placing: &Placing,
-    ) -> Result<bool, Memory>
-        requires few { length atoms.now ≤ 64 }
-        requires few_beliefs { length beliefs.now ≤ 64 }
-        requires different { has_twins atoms.now ≡ false }
-        requires rules { AreOverRules atoms.now (map rule_of rules.now) }
-        requires beliefs { AreNamesOf atoms.now (map (λ b. b.now) beliefs.now) }
-        requires placed { IsPlacing atoms.now (map rule_of rules.now) (map (λ b. b.now) beliefs.now) placing.now }
-        requires search { IsProgramSearch atoms.now (map rule_of rules.now) (map plain.Atom (map (λ b. b.now) beliefs.now)) self.old }
-        ensures search { IfOk result (λ _. IsProgramSearch atoms.now (map rule_of rules.now) (map plain.Atom (map (λ b. b.now) beliefs.now)) self.new) }
-        ensures goes { IfOk result (λ goes. IsTrue goes → sets_left atoms.now (map rule_of rules.now) (map plain.Atom (map (λ b. b.now) beliefs.now)) self.new
-            < sets_left atoms.now (map rule_of rules.now) (map plain.Atom (map (λ b. b.now) beliefs.now)) self.old) }
-        ensures ends { IfOk result (λ goes. goes ≡ false → IsExhausted atoms.now (map rule_of rules.now) (map plain.Atom (map (λ b. b.now) beliefs.now)) self.new) }
+    fn step(&mut self, alloc: Global, placed: &PlacedProgram<'_>) -> Result<bool, Memory>
+        requires { IsSearchFor placed.now.program.now self.old }
+        ensures search { IfOk result (λ _. IsSearchFor placed.now.program.now self.new) }
+        ensures goes { IfOk result (λ goes. IsTrue goes → search_left placed.now.program.now self.new < search_left placed.now.program.now self.old) }
+        ensures ends { IfOk result (λ goes. goes ≡ false → HasFoundAll placed.now.program.now self.new) }
     {
-        match self.next_model(atoms, placing)? {
+        match self.next_model(placed)? {
             Some(model) => {
-                let small = made_small(placing, self, model);
-                self.take_up(alloc, atoms, rules, beliefs, placing, small)?;
+                let small = made_small(placed, self, model);
+                self.take_up(alloc, placed, small)?;
                 Ok(true)
             }
             None => Ok(false),
@@ -229,25 +166,13 @@ impl Search {
 }
 
 /// Takes steps until all answer sets are found.
-fn go_on(
-    alloc: Global,
-    atoms: &[Name],
-    rules: &[ProgRule],
-    beliefs: &[&Name],
-    placing: &Placing,
-) -> Result<Search, Memory>
-    requires few { length atoms.now ≤ 64 }
-    requires few_beliefs { length beliefs.now ≤ 64 }
-    requires different { has_twins atoms.now ≡ false }
-    requires rules { AreOverRules atoms.now (map rule_of rules.now) }
-    requires beliefs { AreNamesOf atoms.now (map (λ b. b.now) beliefs.now) }
-    requires placed { IsPlacing atoms.now (map rule_of rules.now) (map (λ b. b.now) beliefs.now) placing.now }
-    ensures search { IfOk result (IsProgramSearch atoms.now (map rule_of rules.now) (map plain.Atom (map (λ b. b.now) beliefs.now))) }
-    ensures all { IfOk result (IsExhausted atoms.now (map rule_of rules.now) (map plain.Atom (map (λ b. b.now) beliefs.now))) }
+fn go_on(alloc: Global, placed: &PlacedProgram<'_>) -> Result<Search, Memory>
+    ensures search { IfOk result (IsSearchFor placed.now.program.now) }
+    ensures all { IfOk result (HasFoundAll placed.now.program.now) }
 {
-    let mut search = Search::new(alloc, atoms, rules)?;
+    let mut search = Search::new(alloc, placed.program)?;
     loop {
-        match search.step(alloc, atoms, rules, beliefs, placing) {
+        match search.step(alloc, placed) {
             Ok(true) => {}
             Ok(false) => return Ok(search),
             Err(want) => {
@@ -259,22 +184,13 @@ fn go_on(
 }
 
 /// Searches until all answer sets are found.
-pub(crate) fn find_all(
-    alloc: Global,
-    atoms: &[Name],
-    rules: &[ProgRule],
-    beliefs: &[&Name],
-) -> Result<Search, Memory>
-    requires few { length atoms.now ≤ 64 }
-    requires few_beliefs { length beliefs.now ≤ 64 }
-    requires different { has_twins atoms.now ≡ false }
-    requires rules { AreOverRules atoms.now (map rule_of rules.now) }
-    requires beliefs { AreNamesOf atoms.now (map (λ b. b.now) beliefs.now) }
-    ensures search { IfOk result (IsProgramSearch atoms.now (map rule_of rules.now) (map plain.Atom (map (λ b. b.now) beliefs.now))) }
-    ensures all { IfOk result (IsExhausted atoms.now (map rule_of rules.now) (map plain.Atom (map (λ b. b.now) beliefs.now))) }
+pub(crate) fn find_all(alloc: Global, program: &LogicProgram<'_>) -> Result<Search, Memory>
+    ensures search { IfOk result (IsSearchFor program.now) }
+    ensures all { IfOk result (HasFoundAll program.now) }
 {
-    let placing = Placing::of(alloc, atoms, rules, beliefs)?;
-    let found = go_on(alloc, atoms, rules, beliefs, &placing);
-    drop(placing);
+    let placing = Placing::of(alloc, program)?;
+    let placed = PlacedProgram { program, placing };
+    let found = go_on(alloc, &placed);
+    drop(placed);
     found
 }

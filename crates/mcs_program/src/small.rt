@@ -1,13 +1,15 @@
 //! Minimizing models of what is known.
 
-ghost use Rattle.std.specs.Prelude.{◌≡◌, ◌<◌, ◌≤◌, not, length};
-ghost use Rattle.std.specs.List.{AllByRecursion, list_all};
+ghost use Rattle.std.specs.Prelude.{◌≡◌, ◌<◌, not};
+ghost use Rattle.std.specs.List.{list_all};
 ghost use Rattle.mcs_sets.specs.Sets.{Within};
 ghost use Rattle.mcs_sets.specs.Orders.{StateBefore};
 ghost use Rattle.mcs_base.specs.Listings.{IsAscending};
-ghost use Rattle.mcs_program.specs.Placing.{lies_beside, may_be_model, StaysModel};
+ghost use Rattle.mcs_program.specs.Asked.{StaysModel};
+ghost use Rattle.mcs_program.specs.Placing.{lies_beside, may_be_model};
 
-use crate::placing::{PlacedRule, Placing, lies_beside, rules_hold};
+use crate::placed::PlacedProgram;
+use crate::placing::{PlacedRule, lies_beside, rules_hold};
 use crate::search::Search;
 use crate::view::{is_new, view_of};
 use mcs_base::Vars;
@@ -22,31 +24,27 @@ fn none_beside(rules: &[PlacedRule], smaller: &[Vars], places: Vars) -> bool
 }
 
 /// Whether all that is known holds if exactly the atoms at these places are true.
-pub(crate) fn is_possible(placing: &Placing, search: &Search, places: Vars) -> bool
-    requires few { length placing.now.beliefs.items ≤ 64 }
-    requires places { AllByRecursion (λ k. k < 64) placing.now.beliefs.items }
-    requires ascending { IsAscending StateBefore search.now.views.items }
-    ensures { result ≡ may_be_model placing.now search.now.smaller.items search.now.views.items places }
+pub(crate) fn is_possible(placed: &PlacedProgram<'_>, search: &Search, places: Vars) -> bool
+    requires { IsAscending StateBefore search.now.views.items }
+    ensures { result ≡ may_be_model placed.now.placing search.now.smaller.items search.now.views.items places }
 {
-    rules_hold(&placing.rules, places)
-        && is_new(&search.views, view_of(&placing.beliefs, places))
-        && none_beside(&placing.rules, &search.smaller, places)
+    rules_hold(&placed.placing.rules, places)
+        && is_new(&search.views, view_of(placed, places))
+        && none_beside(&placed.placing.rules, &search.smaller, places)
 }
 
 /// The model without the atom at the place, if all that is known holds for it; otherwise the model.
-fn without_atom(placing: &Placing, search: &Search, model: Vars, place: u32) -> Vars
-    requires few { length placing.now.beliefs.items ≤ 64 }
-    requires places { AllByRecursion (λ k. k < 64) placing.now.beliefs.items }
+fn without_atom(placed: &PlacedProgram<'_>, search: &Search, model: Vars, place: u32) -> Vars
     requires ascending { IsAscending StateBefore search.now.views.items }
     requires place { place < 64 }
-    ensures stays { StaysModel placing.now search.now model result }
+    ensures stays { StaysModel placed.now.program.now search.now model result }
     ensures within { Within result model }
 {
     if !model.has(place) {
         return model;
     }
     let less = model.without(place);
-    if is_possible(placing, search, less) {
+    if is_possible(placed, search, less) {
         less
     } else {
         model
@@ -54,16 +52,14 @@ fn without_atom(placing: &Placing, search: &Search, model: Vars, place: u32) -> 
 }
 
 /// The model after its atoms were left out one after the other, as far as all that is known still holds.
-pub(crate) fn made_small(placing: &Placing, search: &Search, model: Vars) -> Vars
-    requires few { length placing.now.beliefs.items ≤ 64 }
-    requires places { AllByRecursion (λ k. k < 64) placing.now.beliefs.items }
-    requires ascending { IsAscending StateBefore search.now.views.items }
-    ensures stays { StaysModel placing.now search.now model result }
+pub(crate) fn made_small(placed: &PlacedProgram<'_>, search: &Search, model: Vars) -> Vars
+    requires { IsAscending StateBefore search.now.views.items }
+    ensures stays { StaysModel placed.now.program.now search.now model result }
     ensures within { Within result model }
 {
     let mut small = model;
     for place in 0..64 {
-        small = without_atom(placing, search, small, place);
+        small = without_atom(placed, search, small, place);
     }
     small
 }

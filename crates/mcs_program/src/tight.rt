@@ -1,14 +1,12 @@
 //! Whether a program is tight: no positive body leads from an atom on without end.
 
-ghost use Rattle.std.specs.Prelude.{◌≡◌, ◌≤◌, false, true, List, length, IsTrue};
+ghost use Rattle.std.specs.Prelude.{◌≡◌, true, IsTrue};
 ghost use Rattle.std.specs.List.{AllByRecursion};
-ghost use Rattle.mcs_system.specs.Faults.{has_twins};
-ghost use Rattle.mcs_system.specs.Logic.{is_in};
-ghost use Rattle.mcs_system.specs.Plain as plain;
-ghost use Rattle.mcs_evidence.specs.Supports.{IsBased};
-ghost use Rattle.mcs_program.specs.Placing.{places_within, do_meet, IsPlacing};
+ghost use Rattle.mcs_program.specs.Asked.{IsTight};
+ghost use Rattle.mcs_program.specs.Placing.{places_within, do_meet};
 
-use crate::placing::{PlacedRule, Placing, lies_within};
+use crate::placed::PlacedProgram;
+use crate::placing::{PlacedRule, lies_within};
 use crate::view::all_places;
 use mcs_base::Vars;
 
@@ -28,15 +26,14 @@ fn based_on(rules: &[PlacedRule], set: Vars, places: Vars) -> Vars
 /// Whether no positive body of the rules leads from one of the atoms on without end. Starting from the empty set, the
 /// atoms whose positive bodies lie within the set are added again and again, until all atoms are in it or nothing
 /// changes.
-pub(crate) fn is_tight(placing: &Placing, count: usize) -> bool
-    requires { count ≤ 64 }
-    ensures { IsTrue result → (names : List plain.Name) (rules : List plain.ProgramRule) (beliefs : List plain.Name) → length names ≡ count → has_twins names ≡ false
-        → IsPlacing names rules beliefs placing.now → (n : plain.Name) → IsTrue (is_in n names) → IsBased rules n }
+pub(crate) fn is_tight(placed: &PlacedProgram<'_>) -> bool
+    ensures { IsTrue result → IsTight placed.now.program.now }
 {
-    let all = all_places(count);
+    let atoms = placed.program.atoms;
+    let all = all_places(atoms.len());
     let mut set = Vars::empty();
-    for _ in 0..count {
-        let more = based_on(&placing.rules, set, all);
+    for _ in 0..atoms.len() {
+        let more = based_on(&placed.placing.rules, set, all);
         if more == set {
             return set == all;
         }

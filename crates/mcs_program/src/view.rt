@@ -7,6 +7,7 @@ ghost use Rattle.mcs_sets.specs.Orders.{StateBefore};
 ghost use Rattle.mcs_base.specs.Listings.{IsAscending};
 ghost use Rattle.mcs_program.specs.Placing.{view_at, is_other};
 
+use crate::placed::PlacedProgram;
 use mcs_base::Vars;
 
 /// The set of the first `count` places.
@@ -21,19 +22,26 @@ pub(crate) fn all_places(count: usize) -> Vars
     places
 }
 
-/// The numbers of the beliefs that are true if exactly the atoms at the places of the model are.
-pub(crate) fn view_of(beliefs: &[u32], model: Vars) -> Vars
-    requires few { length beliefs.now ≤ 64 }
-    requires places { AllByRecursion (λ k. k < 64) beliefs.now }
-    ensures { result ≡ view_at beliefs.now model }
+/// The numbers of the places that the model has.
+fn numbers_in(places: &[u32], model: Vars) -> Vars
+    requires few { length places.now ≤ 64 }
+    requires places { AllByRecursion (λ k. k < 64) places.now }
+    ensures { result ≡ view_at places.now model }
 {
     let mut view = Vars::empty();
-    for (k, place) in beliefs.iter().enumerate() {
+    for (k, place) in places.iter().enumerate() {
         if model.has(*place) {
             view = view.with(k as u32);
         }
     }
     view
+}
+
+/// The numbers of the beliefs that are true if exactly the atoms at the places of the model are.
+pub(crate) fn view_of(placed: &PlacedProgram<'_>, model: Vars) -> Vars
+    ensures { result ≡ view_at placed.now.placing.beliefs.items model }
+{
+    numbers_in(&placed.placing.beliefs, model)
 }
 
 /// How many of the views come before this one.

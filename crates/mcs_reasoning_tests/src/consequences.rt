@@ -1,15 +1,9 @@
 //! What follows with assumptions, and is kept.
 
-ghost use Rattle.std.specs.Prelude.{◌≡◌, ◌<◌, ◌≤◌, false, length, map};
-ghost use Rattle.std.specs.List.{AllByRecursion};
-ghost use Rattle.mcs_system.specs.Faults.{has_twins};
-ghost use Rattle.mcs_system.specs.Seen.{formula_of};
-ghost use Rattle.mcs_cnf.specs.ClauseLists.{AreOver};
-ghost use Rattle.mcs_classical.specs.declared.assumptions.Assumption as declared;
-
 use crate::contexts::{Claim, holds, may_be_asked};
+use mcs_asked::Asked;
 use mcs_base::{Active, Memory};
-use mcs_classical::{Assumption, Consequences};
+use mcs_classical::{Assumption, Consequences, Given};
 use mcs_cnf::{clauses, is_over};
 use mcs_sat::ClauseBase;
 use mcs_system::{Formula, Name};
@@ -38,61 +32,23 @@ fn are_told(
     alloc: Global,
     known: &mut ClauseBase,
     found: &mut Consequences,
-    assumptions: &[Assumption<'_>],
-    goals: &[&Formula],
-    atoms: &[Name],
+    given: &Given<'_>,
     question: (u64, u64),
-) -> Result<bool, Memory>
-    requires few { length atoms.now ≤ 64 }
-    requires few_goals { length goals.now ≤ 64 }
-    requires different { has_twins atoms.now ≡ false }
-    requires numbers { AllByRecursion (λ (a : declared.Assumption). a.number < 64) assumptions.now }
-    requires assumptions { AreOver atoms.now (map (λ (a : declared.Assumption). formula_of a.formula.now) assumptions.now) }
-    requires goals { AreOver atoms.now (map (λ g. formula_of g.now) goals.now) }
-{
+) -> Result<bool, Memory> {
     let (set, follow) = question;
-    if known.vars() < atoms.len() as u64 {
+    if known.vars() < given.asked.atoms.len() as u64 {
         return Ok(false);
     }
-    let told = found.following(
-        alloc,
-        known,
-        assumptions,
-        Active::numbered(set),
-        goals,
-        atoms,
-    )?;
+    let told = found.following(alloc, known, given, Active::numbered(set))?;
     Ok(told.number() == follow)
 }
 
 /// Whether each question is answered as it should be.
-fn are_answered(
-    alloc: Global,
-    known: &mut ClauseBase,
-    assumptions: &[Assumption<'_>],
-    goals: &[&Formula],
-    atoms: &[Name],
-) -> bool
-    requires few { length atoms.now ≤ 64 }
-    requires few_goals { length goals.now ≤ 64 }
-    requires different { has_twins atoms.now ≡ false }
-    requires numbers { AllByRecursion (λ (a : declared.Assumption). a.number < 64) assumptions.now }
-    requires assumptions { AreOver atoms.now (map (λ (a : declared.Assumption). formula_of a.formula.now) assumptions.now) }
-    requires goals { AreOver atoms.now (map (λ g. formula_of g.now) goals.now) }
-{
+fn are_answered(alloc: Global, known: &mut ClauseBase, given: &Given<'_>) -> bool {
     let mut found = Consequences::new(alloc);
     let mut are_right = true;
     for question in QUESTIONS {
-        let told = are_told(
-            alloc,
-            known,
-            &mut found,
-            assumptions,
-            goals,
-            atoms,
-            *question,
-        );
-        are_right &= told == Ok(true);
+        are_right &= are_told(alloc, known, &mut found, given, *question) == Ok(true);
     }
     drop(found);
     are_right
@@ -127,11 +83,20 @@ pub(crate) fn are_kept(
             formula: s,
         },
     ];
+    let beliefs = [q, t, either];
+    let asked = Asked {
+        atoms,
+        beliefs: &beliefs,
+    };
+    let given = Given {
+        asked: &asked,
+        assumptions: &assumptions,
+    };
     let cnf = clauses(alloc, &formulas[..2], atoms)?;
     let known = ClauseBase::of(alloc, &cnf);
     drop(cnf);
     let mut known = known?;
-    let answered = are_answered(alloc, &mut known, &assumptions, &[q, t, either], atoms);
+    let answered = are_answered(alloc, &mut known, &given);
     drop(known);
     Ok(answered)
 }

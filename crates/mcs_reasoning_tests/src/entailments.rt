@@ -1,8 +1,9 @@
 //! What follows from formulas, and what is shown of it.
 
 use crate::contexts::{Claim, holds, may_be_asked};
+use mcs_asked::Asked;
 use mcs_base::{Memory, Vars};
-use mcs_classical::{entails, entails_from, outputs};
+use mcs_classical::{Given, entails, entails_from, outputs};
 use mcs_cnf::{are_over, clauses, is_over};
 use mcs_system::{Formula, Name};
 use mcs_trace::Entail;
@@ -49,7 +50,15 @@ fn is_told_by_clauses(
     if known.vars() < atoms.len() as u64 {
         return Ok(false);
     }
-    let entail = entails_from(alloc, &mut known, goal, atoms);
+    let asked = Asked {
+        atoms,
+        beliefs: &[],
+    };
+    let given = Given {
+        asked: &asked,
+        assumptions: &[],
+    };
+    let entail = entails_from(alloc, &mut known, goal, &given);
     drop(known);
     let entail = entail?;
     let is_shown = is_shown(&entail, against);

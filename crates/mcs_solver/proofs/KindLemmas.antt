@@ -119,6 +119,17 @@ made_there m i d known is made c is' =
     let same : d ≡ c = (let e : Some d ≡ Some c = sym is ∙ is' in cc) in
     subst (λ (x : Context). IsMadeOf (atoms_of m i) x.kb (heads_into m i) (beliefs_at m (variables_of m i)) known) same made
 
+-- the same where the names, the heads and the beliefs are told otherwise
+module _ (m : System) (i : ℕ) (d : Context) (names : List Name) (xs : List Assumption) (beliefs : List Formula) (there : slice_get m.contexts i ≡ Some d)
+    (own : names ≡ atoms_of m i) (told : (rules : ℕ) → assumed rules xs ≡ heads_into m i rules) (asked : beliefs ≡ beliefs_at m (variables_of m i)) where
+  pub made_asked : (known : Option Known) → IsMadeOfContext m i known → IsMadeOf names d.kb (λ rules. assumed rules xs) beliefs known
+  made_asked known made = subst (λ (ns : List Name). IsMadeOf ns d.kb (λ rules. assumed rules xs) beliefs known) (sym own) (subst (λ (bs : List Formula). IsMadeOf (atoms_of m i) d.kb (λ rules. assumed rules xs) bs known) (sym asked)
+      (made_for (atoms_of m i) (heads_into m i) (λ rules. assumed rules xs) (beliefs_at m (variables_of m i)) (λ rules. sym (told rules)) d.kb known (made d there)))
+
+  pub asked_made : (known : Option Known) → IsMadeOf names d.kb (λ rules. assumed rules xs) beliefs known → IsMadeOfContext m i known
+  asked_made known made = made_there m i d known there (made_for (atoms_of m i) (λ rules. assumed rules xs) (heads_into m i) (beliefs_at m (variables_of m i)) told d.kb known
+      (subst (λ (ns : List Name). IsMadeOf ns d.kb (λ rules. assumed rules xs) (beliefs_at m (variables_of m i)) known) own (subst (λ (bs : List Formula). IsMadeOf names d.kb (λ rules. assumed rules xs) bs known) asked made)))
+
 -- ---- what others have found
 none_made : (names : List Name) (kb : Kb) (heads : ℕ → List Formula) (beliefs : List Formula) → IsMadeOf names kb heads beliefs None
 none_made names (Classical fs) heads beliefs = tt

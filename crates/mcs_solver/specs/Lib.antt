@@ -1,3 +1,4 @@
 pub mod Kinds
 pub mod Certified
 pub mod Solvers
+pub mod Questions

@@ -5,6 +5,7 @@ mod assuming;
 mod keeping;
 mod known;
 mod parts;
+mod question;
 mod solver;
 mod views;
 

@@ -10,9 +10,12 @@ ghost use Rattle.mcs_solver.specs.Certified.{IsCertified};
 
 use crate::assuming::assumptions_into;
 use crate::known::Known;
+use crate::question::Question;
 use crate::views::accepted_views;
+use mcs_asked::Asked;
 use mcs_asking::{AnswerCert, beliefs_of, parts_at};
 use mcs_base::{Active, Memory, Vars};
+use mcs_classical::Given;
 use mcs_system::System;
 use std::alloc::Global;
 
@@ -52,16 +55,20 @@ pub(crate) fn parts_with(
     let assumptions = assumptions_into(alloc, system, context)?;
     let beliefs = beliefs_of(alloc, system, context)?;
     let knows = &system.contexts()[context as usize].kb;
-    let (views, cert) = accepted_views(
-        alloc,
-        certify,
-        known,
-        knows,
-        &assumptions,
+    let asked = Asked {
+        atoms: system.atoms_of(context),
+        beliefs: &beliefs,
+    };
+    let given = Given {
+        asked: &asked,
+        assumptions: &assumptions,
+    };
+    let question = Question {
+        given: &given,
         rules,
-        &beliefs,
-        system.atoms_of(context),
-    )?;
+        certify,
+    };
+    let (views, cert) = accepted_views(alloc, known, knows, &question)?;
     match parts_at(alloc, system.vars_of(context), &views) {
         Ok(parts) => Ok((parts, cert)),
         Err(want) => {

@@ -1,31 +1,31 @@
 //! What a knowledge base accepts with heads, as views of beliefs, by the logic of its kind.
 
-ghost use Rattle.std.specs.Prelude.{◌≡◌, ◌≤◌, ◌<◌, ℕ, List, [], ◌∷◌, ◌++◌, false, None, length, map, IfOk, OnOk, IsTrue};
+ghost use Rattle.std.specs.Prelude.{◌≡◌, ◌≤◌, ℕ, List, [], ◌∷◌, None, length, map, IfOk, OnOk, IsTrue};
 ghost use Rattle.std.specs.List.{AllByRecursion};
 ghost use Rattle.mcs_sets.specs.Orders.{StateBefore};
 ghost use Rattle.mcs_base.specs.Listings.{IsListing};
-ghost use Rattle.mcs_system.specs.Faults.{has_twins, is_atom, default_count};
-ghost use Rattle.mcs_system.specs.Logic.{with_heads};
+ghost use Rattle.mcs_system.specs.Faults.{is_atom, default_count};
 ghost use Rattle.mcs_system.specs.Plain.{Classical, DefaultTheory, Program};
 ghost use Rattle.mcs_system.specs.Plain as plain;
 ghost use Rattle.mcs_system.specs.Seen.{formula_of, item_of, rule_of, kb_of};
 ghost use Rattle.mcs_system.specs.Views.{IsAcceptedView};
 ghost use Rattle.mcs_cnf.specs.Classical.{certificate_of};
 ghost use Rattle.mcs_cnf.specs.ClauseLists.{AreOver, clause_list, with_formulas};
-ghost use Rattle.mcs_classical.specs.Assumptions.{assumed};
-ghost use Rattle.mcs_classical.specs.Consequences.{AreConsequences};
-ghost use Rattle.mcs_classical.specs.declared.assumptions.Assumption as declared;
+ghost use Rattle.mcs_classical.specs.Given.{given_names, given_beliefs, AreConsequencesOf};
 ghost use Rattle.mcs_evidence.specs.Defaults.{AreOverItems, defaults_of};
 ghost use Rattle.mcs_evidence.specs.Programs.{AreOverRules};
 ghost use Rattle.mcs_asking.specs.Certificates.{IsAcceptedFor};
 ghost use Rattle.mcs_asking.specs.Kinds.{IsOverKb, AreOfKind};
-ghost use Rattle.mcs_solver.specs.Kinds.{IsOnlyView, IsShownView, IsMadeOf, IsMadeOfFormulas, IsMadeOfItems};
 ghost use Rattle.mcs_solver.specs.Certified.{IsCertified};
+ghost use Rattle.mcs_solver.specs.Kinds.{IsOnlyView, IsShownView, IsMadeOf, IsMadeOfFormulas, IsMadeOfItems};
+ghost use Rattle.mcs_solver.specs.Questions.{asked_names, asked_beliefs, asked_heads, AreAnswer, IsAnswerShown, IsMadeFor};
 
 use crate::known::Known;
+use crate::question::Question;
+use mcs_asked::Asked;
 use mcs_asking::AnswerCert;
-use mcs_base::{Active, Memory, Vars};
-use mcs_classical::{Assumption, Consequences, add_formulas, assumed, outputs_in};
+use mcs_base::{Memory, Vars};
+use mcs_classical::{Consequences, Given, add_formulas, assumed, outputs_in};
 use mcs_default::{TheoryBase, extensions_from};
 use mcs_program::{answer_sets_from, list_answer_sets};
 use mcs_sat::ClauseBase;
@@ -40,25 +40,20 @@ fn view_with(
     alloc: Global,
     known: &mut ClauseBase,
     heads: &[&Formula],
-    beliefs: &[&Formula],
-    atoms: &[Name],
+    given: &Given<'_>,
 ) -> Result<(Vars, ClassicalCert), Memory>
-    requires few { length atoms.now ≤ 64 }
-    requires few_beliefs { length beliefs.now ≤ 64 }
-    requires different { has_twins atoms.now ≡ false }
-    requires heads { AreOver atoms.now (map (λ f. formula_of f.now) heads.now) }
-    requires beliefs { AreOver atoms.now (map (λ f. formula_of f.now) beliefs.now) }
-    requires room { length atoms.now ≤ known.old.vars }
+    requires heads { AreOver (given_names given.now) (map (λ f. formula_of f.now) heads.now) }
+    requires room { length (given_names given.now) ≤ known.old.vars }
     ensures kept { known.new ≡ known.old }
     ensures exact { IfOk result
-        (λ r. IsOnlyView atoms.now known.old (map (λ f. formula_of f.now) heads.now) (map (λ f. formula_of f.now) beliefs.now) r.0) }
+        (λ r. IsOnlyView (given_names given.now) known.old (map (λ f. formula_of f.now) heads.now) (given_beliefs given.now) r.0) }
     ensures shown { IfOk result
-        (λ r. IsShownView atoms.now known.old (map (λ f. formula_of f.now) heads.now) (map (λ f. formula_of f.now) beliefs.now) r.0 (certificate_of r.1)) }
+        (λ r. IsShownView (given_names given.now) known.old (map (λ f. formula_of f.now) heads.now) (given_beliefs given.now) r.0 (certificate_of r.1)) }
 {
     let vars = known.vars();
     let count = known.count();
-    add_formulas(alloc, known, heads, atoms)?;
-    let shown = outputs_in(alloc, known, beliefs, atoms);
+    add_formulas(alloc, known, heads, given.asked.atoms)?;
+    let shown = outputs_in(alloc, known, given);
     known.cut(vars, count);
     shown
 }
@@ -102,22 +97,20 @@ fn kept_formulas(
     alloc: Global,
     known: &mut Option<Known>,
     formulas: &[Formula],
-    beliefs: &[&Formula],
-    atoms: &[Name],
+    asked: &Asked<'_>,
 ) -> Result<(ClauseBase, Consequences), Memory>
-    requires over { AreOver atoms.now (map formula_of formulas.now) }
-    requires few_beliefs { length beliefs.now ≤ 64 }
+    requires { AreOver asked.now.atoms.now (map formula_of formulas.now) }
     ensures made { IfOk result (λ r. (heads : ℕ → List plain.Formula)
-        → IsMadeOf atoms.now (Classical (map formula_of formulas.now)) heads (map (λ f. formula_of f.now) beliefs.now) known.old
-        → IsMadeOfFormulas atoms.now (map formula_of formulas.now) heads (map (λ f. formula_of f.now) beliefs.now) r.0 r.1) }
+        → IsMadeOf asked.now.atoms.now (Classical (map formula_of formulas.now)) heads (map (λ f. formula_of f.now) asked.now.beliefs.now) known.old
+        → IsMadeOfFormulas asked.now.atoms.now (map formula_of formulas.now) heads (map (λ f. formula_of f.now) asked.now.beliefs.now) r.0 r.1) }
     ensures none { known.new ≡ None }
 {
     match known.take() {
         Some(Known::Classical { clauses, found }) => Ok((clauses, found)),
         other => {
             drop(other);
-            let found = Consequences::of(alloc, formulas, beliefs)?;
-            match made_clauses(alloc, formulas, atoms) {
+            let found = Consequences::of(alloc, formulas, asked)?;
+            match made_clauses(alloc, formulas, asked.atoms) {
                 Ok(clauses) => Ok((clauses, found)),
                 Err(error) => {
                     drop(found);
@@ -128,44 +121,30 @@ fn kept_formulas(
     }
 }
 
-/// The one view that a classical context accepts with the heads of the rules, with a certificate if `certify` holds.
-/// `clauses` are those of its formulas. Without a certificate, what was found before is used as far as possible, and
-/// what is found is kept.
+/// The one view that a classical context accepts. `clauses` are those of its formulas. Without a certificate, what was
+/// found before is used as far as possible, and what is found is kept.
 fn followed_view(
     alloc: Global,
-    certify: bool,
     clauses: &mut ClauseBase,
     found: &mut Consequences,
-    assumptions: &[Assumption<'_>],
-    rules: Active,
-    beliefs: &[&Formula],
-    atoms: &[Name],
+    question: &Question<'_>,
 ) -> Result<(Vars, Option<AnswerCert>), Memory>
-    requires few { length atoms.now ≤ 64 }
-    requires few_beliefs { length beliefs.now ≤ 64 }
-    requires different { has_twins atoms.now ≡ false }
-    requires numbers { AllByRecursion (λ (a : declared.Assumption). a.number < 64) assumptions.now }
-    requires assumptions { AreOver atoms.now (map (λ (a : declared.Assumption). formula_of a.formula.now) assumptions.now) }
-    requires beliefs { AreOver atoms.now (map (λ f. formula_of f.now) beliefs.now) }
-    requires room { length atoms.now ≤ clauses.old.vars }
+    requires { length (asked_names question.now) ≤ clauses.old.vars }
     ensures kept { clauses.new ≡ clauses.old }
-    ensures right { (fs : List plain.Formula) → clauses.old ≡ clause_list atoms.now fs → AreOver atoms.now fs
-        → AreConsequences fs assumptions.now (map (λ f. formula_of f.now) beliefs.now) found.old
-        → AreConsequences fs assumptions.now (map (λ f. formula_of f.now) beliefs.now) found.new }
-    ensures exact { IfOk result (λ r. (fs : List plain.Formula) → clauses.old ≡ clause_list atoms.now fs → AreOver atoms.now fs
-        → AreConsequences fs assumptions.now (map (λ f. formula_of f.now) beliefs.now) found.old
-        → IsListing (IsAcceptedView (Classical (fs ++ assumed rules assumptions.now)) (map (λ f. formula_of f.now) beliefs.now)) StateBefore (r.0 ∷ [])) }
-    ensures certified { IfOk result (λ r. (fs : List plain.Formula) → clauses.old ≡ clause_list atoms.now fs → AreOver atoms.now fs
-        → IsCertified certify
-        (IsAcceptedFor atoms.now (Classical (fs ++ assumed rules assumptions.now)) (map (λ f. formula_of f.now) beliefs.now) (r.0 ∷ []))
-        r.1) }
+    ensures right { (fs : List plain.Formula) → clauses.old ≡ clause_list (asked_names question.now) fs → AreOver (asked_names question.now) fs
+        → AreConsequencesOf question.now.given.now fs found.old → AreConsequencesOf question.now.given.now fs found.new }
+    ensures exact { IfOk result (λ r. (fs : List plain.Formula) → clauses.old ≡ clause_list (asked_names question.now) fs → AreOver (asked_names question.now) fs
+        → AreConsequencesOf question.now.given.now fs found.old → AreAnswer question.now (Classical fs) (r.0 ∷ [])) }
+    ensures certified { IfOk result (λ r. (fs : List plain.Formula) → clauses.old ≡ clause_list (asked_names question.now) fs → AreOver (asked_names question.now) fs
+        → IsAnswerShown question.now (Classical fs) (r.0 ∷ []) r.1) }
 {
-    if certify {
-        let heads = assumed(alloc, assumptions, rules)?;
-        let (view, cert) = view_with(alloc, clauses, &heads, beliefs, atoms)?;
+    let given = question.given;
+    if question.certify {
+        let heads = assumed(alloc, given.assumptions, question.rules)?;
+        let (view, cert) = view_with(alloc, clauses, &heads, given)?;
         Ok((view, Some(AnswerCert::Classical(cert))))
     } else {
-        let view = found.following(alloc, clauses, assumptions, rules, beliefs, atoms)?;
+        let view = found.following(alloc, clauses, given, question.rules)?;
         Ok((view, None))
     }
 }
@@ -189,49 +168,25 @@ fn view_of_nothing(alloc: Global, certify: bool) -> Result<(Vec<Vars>, Option<An
     Ok((views, Some(AnswerCert::Classical(cert))))
 }
 
-/// The views that a classical context accepts with the heads of the rules, with a certificate if `certify` holds. The
-/// clauses of its formulas are kept once they are made, with what was found to follow. Where no belief is asked for,
-/// none are made.
+/// The views that a classical context accepts. The clauses of its formulas are kept once they are made, with what was
+/// found to follow. Where no belief is asked for, none are made.
 fn classical_views(
     alloc: Global,
-    certify: bool,
     known: &mut Option<Known>,
     formulas: &[Formula],
-    assumptions: &[Assumption<'_>],
-    rules: Active,
-    beliefs: &[&Formula],
-    atoms: &[Name],
+    question: &Question<'_>,
 ) -> Result<(Vec<Vars>, Option<AnswerCert>), Memory>
-    requires few { length atoms.now ≤ 64 }
-    requires few_beliefs { length beliefs.now ≤ 64 }
-    requires different { has_twins atoms.now ≡ false }
-    requires formulas { AreOver atoms.now (map formula_of formulas.now) }
-    requires numbers { AllByRecursion (λ (a : declared.Assumption). a.number < 64) assumptions.now }
-    requires assumptions { AreOver atoms.now (map (λ (a : declared.Assumption). formula_of a.formula.now) assumptions.now) }
-    requires beliefs { AreOver atoms.now (map (λ f. formula_of f.now) beliefs.now) }
-    requires made { IsMadeOf atoms.now (Classical (map formula_of formulas.now)) (λ set. assumed set assumptions.now) (map (λ f. formula_of f.now) beliefs.now) known.old }
-    ensures made { IsMadeOf atoms.now (Classical (map formula_of formulas.now)) (λ set. assumed set assumptions.now) (map (λ f. formula_of f.now) beliefs.now) known.new }
-    ensures exact { IfOk result (λ r. IsListing
-        (IsAcceptedView (with_heads (Classical (map formula_of formulas.now)) (assumed rules assumptions.now)) (map (λ f. formula_of f.now) beliefs.now))
-        StateBefore r.0.items) }
-    ensures certified { IfOk result (λ r. IsCertified certify
-        (IsAcceptedFor atoms.now (with_heads (Classical (map formula_of formulas.now)) (assumed rules assumptions.now)) (map (λ f. formula_of f.now) beliefs.now) r.0.items)
-        r.1) }
+    requires formulas { AreOver (asked_names question.now) (map formula_of formulas.now) }
+    requires made { IsMadeFor question.now (Classical (map formula_of formulas.now)) known.old }
+    ensures made { IsMadeFor question.now (Classical (map formula_of formulas.now)) known.new }
+    ensures exact { IfOk result (λ r. AreAnswer question.now (Classical (map formula_of formulas.now)) r.0.items) }
+    ensures certified { IfOk result (λ r. IsAnswerShown question.now (Classical (map formula_of formulas.now)) r.0.items r.1) }
 {
-    if beliefs.is_empty() {
-        return view_of_nothing(alloc, certify);
+    if question.given.asked.beliefs.is_empty() {
+        return view_of_nothing(alloc, question.certify);
     }
-    let (mut clauses, mut found) = kept_formulas(alloc, known, formulas, beliefs, atoms)?;
-    let shown = followed_view(
-        alloc,
-        certify,
-        &mut clauses,
-        &mut found,
-        assumptions,
-        rules,
-        beliefs,
-        atoms,
-    );
+    let (mut clauses, mut found) = kept_formulas(alloc, known, formulas, question.given.asked)?;
+    let shown = followed_view(alloc, &mut clauses, &mut found, question);
     *known = Some(Known::Classical { clauses, found });
     let (view, cert) = shown?;
     let mut views = Vec::new(alloc);
@@ -249,93 +204,69 @@ fn kept_theory(
     alloc: Global,
     known: &mut Option<Known>,
     items: &[TheoryItem],
-    atoms: &[Name],
+    asked: &Asked<'_>,
 ) -> Result<TheoryBase, Memory>
-    requires few { length atoms.now ≤ 64 }
-    requires items { AreOverItems atoms.now (map item_of items.now) }
+    requires { AreOverItems asked.now.atoms.now (map item_of items.now) }
     ensures made { IfOk result (λ base. (heads : ℕ → List plain.Formula) (beliefs : List plain.Formula)
-        → IsMadeOf atoms.now (DefaultTheory (map item_of items.now)) heads beliefs known.old
-        → IsMadeOfItems atoms.now (map item_of items.now) heads base) }
+        → IsMadeOf asked.now.atoms.now (DefaultTheory (map item_of items.now)) heads beliefs known.old
+        → IsMadeOfItems asked.now.atoms.now (map item_of items.now) heads base) }
     ensures none { known.new ≡ None }
 {
     match known.take() {
         Some(Known::Theory(base)) => Ok(base),
         other => {
             drop(other);
-            TheoryBase::new(alloc, items, atoms)
+            TheoryBase::new(alloc, items, asked.atoms)
         }
     }
 }
 
-/// The views that a default theory accepts with the heads of the rules, with a certificate if `certify` holds. Without
-/// a certificate, what was found before is used as far as possible, and what is found is kept.
+/// The views that a default theory accepts. Without a certificate, what was found before is used as far as possible,
+/// and what is found is kept.
 fn theory_views(
     alloc: Global,
-    certify: bool,
     known: &mut Option<Known>,
     items: &[TheoryItem],
-    assumptions: &[Assumption<'_>],
-    rules: Active,
-    beliefs: &[&Formula],
-    atoms: &[Name],
+    question: &Question<'_>,
 ) -> Result<(Vec<Vars>, Option<AnswerCert>), Memory>
-    requires few { length atoms.now ≤ 64 }
-    requires few_beliefs { length beliefs.now ≤ 64 }
     requires few_defaults { length (defaults_of (map item_of items.now)) ≤ 10 }
-    requires different { has_twins atoms.now ≡ false }
-    requires items { AreOverItems atoms.now (map item_of items.now) }
-    requires numbers { AllByRecursion (λ (a : declared.Assumption). a.number < 64) assumptions.now }
-    requires assumptions { AreOver atoms.now (map (λ (a : declared.Assumption). formula_of a.formula.now) assumptions.now) }
-    requires beliefs { AreOver atoms.now (map (λ f. formula_of f.now) beliefs.now) }
-    requires made { IsMadeOf atoms.now (DefaultTheory (map item_of items.now)) (λ set. assumed set assumptions.now) (map (λ f. formula_of f.now) beliefs.now) known.old }
-    ensures made { IsMadeOf atoms.now (DefaultTheory (map item_of items.now)) (λ set. assumed set assumptions.now) (map (λ f. formula_of f.now) beliefs.now) known.new }
-    ensures exact { IfOk result (λ r. IsListing
-        (IsAcceptedView (with_heads (DefaultTheory (map item_of items.now)) (assumed rules assumptions.now)) (map (λ f. formula_of f.now) beliefs.now))
-        StateBefore r.0.items) }
-    ensures certified { IfOk result (λ r. IsCertified certify
-        (IsAcceptedFor atoms.now (with_heads (DefaultTheory (map item_of items.now)) (assumed rules assumptions.now)) (map (λ f. formula_of f.now) beliefs.now) r.0.items)
-        r.1) }
+    requires items { AreOverItems (asked_names question.now) (map item_of items.now) }
+    requires made { IsMadeFor question.now (DefaultTheory (map item_of items.now)) known.old }
+    ensures made { IsMadeFor question.now (DefaultTheory (map item_of items.now)) known.new }
+    ensures exact { IfOk result (λ r. AreAnswer question.now (DefaultTheory (map item_of items.now)) r.0.items) }
+    ensures certified { IfOk result (λ r. IsAnswerShown question.now (DefaultTheory (map item_of items.now)) r.0.items r.1) }
 {
-    if certify {
-        let heads = assumed(alloc, assumptions, rules)?;
-        let (views, cert) = extensions_from(alloc, items, &heads, beliefs, atoms)?;
+    let given = question.given;
+    if question.certify {
+        let heads = assumed(alloc, given.assumptions, question.rules)?;
+        let (views, cert) = extensions_from(alloc, items, &heads, given)?;
         Ok((views, Some(AnswerCert::Default(cert))))
     } else {
-        let mut base = kept_theory(alloc, known, items, atoms)?;
-        let listed = base.list_extensions(alloc, items, assumptions, rules, beliefs, atoms);
+        let mut base = kept_theory(alloc, known, items, given.asked)?;
+        let listed = base.list_extensions(alloc, items, given, question.rules);
         *known = Some(Known::Theory(base));
         Ok((listed?, None))
     }
 }
 
-/// The views of the answer sets of a program with the heads, with a certificate if `certify` holds. The heads and the
-/// beliefs have to be atoms.
+/// The views of the answer sets of a program. The heads and the beliefs have to be atoms.
 fn program_views(
     alloc: Global,
-    certify: bool,
     rules: &[ProgRule],
-    heads: &[&Formula],
-    beliefs: &[&Formula],
-    atoms: &[Name],
+    question: &Question<'_>,
 ) -> Result<(Vec<Vars>, Option<AnswerCert>), Memory>
-    requires few { length atoms.now ≤ 64 }
-    requires few_beliefs { length beliefs.now ≤ 64 }
-    requires different { has_twins atoms.now ≡ false }
-    requires rules { AreOverRules atoms.now (map rule_of rules.now) }
-    requires heads { AreOver atoms.now (map (λ f. formula_of f.now) heads.now) }
-    requires beliefs { AreOver atoms.now (map (λ f. formula_of f.now) beliefs.now) }
-    requires head_atoms { AllByRecursion (λ f. IsTrue (is_atom (formula_of f.now))) heads.now }
-    requires belief_atoms { AllByRecursion (λ f. IsTrue (is_atom (formula_of f.now))) beliefs.now }
-    ensures exact { IfOk result (λ r. IsListing
-        (IsAcceptedView (with_heads (Program (map rule_of rules.now)) (map (λ f. formula_of f.now) heads.now)) (map (λ f. formula_of f.now) beliefs.now))
-        StateBefore r.0.items) }
-    ensures certified { IfOk result (λ r. IsCertified certify
-        (IsAcceptedFor atoms.now (with_heads (Program (map rule_of rules.now)) (map (λ f. formula_of f.now) heads.now)) (map (λ f. formula_of f.now) beliefs.now) r.0.items)
-        r.1) }
+    requires rules { AreOverRules (asked_names question.now) (map rule_of rules.now) }
+    requires heads { AllByRecursion (λ (f : plain.Formula). IsTrue (is_atom f)) (asked_heads question.now) }
+    requires beliefs { AllByRecursion (λ (f : plain.Formula). IsTrue (is_atom f)) (asked_beliefs question.now) }
+    ensures exact { IfOk result (λ r. AreAnswer question.now (Program (map rule_of rules.now)) r.0.items) }
+    ensures certified { IfOk result (λ r. IsAnswerShown question.now (Program (map rule_of rules.now)) r.0.items r.1) }
 {
-    let facts = names_of(alloc, heads)?;
-    let asked = names_of(alloc, beliefs)?;
-    if certify {
+    let given = question.given;
+    let atoms = given.asked.atoms;
+    let heads = assumed(alloc, given.assumptions, question.rules)?;
+    let facts = names_of(alloc, &heads)?;
+    let asked = names_of(alloc, given.asked.beliefs)?;
+    if question.certify {
         let (views, cert) = answer_sets_from(alloc, rules, &facts, &asked, atoms)?;
         Ok((views, Some(AnswerCert::Program(cert))))
     } else {
@@ -345,62 +276,26 @@ fn program_views(
 }
 
 /// The views of the beliefs that the knowledge base accepts with the heads of the rules: each once, in the order of
-/// states; with a certificate if `certify` holds. For a classical knowledge base the clauses are kept once they are
-/// made, with what was found to follow. For a default theory without a certificate the clauses of its facts are kept,
-/// with what was found of it.
+/// states. For a classical knowledge base the clauses are kept once they are made, with what was found to follow. For a
+/// default theory without a certificate the clauses of its facts are kept, with what was found of it.
 pub(crate) fn accepted_views(
     alloc: Global,
-    certify: bool,
     known: &mut Option<Known>,
     kb: &Kb,
-    assumptions: &[Assumption<'_>],
-    rules: Active,
-    beliefs: &[&Formula],
-    atoms: &[Name],
+    question: &Question<'_>,
 ) -> Result<(Vec<Vars>, Option<AnswerCert>), Memory>
-    requires few { length atoms.now ≤ 64 }
-    requires few_beliefs { length beliefs.now ≤ 64 }
     requires few_defaults { default_count (kb_of kb.now) ≤ 10 }
-    requires different { has_twins atoms.now ≡ false }
-    requires kb { IsOverKb atoms.now (kb_of kb.now) }
-    requires numbers { AllByRecursion (λ (a : declared.Assumption). a.number < 64) assumptions.now }
-    requires assumptions { AreOver atoms.now (map (λ (a : declared.Assumption). formula_of a.formula.now) assumptions.now) }
-    requires beliefs { AreOver atoms.now (map (λ f. formula_of f.now) beliefs.now) }
-    requires fitting_heads { AreOfKind (kb_of kb.now) (assumed rules assumptions.now) }
-    requires fitting_beliefs { AreOfKind (kb_of kb.now) (map (λ f. formula_of f.now) beliefs.now) }
-    requires made { IsMadeOf atoms.now (kb_of kb.now) (λ set. assumed set assumptions.now) (map (λ f. formula_of f.now) beliefs.now) known.old }
-    ensures made { IsMadeOf atoms.now (kb_of kb.now) (λ set. assumed set assumptions.now) (map (λ f. formula_of f.now) beliefs.now) known.new }
-    ensures exact { IfOk result (λ r. IsListing
-        (IsAcceptedView (with_heads (kb_of kb.now) (assumed rules assumptions.now)) (map (λ f. formula_of f.now) beliefs.now))
-        StateBefore r.0.items) }
-    ensures certified { IfOk result (λ r. IsCertified certify
-        (IsAcceptedFor atoms.now (with_heads (kb_of kb.now) (assumed rules assumptions.now)) (map (λ f. formula_of f.now) beliefs.now) r.0.items)
-        r.1) }
+    requires kb { IsOverKb (asked_names question.now) (kb_of kb.now) }
+    requires heads { AreOfKind (kb_of kb.now) (asked_heads question.now) }
+    requires beliefs { AreOfKind (kb_of kb.now) (asked_beliefs question.now) }
+    requires made { IsMadeFor question.now (kb_of kb.now) known.old }
+    ensures made { IsMadeFor question.now (kb_of kb.now) known.new }
+    ensures exact { IfOk result (λ r. AreAnswer question.now (kb_of kb.now) r.0.items) }
+    ensures certified { IfOk result (λ r. IsAnswerShown question.now (kb_of kb.now) r.0.items r.1) }
 {
     match kb {
-        Kb::Classical(formulas) => classical_views(
-            alloc,
-            certify,
-            known,
-            formulas,
-            assumptions,
-            rules,
-            beliefs,
-            atoms,
-        ),
-        Kb::DefaultTheory(items) => theory_views(
-            alloc,
-            certify,
-            known,
-            items,
-            assumptions,
-            rules,
-            beliefs,
-            atoms,
-        ),
-        Kb::Program(clauses) => {
-            let heads = assumed(alloc, assumptions, rules)?;
-            program_views(alloc, certify, clauses, &heads, beliefs, atoms)
-        }
+        Kb::Classical(formulas) => classical_views(alloc, known, formulas, question),
+        Kb::DefaultTheory(items) => theory_views(alloc, known, items, question),
+        Kb::Program(clauses) => program_views(alloc, clauses, question),
     }
 }

@@ -6,4 +6,4 @@ use Rattle.mcs_answer_sets.proofs.ModelLemmas.{IsBelievedAt}
 use Rattle.mcs_answer_sets.proofs.program.view_of.Given as goal
 
 abbrev pub invariant-loop-k : goal.invariant-loop-k
-invariant-loop-k l = AreGathered (IsBelievedAt (true_names 0 l.atoms l.places) (map Atom (map (λ b. b.now) l.beliefs))) l.view l.k
+invariant-loop-k l = AreGathered (IsBelievedAt (true_names 0 l.program.atoms.now l.places) (map Atom (map (λ b. b.now) l.program.beliefs.now))) l.view l.k

@@ -16,46 +16,35 @@ use Rattle.mcs_asking.proofs.CoverLemmas.{own_over, heads_over, beliefs_over, fe
 use Rattle.mcs_asking.proofs.KindLemmas.{beliefs_of_kind}
 use Rattle.mcs_certificate.proofs.acceptance.accepts.Goals as goal
 
-pub shown_views-requires-clause-few_beliefs : goal.shown_views-requires-clause-few_beliefs
-shown_views-requires-clause-few_beliefs c =
+pub invariant_of-asked : goal.invariant_of-asked
+invariant_of-asked c =
     let m : System = c.args.system.now in
-    let asked : map (λ f. formula_of f.now) c.deref-2.result.now ≡ beliefs_at m (variables_of m c.args.context) = ap (map (λ f. formula_of f.now)) c.deref-2.ensures.value ∙ c.in_ok-beliefs.ensures in
-    omega (arith, ap length asked, length-map c.deref-2.result.now (λ f. formula_of f.now), few_beliefs m c.args.context, few_variables m c.contexts.ensures.valid)
+    let asked : map (λ f. formula_of f.now) c.deref.result.now ≡ beliefs_at m (variables_of m c.args.context) = ap (map (λ f. formula_of f.now)) c.deref.ensures.value ∙ c.in_ok-beliefs.ensures in
+    record {
+      few = c.atoms_of.ensures.few;
+      few_beliefs = omega (arith, ap length asked, length-map c.deref.result.now (λ f. formula_of f.now), few_beliefs m c.args.context, few_variables m c.contexts.ensures.valid);
+      over = rw (c.atoms_of.ensures.value, asked) (beliefs_over m c.args.context);
+    }
 
-pub shown_views-requires-clause-few_defaults : goal.shown_views-requires-clause-few_defaults
-shown_views-requires-clause-few_defaults c =
+pub invariant_of-question : goal.invariant_of-question
+invariant_of-question c =
     let m : System = c.args.system.now in
-    few_defaults m c.contexts.ensures.valid c.args.context _ (context_there m c.contexts.result.now c.args.context c.index-contexts-context.result c.contexts.ensures.value c.requires.context)
-
-pub shown_views-requires-clause-kb : goal.shown_views-requires-clause-kb
-shown_views-requires-clause-kb c =
-    let m : System = c.args.system.now in
-    rw c.atoms_of.ensures.value (own_over m c.args.context _ (context_there m c.contexts.result.now c.args.context c.index-contexts-context.result c.contexts.ensures.value c.requires.context))
-
-pub shown_views-requires-clause-heads : goal.shown_views-requires-clause-heads
-shown_views-requires-clause-heads c =
-    let m : System = c.args.system.now in
-    let told : map (λ f. formula_of f.now) c.deref.result.now ≡ heads_into m c.args.context c.args.active = ap (map (λ f. formula_of f.now)) c.deref.ensures.value ∙ c.in_ok-heads.ensures in
-    rw (c.atoms_of.ensures.value, told) (heads_over m c.args.context c.args.active)
-
-pub shown_views-requires-clause-beliefs : goal.shown_views-requires-clause-beliefs
-shown_views-requires-clause-beliefs c =
-    let m : System = c.args.system.now in
-    let asked : map (λ f. formula_of f.now) c.deref-2.result.now ≡ beliefs_at m (variables_of m c.args.context) = ap (map (λ f. formula_of f.now)) c.deref-2.ensures.value ∙ c.in_ok-beliefs.ensures in
-    rw (c.atoms_of.ensures.value, asked) (beliefs_over m c.args.context)
-
-pub shown_views-requires-clause-fitting_beliefs : goal.shown_views-requires-clause-fitting_beliefs
-shown_views-requires-clause-fitting_beliefs c =
-    let m : System = c.args.system.now in
-    let asked : map (λ f. formula_of f.now) c.deref-2.result.now ≡ beliefs_at m (variables_of m c.args.context) = ap (map (λ f. formula_of f.now)) c.deref-2.ensures.value ∙ c.in_ok-beliefs.ensures in
-    rw asked (beliefs_of_kind m c.contexts.ensures.valid c.args.context _ (context_there m c.contexts.result.now c.args.context c.index-contexts-context.result c.contexts.ensures.value c.requires.context))
+    let there = context_there m c.contexts.result.now c.args.context c.index-contexts-context.result c.contexts.ensures.value c.requires.context in
+    let told : map (λ f. formula_of f.now) c.deref-2.result.now ≡ heads_into m c.args.context c.args.active = ap (map (λ f. formula_of f.now)) c.deref-2.ensures.value ∙ c.in_ok-heads.ensures in
+    let asked : map (λ f. formula_of f.now) c.deref.result.now ≡ beliefs_at m (variables_of m c.args.context) = ap (map (λ f. formula_of f.now)) c.deref.ensures.value ∙ c.in_ok-beliefs.ensures in
+    record {
+      few_defaults = few_defaults m c.contexts.ensures.valid c.args.context _ there;
+      own = rw c.atoms_of.ensures.value (own_over m c.args.context _ there);
+      told = rw (c.atoms_of.ensures.value, told) (heads_over m c.args.context c.args.active);
+      kinds = rw asked (beliefs_of_kind m c.contexts.ensures.valid c.args.context _ there);
+    }
 
 pub returns-in_default-clause-exact : goal.returns-in_default-clause-exact
 returns-in_default-clause-exact c =
     let m : System = c.args.system.now in
     let i = c.args.context in
-    let told : map (λ f. formula_of f.now) c.deref.result.now ≡ heads_into m i c.args.active = ap (map (λ f. formula_of f.now)) c.deref.ensures.value ∙ c.in_ok-heads.ensures in
-    let asked : map (λ f. formula_of f.now) c.deref-2.result.now ≡ beliefs_at m (variables_of m i) = ap (map (λ f. formula_of f.now)) c.deref-2.ensures.value ∙ c.in_ok-beliefs.ensures in
+    let told : map (λ f. formula_of f.now) c.deref-2.result.now ≡ heads_into m i c.args.active = ap (map (λ f. formula_of f.now)) c.deref-2.ensures.value ∙ c.in_ok-heads.ensures in
+    let asked : map (λ f. formula_of f.now) c.deref.result.now ≡ beliefs_at m (variables_of m i) = ap (map (λ f. formula_of f.now)) c.deref.ensures.value ∙ c.in_ok-beliefs.ensures in
     let d : Context = context_of (get_or c.contexts.result.now i c.index-contexts-context.result) in
     let there : slice_get m.contexts i ≡ Some d = context_there m c.contexts.result.now i c.index-contexts-context.result c.contexts.ensures.value c.requires.context in
     let none = rw c.in_default.is at c.in_ok-shown.ensures in
@@ -66,8 +55,8 @@ pub returns-clause-exact : goal.returns-clause-exact
 returns-clause-exact c =
     let m : System = c.args.system.now in
     let i = c.args.context in
-    let told : map (λ f. formula_of f.now) c.deref.result.now ≡ heads_into m i c.args.active = ap (map (λ f. formula_of f.now)) c.deref.ensures.value ∙ c.in_ok-heads.ensures in
-    let asked : map (λ f. formula_of f.now) c.deref-2.result.now ≡ beliefs_at m (variables_of m i) = ap (map (λ f. formula_of f.now)) c.deref-2.ensures.value ∙ c.in_ok-beliefs.ensures in
+    let told : map (λ f. formula_of f.now) c.deref-2.result.now ≡ heads_into m i c.args.active = ap (map (λ f. formula_of f.now)) c.deref-2.ensures.value ∙ c.in_ok-heads.ensures in
+    let asked : map (λ f. formula_of f.now) c.deref.result.now ≡ beliefs_at m (variables_of m i) = ap (map (λ f. formula_of f.now)) c.deref.ensures.value ∙ c.in_ok-beliefs.ensures in
     let d : Context = context_of (get_or c.contexts.result.now i c.index-contexts-context.result) in
     let there : slice_get m.contexts i ≡ Some d = context_there m c.contexts.result.now i c.index-contexts-context.result c.contexts.ensures.value c.requires.context in
     let views : List ℕ = c.in-Some.views.items in

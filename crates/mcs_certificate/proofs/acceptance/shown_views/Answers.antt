@@ -10,9 +10,9 @@ use Rattle.mcs_certificate.proofs.acceptance.shown_views.Goals as goal
 
 pub default_views-requires-clause-few_defaults : goal.default_views-requires-clause-few_defaults
 default_views-requires-clause-few_defaults c =
-    let few = subst (λ (k : code.Kb). default_count (kb_of k) ≤ 10) c.in-DefaultTheory.is c.requires.few_defaults in
+    let few = subst (λ (k : code.Kb). default_count (kb_of k) ≤ 10) c.in-DefaultTheory.is c.args.question.now.few_defaults in
     rw c.deref-in-Default-cert.ensures.value (omega (arith, few, defaults_counted (map item_of c.in-DefaultTheory.items.items)))
 
 pub program_views-requires-clause-belief_atoms : goal.program_views-requires-clause-belief_atoms
 program_views-requires-clause-belief_atoms c =
-    all_from_map (λ (f : Formula). IsTrue (is_atom f)) (λ f. formula_of f.now) c.args.beliefs.now (subst (λ (k : code.Kb). AreOfKind (kb_of k) (map (λ f. formula_of f.now) c.args.beliefs.now)) c.in-Program.is c.requires.fitting_beliefs)
+    all_from_map (λ (f : Formula). IsTrue (is_atom f)) (λ f. formula_of f.now) c.args.question.now.asked.now.beliefs.now (subst (λ (k : code.Kb). AreOfKind (kb_of k) (map (λ f. formula_of f.now) c.args.question.now.asked.now.beliefs.now)) c.in-Program.is c.args.question.now.kinds)

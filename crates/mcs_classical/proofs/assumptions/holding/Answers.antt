@@ -14,8 +14,8 @@ loop-assumption-init c = record { sorted = tt; fails = λ n each. ap (λ (s : �
 
 pub loop-assumption-preserved : goal.loop-assumption-preserved
 loop-assumption-preserved c =
-    let names = c.args.atoms.now in
-    let xs = c.args.assumptions.now in
+    let names = c.args.given.now.asked.now.atoms.now in
+    let xs = c.args.given.now.assumptions.now in
     let i = c.loop-assumption.assumption-index in
     let x = c.assumption-item.result in
     elim c.if-holds_at.branch [
@@ -27,14 +27,14 @@ loop-assumption-preserved c =
 
 pub returns-clause-each : goal.returns-clause-each
 returns-clause-each c =
-    let names = c.args.atoms.now in
-    let xs = c.args.assumptions.now in
+    let names = c.args.given.now.asked.now.atoms.now in
+    let xs = c.args.given.now.assumptions.now in
     let all = subst (λ (ys : List Assumption). AreSorted names c.args.values c.loop-assumption.held c.loop-assumption.failed ys) (take_all c.loop-assumption.assumption-index xs c.loop-assumption-test.false) c.loop-assumption.invariant in
     subst (λ (s : ℕ). AllByRecursion (λ (a : Assumption). IsTrue (has s a.number) → HoldsAt names c.args.values a) xs) (sym c.minus.ensures) (holding_each names c.args.values c.loop-assumption.held c.loop-assumption.failed xs all)
 
 pub returns-clause-all : goal.returns-clause-all
 returns-clause-all c =
-    let names = c.args.atoms.now in
-    let xs = c.args.assumptions.now in
+    let names = c.args.given.now.asked.now.atoms.now in
+    let xs = c.args.given.now.assumptions.now in
     let all = subst (λ (ys : List Assumption). AreSorted names c.args.values c.loop-assumption.held c.loop-assumption.failed ys) (take_all c.loop-assumption.assumption-index xs c.loop-assumption-test.false) c.loop-assumption.invariant in
     subst (λ (s : ℕ). AllByRecursion (λ (a : Assumption). DoHold names c.args.values a.number xs → IsTrue (has s a.number)) xs) (sym c.minus.ensures) (holding_all names c.args.values c.loop-assumption.held c.loop-assumption.failed xs all)

@@ -10,7 +10,7 @@ abbrev pub invariant-loop-number : goal.invariant-loop-number
 invariant-loop-number l =
     record {
       kept : l.known ≡ l.fn.known;
-      over : AreOver l.atoms (map (λ b. formula_of b.now) (drop l.number l.beliefs));
-      shown : (fs : List Formula) → l.fn.known ≡ clause_list l.atoms fs → AreOver l.atoms fs → IsShown (λ b. formula_of b.now) l.atoms fs l.beliefs l.number l.state l.entails.items;
-      model : (fs : List Formula) → l.fn.known ≡ clause_list l.atoms fs → AreOver l.atoms fs → IfSome l.model (IsModelAt l.atoms fs);
+      over : AreOver l.given.asked.now.atoms.now (map (λ b. formula_of b.now) (drop l.number l.given.asked.now.beliefs.now));
+      shown : (fs : List Formula) → l.fn.known ≡ clause_list l.given.asked.now.atoms.now fs → AreOver l.given.asked.now.atoms.now fs → IsShown (λ b. formula_of b.now) l.given.asked.now.atoms.now fs l.given.asked.now.beliefs.now l.number l.state l.entails.items;
+      model : (fs : List Formula) → l.fn.known ≡ clause_list l.given.asked.now.atoms.now fs → AreOver l.given.asked.now.atoms.now fs → IfSome l.model (IsModelAt l.given.asked.now.atoms.now fs);
     }

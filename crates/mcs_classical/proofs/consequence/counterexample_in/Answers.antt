@@ -12,13 +12,13 @@ use Rattle.mcs_classical.proofs.consequence.counterexample_in.Goals as goal
 pub true_places-requires-clause-values : goal.true_places-requires-clause-values
 true_places-requires-clause-values c =
     let settled : IsSettledAnswer c.push_goal.new.known (Some c.in-Some.values) = subst (IsSettledAnswer c.push_goal.new.known) c.in-Some.is c.in_ok-values.ensures.exact in
-    let known : c.args.known.now.vars ≤ c.push_goal.new.known.vars = grown_fewer c.args.atoms.now c.args.known.now c.push_goal.new.known ((Not (formula_of c.args.goal.now)) ∷ [], c.in_ok-push_goal.ensures.ok) in
+    let known : c.args.known.now.vars ≤ c.push_goal.new.known.vars = grown_fewer c.args.given.now.asked.now.atoms.now c.args.known.now c.push_goal.new.known ((Not (formula_of c.args.goal.now)) ∷ [], c.in_ok-push_goal.ensures.ok) in
     omega (arith, settled.0)
 
 pub cut-requires-clause-fewer : goal.cut-requires-clause-fewer
 cut-requires-clause-fewer c =
     let pushed = c.satisfy-found.ensures.same ∙ c.in_ok-push_goal.ensures.ok in
-    let known : c.args.known.now.vars ≤ c.satisfy-found.new.self.vars = grown_fewer c.args.atoms.now c.args.known.now c.satisfy-found.new.self ((Not (formula_of c.args.goal.now)) ∷ [], pushed) in
+    let known : c.args.known.now.vars ≤ c.satisfy-found.new.self.vars = grown_fewer c.args.given.now.asked.now.atoms.now c.args.known.now c.satisfy-found.new.self ((Not (formula_of c.args.goal.now)) ∷ [], pushed) in
     omega arith
 
 pub cut-requires-clause-within : goal.cut-requires-clause-within
@@ -26,18 +26,18 @@ cut-requires-clause-within c =
     let pushed = c.satisfy-found.ensures.same ∙ c.in_ok-push_goal.ensures.ok in
     subst (λ (k : ℕ). AllByRecursion (IsWithin c.vars-vars.result) (take k c.satisfy-found.new.self.clauses)) (sym c.count-count.ensures)
     (subst (λ (n : ℕ). AllByRecursion (IsWithin n) (take (length c.args.known.now.clauses) c.satisfy-found.new.self.clauses)) (sym c.vars-vars.ensures.value)
-    (grown_within c.args.atoms.now c.args.known.now c.satisfy-found.new.self ((Not (formula_of c.args.goal.now)) ∷ [], pushed) c.vars-vars.ensures.kept))
+    (grown_within c.args.given.now.asked.now.atoms.now c.args.known.now c.satisfy-found.new.self ((Not (formula_of c.args.goal.now)) ∷ [], pushed) c.vars-vars.ensures.kept))
 
 pub returns-in-Some-clause-exact : goal.returns-in-Some-clause-exact
 returns-in-Some-clause-exact c = λ fs is over.
     let f = c.push_goal.new.known in
     let settled : IsSettledAnswer f (Some c.in-Some.values) = subst (IsSettledAnswer f) c.in-Some.is c.in_ok-values.ensures.exact in
-    answer_no fs (formula_of c.args.goal.now) c.args.atoms.now c.args.known.now f c.in-Some.values.items c.deref.result.now c.true_places.result is c.in_ok-push_goal.ensures.ok c.requires.different over c.requires.goal settled.1 c.deref.ensures.value c.true_places.ensures
+    answer_no fs (formula_of c.args.goal.now) c.args.given.now.asked.now.atoms.now c.args.known.now f c.in-Some.values.items c.deref.result.now c.true_places.result is c.in_ok-push_goal.ensures.ok c.args.given.now.different over c.requires.goal settled.1 c.deref.ensures.value c.true_places.ensures
 
 pub returns-in-None-clause-exact : goal.returns-in-None-clause-exact
 returns-in-None-clause-exact c = λ fs is over.
     let f = c.push_goal.new.known in
     let settled : IsSettledAnswer f None = subst (IsSettledAnswer f) c.in-None.is c.in_ok-values.ensures.exact in
     let none : IsUnsatisfiable f.clauses = settled in
-    (refutation fs (formula_of c.args.goal.now) c.args.atoms.now over c.requires.goal).1
-    (subst (λ (x : ClauseList). IsUnsatisfiable x.clauses) (with_goal fs (formula_of c.args.goal.now) c.args.atoms.now c.args.known.now f is c.in_ok-push_goal.ensures.ok) none)
+    (refutation fs (formula_of c.args.goal.now) c.args.given.now.asked.now.atoms.now over c.requires.goal).1
+    (subst (λ (x : ClauseList). IsUnsatisfiable x.clauses) (with_goal fs (formula_of c.args.goal.now) c.args.given.now.asked.now.atoms.now c.args.known.now f is c.in_ok-push_goal.ensures.ok) none)

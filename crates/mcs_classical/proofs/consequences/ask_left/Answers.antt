@@ -10,7 +10,7 @@ loop-place-init c = record { kept = refl; right = λ fs set is over all. all; to
 
 pub loop-place-preserved : goal.loop-place-preserved
 loop-place-preserved c =
-    let gs = map (λ g. formula_of g.now) c.args.goals.now in
+    let gs = map (λ g. formula_of g.now) c.args.given.now.asked.now.beliefs.now in
     let before = c.loop-place.invariant in
     elim c.if-has.branch [
       | then-has+in_ok-answer w ↦ record {
@@ -27,6 +27,6 @@ loop-place-preserved c =
 
 pub returns-clause-exact : goal.returns-clause-exact
 returns-clause-exact c = λ fs is over told.
-    let gs = map (λ g. formula_of g.now) c.args.goals.now in
-    let past : length gs ≤ c.loop-place.place = omega (arith, length-map c.args.goals.now (λ g. formula_of g.now), c.loop-place-test.false) in
+    let gs = map (λ g. formula_of g.now) c.args.given.now.asked.now.beliefs.now in
+    let past : length gs ≤ c.loop-place.place = omega (arith, length-map c.args.given.now.asked.now.beliefs.now (λ g. formula_of g.now), c.loop-place-test.false) in
     told_all fs gs c.loop-place.place c.loop-place.told past (c.loop-place.invariant.told fs is over told)

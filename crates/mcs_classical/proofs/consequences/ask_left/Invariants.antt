@@ -9,7 +9,7 @@ use Rattle.mcs_classical.proofs.consequences.ask_left.Given as goal
 abbrev pub invariant-loop-place : goal.invariant-loop-place
 invariant-loop-place l = record {
   kept : l.known ≡ l.fn.known;
-  right : (fs : List Formula) (set : ℕ) → l.fn.known ≡ clause_list l.atoms (with_assumed fs l.assumptions set) → AreOver l.atoms (with_assumed fs l.assumptions set)
-      → AllByRecursion (IsUpperConsequence fs l.assumptions (map (λ g. formula_of g.now) l.goals)) l.fn.upper.items → AllByRecursion (IsUpperConsequence fs l.assumptions (map (λ g. formula_of g.now) l.goals)) l.upper.items;
-  told : (fs : List Formula) → l.fn.known ≡ clause_list l.atoms fs → AreOver l.atoms fs → AreGoalsTold fs (map (λ g. formula_of g.now) l.goals) 0 l.fn.before → AreGoalsTold fs (map (λ g. formula_of g.now) l.goals) l.place l.told;
+  right : (fs : List Formula) (set : ℕ) → l.fn.known ≡ clause_list l.given.asked.now.atoms.now (with_assumed fs l.given.assumptions.now set) → AreOver l.given.asked.now.atoms.now (with_assumed fs l.given.assumptions.now set)
+      → AllByRecursion (IsUpperConsequence fs l.given.assumptions.now (map (λ g. formula_of g.now) l.given.asked.now.beliefs.now)) l.fn.upper.items → AllByRecursion (IsUpperConsequence fs l.given.assumptions.now (map (λ g. formula_of g.now) l.given.asked.now.beliefs.now)) l.upper.items;
+  told : (fs : List Formula) → l.fn.known ≡ clause_list l.given.asked.now.atoms.now fs → AreOver l.given.asked.now.atoms.now fs → AreGoalsTold fs (map (λ g. formula_of g.now) l.given.asked.now.beliefs.now) 0 l.fn.before → AreGoalsTold fs (map (λ g. formula_of g.now) l.given.asked.now.beliefs.now) l.place l.told;
 }

@@ -6,4 +6,4 @@ use Rattle.mcs_classical.specs.Consequences.{holds_goal}
 use Rattle.mcs_classical.proofs.consequences.goals_holding.Given as goal
 
 abbrev pub invariant-loop-place : goal.invariant-loop-place
-invariant-loop-place l = l.places ≡ such_that l.place (holds_goal (true_names 0 l.atoms l.values) (map (λ g. formula_of g.now) l.goals))
+invariant-loop-place l = l.places ≡ such_that l.place (holds_goal (true_names 0 l.asked.atoms.now l.values) (map (λ g. formula_of g.now) l.asked.beliefs.now))

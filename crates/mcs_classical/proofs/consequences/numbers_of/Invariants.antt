@@ -5,4 +5,4 @@ use Rattle.mcs_classical.specs.declared.assumptions.Assumption.{Assumption}
 use Rattle.mcs_classical.proofs.consequences.numbers_of.Given as goal
 
 abbrev pub invariant-loop-assumption : goal.invariant-loop-assumption
-invariant-loop-assumption l = AllByRecursion (λ (a : Assumption). IsTrue (has l.numbers a.number)) (take l.assumption-index l.assumptions)
+invariant-loop-assumption l = AllByRecursion (λ (a : Assumption). IsTrue (has l.numbers a.number)) (take l.assumption-index l.given.assumptions.now)

@@ -9,5 +9,5 @@ use Rattle.mcs_default.proofs.asking.ask_justs.Given as goal
 abbrev pub invariant-loop-index : goal.invariant-loop-index
 invariant-loop-index l = record {
   kept : l.known ≡ l.fn.known;
-  denied : (fs : List Formula) → AreClausesOf l.asked.atoms.now fs l.fn.known → AreDenied l.asked.atoms.now fs (map Not (map formula_of (take l.index l.justs))) (map entailment_of l.allowed.items);
+  denied : (fs : List Formula) → AreClausesOf l.theory.asked.now.atoms.now fs l.fn.known → AreDenied l.theory.asked.now.atoms.now fs (map Not (map formula_of (take l.index l.justs))) (map entailment_of l.allowed.items);
 }

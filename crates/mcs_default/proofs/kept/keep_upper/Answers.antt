@@ -9,8 +9,8 @@ use Rattle.mcs_default.proofs.kept.keep_upper.Goals as goal
 
 pub loop-index-preserved : goal.loop-index-preserved
 loop-index-preserved c items set found kept =
-    let names = c.args.atoms.now in
-    let given = c.args.assumptions.now in
+    let names = c.args.given.now.asked.now.atoms.now in
+    let given = c.args.given.now.assumptions.now in
     let xs = c.args.upper.now in
     let i = c.loop-index.index in
     let x = c.index-upper-index.result in
@@ -19,4 +19,4 @@ loop-index-preserved c items set found kept =
     (all_push (IsKeptUpper names items given) c.loop-index.kept.items (record { assumed = c.holding.result; upper = x }) (c.loop-index.invariant items set found kept) (upper_held items given names set c.holding.result x c.holding.ensures.each right))
 
 pub returns-in_err-push : goal.returns-in_err-push
-returns-in_err-push c items set found kept = subst (AllByRecursion (IsKeptUpper c.args.atoms.now items c.args.assumptions.now)) (sym c.in_err-push.ensures.items) (c.loop-index.invariant items set found kept)
+returns-in_err-push c items set found kept = subst (AllByRecursion (IsKeptUpper c.args.given.now.asked.now.atoms.now items c.args.given.now.assumptions.now)) (sym c.in_err-push.ensures.items) (c.loop-index.invariant items set found kept)

@@ -5,9 +5,8 @@ use Rattle.mcs_system.specs.Seen.{default_of}
 use Rattle.mcs_trace.specs.Clauses.{ClauseList}
 use Rattle.mcs_cnf.specs.ClauseLists.{with_formulas}
 use Rattle.mcs_cnf.proofs.GrowingLemmas.{grown_fewer}
-use Rattle.mcs_classical.proofs.RefutingLemmas.{none_apart}
+use Rattle.mcs_classical.proofs.RefutingLemmas.{formulas_apart, none_apart}
 use Rattle.mcs_default.specs.Theories.{consequents}
-use Rattle.mcs_default.proofs.General.{formulas_apart}
 use Rattle.mcs_default.proofs.theory.append_consequents.Goals as goal
 
 pub append-added-requires : goal.append-added-requires

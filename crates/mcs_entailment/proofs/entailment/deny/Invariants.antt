@@ -7,6 +7,6 @@ use Rattle.mcs_entailment.proofs.entailment.deny.Given as goal
 
 abbrev pub invariant-loop-index : goal.invariant-loop-index
 invariant-loop-index l = record {
-  model : IfSome l.model (IsModelAt l.atoms (map (λ f. formula_of f.now) l.premises));
-  rest : GoFrom (IsDenied l.atoms (map (λ f. formula_of f.now) l.premises)) (λ f. formula_of f.now) entailment_of l.goals l.entails l.index;
+  model : IfSome l.model (IsModelAt l.asked.atoms.now (map (λ f. formula_of f.now) l.premises));
+  rest : GoFrom (IsDenied l.asked.atoms.now (map (λ f. formula_of f.now) l.premises)) (λ f. formula_of f.now) entailment_of l.goals l.entails l.index;
 }

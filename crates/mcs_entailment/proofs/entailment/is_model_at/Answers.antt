@@ -10,5 +10,5 @@ returns-then-not-is_in_range c = false_tells (λ h. iff_false c.is_in_range.ensu
 
 pub returns : goal.returns
 returns c =
-    model_iff c.args.atoms.now (map (λ f. formula_of f.now) c.args.premises.now) c.args.places c.numbered-values.result c.hold_at.result c.numbered-values.ensures c.hold_at.ensures
+    model_iff c.args.asked.now.atoms.now (map (λ f. formula_of f.now) c.args.premises.now) c.args.places c.numbered-values.result c.hold_at.result c.numbered-values.ensures c.hold_at.ensures
     (c.is_in_range.ensures.0 c.if-not-is_in_range.false)

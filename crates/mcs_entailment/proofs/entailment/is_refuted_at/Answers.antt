@@ -10,5 +10,5 @@ returns-then-not-is_model_at c = false_tells (λ h. iff_false c.is_model_at.ensu
 
 pub returns : goal.returns
 returns c =
-    refuted_iff c.args.atoms.now (map (λ f. formula_of f.now) c.args.premises.now) (formula_of c.args.goal.now) c.args.places c.numbered.result c.holds_at.result c.numbered.ensures c.holds_at.ensures
+    refuted_iff c.args.asked.now.atoms.now (map (λ f. formula_of f.now) c.args.premises.now) (formula_of c.args.goal.now) c.args.places c.numbered.result c.holds_at.result c.numbered.ensures c.holds_at.ensures
     (c.is_model_at.ensures.0 c.if-not-is_model_at.false)

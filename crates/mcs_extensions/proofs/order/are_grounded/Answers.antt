@@ -5,14 +5,14 @@ use Rattle.mcs_extensions.proofs.order.are_grounded.Goals as goal
 pub cut-requires-clause-fewer : goal.cut-requires-clause-fewer
 cut-requires-clause-fewer c =
     let grown = c.in_ok-grounded.ensures.grown in
-    cut_fewer c.args.atoms.now c.args.known.now c.derives.new.known grown c.derives.new.known c.vars-vars.result c.vars-vars.ensures.value refl
+    cut_fewer c.args.theory.now.asked.now.atoms.now c.args.known.now c.derives.new.known grown c.derives.new.known c.vars-vars.result c.vars-vars.ensures.value refl
 
 pub cut-requires-clause-within : goal.cut-requires-clause-within
 cut-requires-clause-within c =
     let grown = c.in_ok-grounded.ensures.grown in
-    cut_within c.args.atoms.now c.args.known.now c.derives.new.known grown c.derives.new.known c.vars-vars.result c.clauses-count.result.now c.vars-vars.ensures.value c.clauses-count.ensures.value c.vars-vars.ensures.kept refl
+    cut_within c.args.theory.now.asked.now.atoms.now c.args.known.now c.derives.new.known grown c.derives.new.known c.vars-vars.result c.clauses-count.result.now c.vars-vars.ensures.value c.clauses-count.ensures.value c.vars-vars.ensures.kept refl
 
 pub returns-clause-kept : goal.returns-clause-kept
 returns-clause-kept c =
     let grown = c.in_ok-grounded.ensures.grown in
-    cut_back c.args.atoms.now c.args.known.now c.derives.new.known grown c.derives.new.known c.cut.new.self c.vars-vars.result c.clauses-count.result.now c.vars-vars.ensures.value c.clauses-count.ensures.value refl c.cut.ensures
+    cut_back c.args.theory.now.asked.now.atoms.now c.args.known.now c.derives.new.known grown c.derives.new.known c.cut.new.self c.vars-vars.result c.clauses-count.result.now c.vars-vars.ensures.value c.clauses-count.ensures.value refl c.cut.ensures

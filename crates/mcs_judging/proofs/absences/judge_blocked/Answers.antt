@@ -2,12 +2,11 @@ use Rattle.std.proofs.Common.{◌≡◌, ◌-◌, ◌<◌, ◌∙◌, map, lengt
 use Rattle.std.proofs.lemmas.List.{length-map}
 use Rattle.mcs_system.specs.Plain.{Default}
 use Rattle.mcs_system.specs.Seen.{default_of, formula_of}
-use Rattle.mcs_evidence.specs.Theories.{AreOverDefaults}
-use Rattle.mcs_evidence.proofs.TheoryLemmas.{over_defaults}
+use Rattle.mcs_asked.proofs.QuestionLemmas.{defaults_over}
 use Rattle.mcs_extensions.specs.Checks.{at_number}
 use Rattle.mcs_extensions.proofs.OrderLemmas.{numbered_read}
 use Rattle.mcs_extensions.proofs.VerdictLemmas.{numbered_over, numbered_formula_over}
-use Rattle.mcs_judging.specs.Theories.{theory_of}
+use Rattle.mcs_asked.specs.Questions.{theory_names, theory_defaults, theory_items}
 use Rattle.mcs_judging.proofs.AbsenceLemmas.{tells_blocked}
 use Rattle.mcs_proof_lines.proofs.Justs.{justs_in}
 use Rattle.mcs_judging.proofs.Places.{own_justs}
@@ -17,33 +16,32 @@ use Rattle.mcs_judging.proofs.absences.judge_blocked.Goals as goal
 pub index-formula-requires : goal.index-formula-requires
 index-formula-requires c =
     let room = c.default_numbered-default.result.now.justs.ok.0 in
-    let ds = map (λ d. default_of d.now) c.args.asked.now.defaults.now in
+    let ds = theory_defaults c.args.reading.now.theory.now in
     let d : Default = default_of c.default_numbered-default.result.now in
-    let own = own_justs ds c.args.asked.now.terms.now.justs.now (c.requires.prepared.justs ∙ ap (map justs_in) (sym c.requires.prepared.defaults)) c.args.number d c.default_numbered-default.ensures in
+    let own = own_justs ds c.args.reading.now.terms.now.justs.now (c.args.reading.now.justs ∙ ap (map justs_in) (sym c.args.reading.now.theory.now.are)) c.args.number d c.default_numbered-default.ensures in
     let long = length-map c.default_numbered-default.result.now.justs.items formula_of in
     let less : c.args.just - 1 < length c.default_numbered-default.result.now.justs.items = omega (arith, own, long, c.requires.within.some, c.requires.within.enough) in
     omega (arith, less, room)
 
 pub judge_negation-requires-clause-over : goal.judge_negation-requires-clause-over
 judge_negation-requires-clause-over c =
-    let ds = map (λ d. default_of d.now) c.args.asked.now.defaults.now in
+    let ds = theory_defaults c.args.reading.now.theory.now in
     let d : Default = default_of c.default_numbered-default.result.now in
-    let own = own_justs ds c.args.asked.now.terms.now.justs.now (c.requires.prepared.justs ∙ ap (map justs_in) (sym c.requires.prepared.defaults)) c.args.number d c.default_numbered-default.ensures in
+    let own = own_justs ds c.args.reading.now.terms.now.justs.now (c.args.reading.now.justs ∙ ap (map justs_in) (sym c.args.reading.now.theory.now.are)) c.args.number d c.default_numbered-default.ensures in
     let long = length-map c.default_numbered-default.result.now.justs.items formula_of in
     let less : c.args.just - 1 < length c.default_numbered-default.result.now.justs.items = omega (arith, own, long, c.requires.within.some, c.requires.within.enough) in
     let there : at_number d.justs c.args.just ≡ Some (formula_of c.index-formula.result.now) = numbered_read formula_of c.default_numbered-default.result.now.justs.items c.args.just c.index-formula.result.now (λ none. omega (arith, none, c.requires.within.some)) less c.index-formula.ensures in
-    let over = subst (AreOverDefaults c.args.asked.now.atoms.now) (sym c.requires.prepared.defaults) (over_defaults c.args.asked.now.atoms.now (theory_of c.args.asked.now) c.requires.prepared.over) in
-    let justs = (numbered_over c.args.asked.now.atoms.now ds c.args.number d over c.default_numbered-default.ensures).1 in
-    numbered_formula_over c.args.asked.now.atoms.now d.justs c.args.just (formula_of c.index-formula.result.now) justs there
+    let justs = (numbered_over (theory_names c.args.reading.now.theory.now) ds c.args.number d (defaults_over c.args.reading.now.theory.now) c.default_numbered-default.ensures).1 in
+    numbered_formula_over (theory_names c.args.reading.now.theory.now) d.justs c.args.just (formula_of c.index-formula.result.now) justs there
 
 pub returns-in_err-shown-clause-exact : goal.returns-in_err-shown-clause-exact
 returns-in_err-shown-clause-exact c = λ fs is. told_err _ _ _ _ _ c.from_residual.ensures.1 (c.in_err-shown.ensures.exact fs is)
 
 pub returns-clause-exact : goal.returns-clause-exact
 returns-clause-exact c = λ fs is. (
-    let ds = map (λ d. default_of d.now) c.args.asked.now.defaults.now in
+    let ds = theory_defaults c.args.reading.now.theory.now in
     let d : Default = default_of c.default_numbered-default.result.now in
-    let own = own_justs ds c.args.asked.now.terms.now.justs.now (c.requires.prepared.justs ∙ ap (map justs_in) (sym c.requires.prepared.defaults)) c.args.number d c.default_numbered-default.ensures in
+    let own = own_justs ds c.args.reading.now.terms.now.justs.now (c.args.reading.now.justs ∙ ap (map justs_in) (sym c.args.reading.now.theory.now.are)) c.args.number d c.default_numbered-default.ensures in
     let long = length-map c.default_numbered-default.result.now.justs.items formula_of in
     let less : c.args.just - 1 < length c.default_numbered-default.result.now.justs.items = omega (arith, own, long, c.requires.within.some, c.requires.within.enough) in
     let there : at_number d.justs c.args.just ≡ Some (formula_of c.index-formula.result.now) = numbered_read formula_of c.default_numbered-default.result.now.justs.items c.args.just c.index-formula.result.now (λ none. omega (arith, none, c.requires.within.some)) less c.index-formula.ensures in
@@ -51,5 +49,5 @@ returns-clause-exact c = λ fs is. (
     record {
       value = told.value;
       is = told.is;
-      fits = rw c.told_if.ensures (tells_blocked c.args.asked.now.atoms.now (theory_of c.args.asked.now) ds c.requires.prepared.defaults fs c.args.number d c.default_numbered-default.ensures c.args.just (formula_of c.index-formula.result.now) there c.in_ok-shown.shown told.value told.right);
+      fits = rw c.told_if.ensures (tells_blocked (theory_names c.args.reading.now.theory.now) (theory_items c.args.reading.now.theory.now) ds c.args.reading.now.theory.now.are fs c.args.number d c.default_numbered-default.ensures c.args.just (formula_of c.index-formula.result.now) there c.in_ok-shown.shown told.value told.right);
     })

@@ -8,15 +8,15 @@ use Rattle.mcs_judging.specs.Judging.{IsTold, ArePlacesShown}
 use Rattle.mcs_judging.proofs.Readings.{view_told, view_refused}
 use Rattle.mcs_judging.proofs.classical.judge_classical.Goals as goal
 
-pub clauses_of-requires-clause-over : goal.clauses_of-requires-clause-over
-clauses_of-requires-clause-over c =
+pub clauses_of-requires : goal.clauses_of-requires
+clauses_of-requires c =
     let heads : List Formula = map (λ f. formula_of f.now) c.args.heads.now in
     let own = ap (map (λ f. formula_of f.now)) c.deref.ensures.value ∙ c.in_ok-own.ensures in
     subst (AreOver c.args.atoms.now) (sym (ap (map (λ f. formula_of f.now)) c.deref-2.ensures.value ∙ c.in_ok-premises.ensures ∙ ap (λ (fs : List Formula). fs ++ heads) own))
     (all_append (IsOver c.args.atoms.now) (map formula_of c.args.formulas.now) (map (λ f. formula_of f.now) c.args.heads.now) c.requires.formulas c.requires.heads)
 
-pub judge_places-requires-clause-made : goal.judge_places-requires-clause-made
-judge_places-requires-clause-made c = c.in_ok-known.ensures ∙ ap (λ fs. clause_list c.args.atoms.now (map (λ f. formula_of f.now) fs)) (c.deref-2.ensures.value ∙ sym c.deref-3.ensures.value)
+pub judge_places-requires : goal.judge_places-requires
+judge_places-requires c = record { made = c.in_ok-known.ensures ∙ ap (λ fs. clause_list c.args.atoms.now (map (λ f. formula_of f.now) fs)) (c.deref-2.ensures.value ∙ sym c.deref-3.ensures.value) }
 
 pub returns-in_default : goal.returns-in_default
 returns-in_default c =

@@ -8,6 +8,6 @@ use Rattle.mcs_judging.proofs.entailments.judge_all_no.Given as goal
 
 abbrev pub invariant-loop-formula : goal.invariant-loop-formula
 invariant-loop-formula l = record {
-  model : IfSome l.model (IsModelAt l.atoms (map (λ f. formula_of f.now) l.premises));
-  judged : AreJudgedSoFar (no_at l.texts) (IsDenied l.atoms (map (λ f. formula_of f.now) l.premises)) (λ f. formula_of f.now) l.goals l.fn.lines l.lines l.formula-index l.are_right;
+  model : IfSome l.model (IsModelAt l.named.asked.now.atoms.now (map (λ f. formula_of f.now) l.premises));
+  judged : AreJudgedSoFar (no_at l.named.texts.now) (IsDenied l.named.asked.now.atoms.now (map (λ f. formula_of f.now) l.premises)) (λ f. formula_of f.now) l.goals l.fn.lines l.lines l.formula-index l.are_right;
 }

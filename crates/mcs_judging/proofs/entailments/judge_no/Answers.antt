@@ -20,7 +20,7 @@ returns-then-not-denies-clause-exact c = record {
 pub returns-clause-known : goal.returns-clause-known
 returns-clause-known c =
     let denied = c.denies.ensures.0 c.if-not-denies.false in
-    rw c.model_shown-next.ensures (model-kept c.args.atoms.now (map (λ f. formula_of f.now) c.args.premises.now) _ c.args.model.now _ c.requires.known denied.0)
+    rw c.model_shown-next.ensures (model-kept c.args.named.now.asked.now.atoms.now (map (λ f. formula_of f.now) c.args.premises.now) _ c.args.model.now _ c.requires.known denied.0)
 
 pub returns-clause-exact : goal.returns-clause-exact
 returns-clause-exact c = record {

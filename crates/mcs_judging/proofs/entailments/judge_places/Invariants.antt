@@ -7,5 +7,5 @@ use Rattle.mcs_judging.proofs.entailments.judge_places.Given as goal
 abbrev pub invariant-loop-index : goal.invariant-loop-index
 invariant-loop-index l = record {
   kept : l.known ≡ l.fn.known;
-  told : AreToldSoFar l.atoms (map (λ f. formula_of f.now) l.premises) (entailment_at l.texts) (λ f. formula_of f.now) l.beliefs l.fn.lines l.lines l.index l.told;
+  told : AreToldSoFar l.named.asked.now.atoms.now (map (λ f. formula_of f.now) l.premises) (entailment_at l.named.texts.now) (λ f. formula_of f.now) l.named.asked.now.beliefs.now l.fn.lines l.lines l.index l.told;
 }

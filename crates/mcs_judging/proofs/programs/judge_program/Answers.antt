@@ -10,16 +10,15 @@ use Rattle.mcs_proof_lines.specs.Programs.{program_at}
 use Rattle.mcs_judging.specs.Judging.{Tells, AreViewsOf}
 use Rattle.mcs_judging.proofs.programs.judge_program.Goals as goal
 
-pub judge_asked-judged-requires : goal.judge_asked-judged-requires
-judge_asked-judged-requires c =
+pub invariant_of-program : goal.invariant_of-program
+invariant_of-program c =
     let beliefs : map Atom (map (λ b. b.now) c.deref-2.result.now) ≡ map (λ f. formula_of f.now) c.args.beliefs.now = ap (λ (ns : List (Bor Name)). map Atom (map (λ b. b.now) ns)) c.deref-2.ensures.value ∙ c.in_ok-names.ensures in
     record {
       few = c.requires.few;
-      few_texts = c.requires.few_texts;
       few_beliefs = omega (arith, c.requires.few_beliefs, ap length beliefs, length-map (map (λ b. b.now) c.deref-2.result.now) Atom, length-map c.deref-2.result.now (λ b. b.now), length-map c.args.beliefs.now (λ f. formula_of f.now));
-      rules = subst (AreOverRules c.args.atoms.now) (sym (ap (map rule_of) c.deref.ensures.value ∙ c.in_ok-all.ensures))
+      over = subst (AreOverRules c.args.atoms.now) (sym (ap (map rule_of) c.deref.ensures.value ∙ c.in_ok-all.ensures))
           (with_heads_over c.args.atoms.now (map rule_of c.args.rules.now) (map (λ f. formula_of f.now) c.args.heads.now) c.requires.rules c.requires.heads);
-      beliefs = names_over c.args.atoms.now (map (λ b. b.now) c.deref-2.result.now) (map (λ f. formula_of f.now) c.args.beliefs.now) beliefs c.requires.beliefs;
+      names = names_over c.args.atoms.now (map (λ b. b.now) c.deref-2.result.now) (map (λ f. formula_of f.now) c.args.beliefs.now) beliefs c.requires.beliefs;
     }
 
 pub returns : goal.returns

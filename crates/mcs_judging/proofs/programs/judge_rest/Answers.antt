@@ -8,5 +8,5 @@ returns-in_err-expect c = judged_err _ _ _ _ _ c.from_residual.ensures.1 (line_f
 
 pub returns : goal.returns
 returns c =
-    rest_read (Completes c.args.asked.now c.args.smaller.now c.args.shown.now) c.judge_refutation-judged.result c.args.lines.now c.expect.new.lines c.judge_refutation-judged.new.lines c.in_ok-expect.ensures
+    rest_read (Completes c.args.program.now c.args.smaller.now c.args.shown.now) c.judge_refutation-judged.result c.args.lines.now c.expect.new.lines c.judge_refutation-judged.new.lines c.in_ok-expect.ensures
     (judges_same (Refutes c.in_ok-clauses.clauses) _ c.judge_refutation-judged.result _ _ c.in_ok-clauses.ensures c.judge_refutation-judged.ensures)

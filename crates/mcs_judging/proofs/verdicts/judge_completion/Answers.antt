@@ -6,92 +6,90 @@ use Rattle.mcs_system.specs.Seen.{default_of, formula_of}
 use Rattle.mcs_evidence.specs.Defaults.{defaults_of, defaults_at, all_defaults, negated_justs, AreDenied}
 use Rattle.mcs_extensions.specs.Checks.{AreAbsent}
 use Rattle.mcs_proof_lines.specs.Verdicts.{terms_of, all_places, just_total}
-use Rattle.mcs_judging.specs.Theories.{theory_of}
+use Rattle.mcs_asked.specs.Questions.{theory_names, theory_beliefs, theory_defaults, theory_items}
 use Rattle.mcs_proof_lines.proofs.Justs.{justs_in, counted, total_justs}
-use Rattle.mcs_judging.proofs.Places.{long_as, all_places_are}
+use Rattle.mcs_judging.proofs.Places.{all_places_are}
 use Rattle.mcs_judging.proofs.Readings.{told_err}
 use Rattle.mcs_judging.proofs.VerdictLemmas.{completion_first, completion_second, completion_third, completion_read, completion_told}
 use Rattle.mcs_judging.proofs.verdicts.judge_completion.Goals as goal
 
 pub chosen-requires : goal.chosen-requires
-chosen-requires c =
-    let long = long_as (λ d. default_of d.now) c.args.asked.now.defaults.now (defaults_of (theory_of c.args.asked.now)) c.args.asked.now.terms.now.justs.now c.requires.prepared.defaults c.requires.prepared.justs in
-    omega (arith, long, c.requires.prepared.few_defaults)
+chosen-requires c = omega (arith, c.args.reading.now.theory.now.few_defaults)
 
 pub places-requires : goal.places-requires
-places-requires c = c.requires.prepared.few_defaults
+places-requires c = c.args.reading.now.few_justs
 
 pub judge_absences-requires-clause-places : goal.judge_absences-requires-clause-places
 judge_absences-requires-clause-places c = recursion_from_All _ _ c.members-others.ensures.below
 
 pub returns-in_err-allowed-clause-exact : goal.returns-in_err-allowed-clause-exact
 returns-in_err-allowed-clause-exact c =
-    let names = c.args.asked.now.atoms.now in
-    let items = theory_of c.args.asked.now in
-    let beliefs : List Formula = map (λ f. formula_of f.now) c.args.asked.now.beliefs.now in
-    let t = terms_of c.args.asked.now.terms.now in
-    let ds : List Default = map (λ d. default_of d.now) c.args.asked.now.defaults.now in
+    let names = theory_names c.args.reading.now.theory.now in
+    let items = theory_items c.args.reading.now.theory.now in
+    let beliefs : List Formula = theory_beliefs c.args.reading.now.theory.now in
+    let t = terms_of c.args.reading.now.terms.now in
+    let ds : List Default = theory_defaults c.args.reading.now.theory.now in
     let chosen : List Default = map (λ d. default_of d.now) c.deref.result.now in
     let inside : chosen ≡ defaults_at 0 ds c.args.set = ap (map (λ d. default_of d.now)) c.deref.ensures.value ∙ c.in_ok-inside.ensures in
     let many : length (negated_justs chosen) ≡ just_total t.justs (members c.args.set) =
-    ap (λ (xs : List Default). length (negated_justs xs)) inside ∙ total_justs ds t.justs (c.requires.prepared.justs ∙ ap (map justs_in) (sym c.requires.prepared.defaults)) c.args.set c.requires.inside in
+    ap (λ (xs : List Default). length (negated_justs xs)) inside ∙ total_justs ds t.justs (c.args.reading.now.justs ∙ ap (map justs_in) (sym c.args.reading.now.theory.now.are)) c.args.set c.requires.inside in
     told_err _ _ _ _ _ c.from_residual-in_err-allowed.ensures.1
-    (completion_first t names items beliefs c.args.set c.args.lines.now (length (negated_justs chosen)) many (members (minus (all_places t) c.args.set)) refl (length c.args.asked.now.beliefs.now) (sym c.requires.prepared.beliefs) _ c.in_err-allowed.ensures)
+    (completion_first t names items beliefs c.args.set c.args.lines.now (length (negated_justs chosen)) many (members (minus (all_places t) c.args.set)) refl (length c.args.reading.now.theory.now.asked.now.beliefs.now) (sym c.args.reading.now.beliefs) _ c.in_err-allowed.ensures)
 
 pub returns-in_err-absent-clause-exact : goal.returns-in_err-absent-clause-exact
 returns-in_err-absent-clause-exact c =
-    let names = c.args.asked.now.atoms.now in
-    let items = theory_of c.args.asked.now in
-    let beliefs : List Formula = map (λ f. formula_of f.now) c.args.asked.now.beliefs.now in
-    let t = terms_of c.args.asked.now.terms.now in
-    let ds : List Default = map (λ d. default_of d.now) c.args.asked.now.defaults.now in
+    let names = theory_names c.args.reading.now.theory.now in
+    let items = theory_items c.args.reading.now.theory.now in
+    let beliefs : List Formula = theory_beliefs c.args.reading.now.theory.now in
+    let t = terms_of c.args.reading.now.terms.now in
+    let ds : List Default = theory_defaults c.args.reading.now.theory.now in
     let chosen : List Default = map (λ d. default_of d.now) c.deref.result.now in
     let inside : chosen ≡ defaults_at 0 ds c.args.set = ap (map (λ d. default_of d.now)) c.deref.ensures.value ∙ c.in_ok-inside.ensures in
     let many : length (negated_justs chosen) ≡ just_total t.justs (members c.args.set) =
-    ap (λ (xs : List Default). length (negated_justs xs)) inside ∙ total_justs ds t.justs (c.requires.prepared.justs ∙ ap (map justs_in) (sym c.requires.prepared.defaults)) c.args.set c.requires.inside in
+    ap (λ (xs : List Default). length (negated_justs xs)) inside ∙ total_justs ds t.justs (c.args.reading.now.justs ∙ ap (map justs_in) (sym c.args.reading.now.theory.now.are)) c.args.set c.requires.inside in
     let places : c.members-others.result ≡ members (minus (all_places t) c.args.set) = c.members-others.ensures.list ∙ ap members (c.minus.ensures ∙ ap (λ (s : ℕ). minus s c.args.set) c.places.ensures) in
     let h = c.in_ok-allowed.ensures in
     told_err _ _ _ _ _ c.from_residual-in_err-absent.ensures.1
-    (completion_second t names items beliefs c.args.set c.args.lines.now (length (negated_justs chosen)) many c.members-others.result places (length c.args.asked.now.beliefs.now) (sym c.requires.prepared.beliefs) h.value c.judge_justs.new.lines h.is _ c.in_err-absent.ensures.exact)
+    (completion_second t names items beliefs c.args.set c.args.lines.now (length (negated_justs chosen)) many c.members-others.result places (length c.args.reading.now.theory.now.asked.now.beliefs.now) (sym c.args.reading.now.beliefs) h.value c.judge_justs.new.lines h.is _ c.in_err-absent.ensures.exact)
 
 pub returns-in_err-view-clause-exact : goal.returns-in_err-view-clause-exact
 returns-in_err-view-clause-exact c =
-    let names = c.args.asked.now.atoms.now in
-    let items = theory_of c.args.asked.now in
-    let beliefs : List Formula = map (λ f. formula_of f.now) c.args.asked.now.beliefs.now in
-    let t = terms_of c.args.asked.now.terms.now in
-    let ds : List Default = map (λ d. default_of d.now) c.args.asked.now.defaults.now in
+    let names = theory_names c.args.reading.now.theory.now in
+    let items = theory_items c.args.reading.now.theory.now in
+    let beliefs : List Formula = theory_beliefs c.args.reading.now.theory.now in
+    let t = terms_of c.args.reading.now.terms.now in
+    let ds : List Default = theory_defaults c.args.reading.now.theory.now in
     let chosen : List Default = map (λ d. default_of d.now) c.deref.result.now in
     let inside : chosen ≡ defaults_at 0 ds c.args.set = ap (map (λ d. default_of d.now)) c.deref.ensures.value ∙ c.in_ok-inside.ensures in
     let many : length (negated_justs chosen) ≡ just_total t.justs (members c.args.set) =
-    ap (λ (xs : List Default). length (negated_justs xs)) inside ∙ total_justs ds t.justs (c.requires.prepared.justs ∙ ap (map justs_in) (sym c.requires.prepared.defaults)) c.args.set c.requires.inside in
+    ap (λ (xs : List Default). length (negated_justs xs)) inside ∙ total_justs ds t.justs (c.args.reading.now.justs ∙ ap (map justs_in) (sym c.args.reading.now.theory.now.are)) c.args.set c.requires.inside in
     let places : c.members-others.result ≡ members (minus (all_places t) c.args.set) = c.members-others.ensures.list ∙ ap members (c.minus.ensures ∙ ap (λ (s : ℕ). minus s c.args.set) c.places.ensures) in
     let h = c.in_ok-allowed.ensures in
     let h' = c.in_ok-absent.ensures.exact in
     told_err _ _ _ _ _ c.from_residual-in_err-view.ensures.1
-    (completion_third t names items beliefs c.args.set c.args.lines.now (length (negated_justs chosen)) many c.members-others.result places (length c.args.asked.now.beliefs.now) (sym c.requires.prepared.beliefs) h.value c.judge_justs.new.lines h.is h'.value c.judge_absences.new.lines h'.is _ c.in_err-view.ensures.exact)
+    (completion_third t names items beliefs c.args.set c.args.lines.now (length (negated_justs chosen)) many c.members-others.result places (length c.args.reading.now.theory.now.asked.now.beliefs.now) (sym c.args.reading.now.beliefs) h.value c.judge_justs.new.lines h.is h'.value c.judge_absences.new.lines h'.is _ c.in_err-view.ensures.exact)
 
 pub returns-clause-exact : goal.returns-clause-exact
 returns-clause-exact c =
-    let names = c.args.asked.now.atoms.now in
-    let items = theory_of c.args.asked.now in
-    let beliefs : List Formula = map (λ f. formula_of f.now) c.args.asked.now.beliefs.now in
+    let names = theory_names c.args.reading.now.theory.now in
+    let items = theory_items c.args.reading.now.theory.now in
+    let beliefs : List Formula = theory_beliefs c.args.reading.now.theory.now in
     let fs : List Formula = map (λ f. formula_of f.now) c.args.premises.now in
-    let t = terms_of c.args.asked.now.terms.now in
-    let ds : List Default = map (λ d. default_of d.now) c.args.asked.now.defaults.now in
+    let t = terms_of c.args.reading.now.terms.now in
+    let ds : List Default = theory_defaults c.args.reading.now.theory.now in
     let chosen : List Default = map (λ d. default_of d.now) c.deref.result.now in
     let inside : chosen ≡ defaults_at 0 ds c.args.set = ap (map (λ d. default_of d.now)) c.deref.ensures.value ∙ c.in_ok-inside.ensures in
     let many : length (negated_justs chosen) ≡ just_total t.justs (members c.args.set) =
-    ap (λ (xs : List Default). length (negated_justs xs)) inside ∙ total_justs ds t.justs (c.requires.prepared.justs ∙ ap (map justs_in) (sym c.requires.prepared.defaults)) c.args.set c.requires.inside in
+    ap (λ (xs : List Default). length (negated_justs xs)) inside ∙ total_justs ds t.justs (c.args.reading.now.justs ∙ ap (map justs_in) (sym c.args.reading.now.theory.now.are)) c.args.set c.requires.inside in
     let places : c.members-others.result ≡ members (minus (all_places t) c.args.set) = c.members-others.ensures.list ∙ ap members (c.minus.ensures ∙ ap (λ (s : ℕ). minus s c.args.set) c.places.ensures) in
-    let all : all_places t ≡ all_defaults items = all_places_are (length t.justs) ∙ ap (λ (n : ℕ). such_that n (λ k. true)) (counted (defaults_of items) t.justs c.requires.prepared.justs) in
+    let all : all_places t ≡ all_defaults items = all_places_are (length t.justs) ∙ ap (λ (n : ℕ). such_that n (λ k. true)) (counted (defaults_of items) t.justs c.args.reading.now.justs) in
     let h = c.in_ok-allowed.ensures in
     let h' = c.in_ok-absent.ensures.exact in
     let v = c.in_ok-view.ensures.exact in
     let allowed : IsTrue c.in_ok-allowed.allowed ↔ AreDenied names fs (negated_justs (defaults_at 0 (defaults_of items) c.args.set)) h.value =
-    subst (λ (xs : List Default). IsTrue c.in_ok-allowed.allowed ↔ AreDenied names fs (negated_justs xs) h.value) (inside ∙ ap (λ (xs : List Default). defaults_at 0 xs c.args.set) c.requires.prepared.defaults) h.right in
+    subst (λ (xs : List Default). IsTrue c.in_ok-allowed.allowed ↔ AreDenied names fs (negated_justs xs) h.value) (inside ∙ ap (λ (xs : List Default). defaults_at 0 xs c.args.set) c.args.reading.now.theory.now.are) h.right in
     let absent : IsTrue c.in_ok-absent.absent ↔ AreAbsent names items fs (members (minus (all_defaults items) c.args.set)) h'.value =
     subst (λ (ks : List ℕ). IsTrue c.in_ok-absent.absent ↔ AreAbsent names items fs ks h'.value) (places ∙ ap (λ (s : ℕ). members (minus s c.args.set)) all) h'.right in
-    completion_read t names items beliefs c.args.set c.args.lines.now (length (negated_justs chosen)) many c.members-others.result places (length c.args.asked.now.beliefs.now) (sym c.requires.prepared.beliefs) h.value c.judge_justs.new.lines h.is h'.value c.judge_absences.new.lines h'.is
+    completion_read t names items beliefs c.args.set c.args.lines.now (length (negated_justs chosen)) many c.members-others.result places (length c.args.reading.now.theory.now.asked.now.beliefs.now) (sym c.args.reading.now.beliefs) h.value c.judge_justs.new.lines h.is h'.value c.judge_absences.new.lines h'.is
     fs c.shown_if-2.result c.judge_places.new.lines v.value v.is
     (rw (c.shown_if-2.ensures, c.shown_if.ensures) (completion_told names items beliefs c.args.set fs (h.value, h'.value, v.value) c.in_ok-allowed.allowed c.in_ok-absent.absent c.in_ok-view.view allowed absent v.fits))

@@ -5,55 +5,47 @@ use Rattle.mcs_system.specs.Plain.{Formula, Default}
 use Rattle.mcs_system.specs.Seen.{default_of, formula_of}
 use Rattle.mcs_evidence.specs.Defaults.{defaults_of, defaults_at, generated, AreDenied}
 use Rattle.mcs_proof_lines.specs.Verdicts.{terms_of}
-use Rattle.mcs_judging.specs.Theories.{theory_of}
+use Rattle.mcs_asked.specs.Questions.{theory_names, theory_beliefs, theory_defaults, theory_items}
 use Rattle.mcs_sets.proofs.Lattice.{minus-lt}
 use Rattle.mcs_proof_lines.proofs.Justs.{counted}
-use Rattle.mcs_judging.proofs.Places.{long_as, size_chosen}
+use Rattle.mcs_judging.proofs.Places.{size_chosen}
 use Rattle.mcs_judging.proofs.Readings.{told_err}
 use Rattle.mcs_judging.proofs.VerdictLemmas.{ungrounded_unread, ungrounded_told, ungrounded_judged}
 use Rattle.mcs_judging.proofs.verdicts.judge_ungrounded.Goals as goal
 
 pub chosen-requires : goal.chosen-requires
-chosen-requires c =
-    let long = long_as (λ d. default_of d.now) c.args.asked.now.defaults.now (defaults_of (theory_of c.args.asked.now)) c.args.asked.now.terms.now.justs.now c.requires.prepared.defaults c.requires.prepared.justs in
-    omega (arith, long, c.requires.prepared.few_defaults)
-
-pub judge_all_no-requires-clause-few : goal.judge_all_no-requires-clause-few
-judge_all_no-requires-clause-few c = c.requires.prepared.few
-
-pub judge_all_no-requires-clause-few_texts : goal.judge_all_no-requires-clause-few_texts
-judge_all_no-requires-clause-few_texts c = c.requires.prepared.few_texts
+chosen-requires c = omega (arith, c.args.reading.now.theory.now.few_defaults)
 
 pub returns-in_err-denied : goal.returns-in_err-denied
 returns-in_err-denied c =
-    let names = c.args.asked.now.atoms.now in
-    let items = theory_of c.args.asked.now in
-    let beliefs : List Formula = map (λ f. formula_of f.now) c.args.asked.now.beliefs.now in
-    let t = terms_of c.args.asked.now.terms.now in
+    let names = theory_names c.args.reading.now.theory.now in
+    let items = theory_items c.args.reading.now.theory.now in
+    let beliefs : List Formula = theory_beliefs c.args.reading.now.theory.now in
+    let t = terms_of c.args.reading.now.terms.now in
     let others : ℕ = minus c.args.set c.args.part in
     let chosen : map (λ d. default_of d.now) c.deref.result.now ≡ defaults_at 0 (defaults_of items) others =
-    ap (map (λ d. default_of d.now)) c.deref.ensures.value ∙ c.in_ok-others.ensures ∙ ap (defaults_at 0 (map (λ d. default_of d.now) c.args.asked.now.defaults.now)) c.minus.ensures ∙ ap (λ (xs : List Default). defaults_at 0 xs others) c.requires.prepared.defaults in
+    ap (map (λ d. default_of d.now)) c.deref.ensures.value ∙ c.in_ok-others.ensures ∙ ap (defaults_at 0 (theory_defaults c.args.reading.now.theory.now)) c.minus.ensures ∙ ap (λ (xs : List Default). defaults_at 0 xs others) c.args.reading.now.theory.now.are in
     let goals : map (λ f. formula_of f.now) c.deref-3.result.now ≡ map (λ (d : Default). d.pre) (defaults_at 0 (defaults_of items) others) =
     ap (map (λ f. formula_of f.now)) c.deref-3.ensures.value ∙ c.in_ok-goals.ensures ∙ ap (map (λ (d : Default). d.pre)) chosen in
     let many : length c.deref-3.result.now ≡ size others =
     sym (length-map c.deref-3.result.now (λ f. formula_of f.now)) ∙ ap length goals ∙ length-map (defaults_at 0 (defaults_of items) others) (λ (d : Default). d.pre)
-    ∙ size_chosen (defaults_of items) (length t.justs) others (counted (defaults_of items) t.justs c.requires.prepared.justs) (minus-lt (length t.justs) c.args.set c.args.part c.requires.inside) in
+    ∙ size_chosen (defaults_of items) (length t.justs) others (counted (defaults_of items) t.justs c.args.reading.now.justs) (minus-lt (length t.justs) c.args.set c.args.part c.requires.inside) in
     told_err _ _ _ _ _ c.from_residual-in_err-denied.ensures.1 (ungrounded_unread t names items beliefs c.args.set c.args.part c.args.lines.now (length c.deref-3.result.now) many _ c.in_err-denied.ensures)
 
 pub returns : goal.returns
 returns c =
-    let names = c.args.asked.now.atoms.now in
-    let items = theory_of c.args.asked.now in
-    let beliefs : List Formula = map (λ f. formula_of f.now) c.args.asked.now.beliefs.now in
-    let t = terms_of c.args.asked.now.terms.now in
+    let names = theory_names c.args.reading.now.theory.now in
+    let items = theory_items c.args.reading.now.theory.now in
+    let beliefs : List Formula = theory_beliefs c.args.reading.now.theory.now in
+    let t = terms_of c.args.reading.now.terms.now in
     let others : ℕ = minus c.args.set c.args.part in
     let chosen : map (λ d. default_of d.now) c.deref.result.now ≡ defaults_at 0 (defaults_of items) others =
-    ap (map (λ d. default_of d.now)) c.deref.ensures.value ∙ c.in_ok-others.ensures ∙ ap (defaults_at 0 (map (λ d. default_of d.now) c.args.asked.now.defaults.now)) c.minus.ensures ∙ ap (λ (xs : List Default). defaults_at 0 xs others) c.requires.prepared.defaults in
+    ap (map (λ d. default_of d.now)) c.deref.ensures.value ∙ c.in_ok-others.ensures ∙ ap (defaults_at 0 (theory_defaults c.args.reading.now.theory.now)) c.minus.ensures ∙ ap (λ (xs : List Default). defaults_at 0 xs others) c.args.reading.now.theory.now.are in
     let goals : map (λ f. formula_of f.now) c.deref-3.result.now ≡ map (λ (d : Default). d.pre) (defaults_at 0 (defaults_of items) others) =
     ap (map (λ f. formula_of f.now)) c.deref-3.ensures.value ∙ c.in_ok-goals.ensures ∙ ap (map (λ (d : Default). d.pre)) chosen in
     let many : length c.deref-3.result.now ≡ size others =
     sym (length-map c.deref-3.result.now (λ f. formula_of f.now)) ∙ ap length goals ∙ length-map (defaults_at 0 (defaults_of items) others) (λ (d : Default). d.pre)
-    ∙ size_chosen (defaults_of items) (length t.justs) others (counted (defaults_of items) t.justs c.requires.prepared.justs) (minus-lt (length t.justs) c.args.set c.args.part c.requires.inside) in
+    ∙ size_chosen (defaults_of items) (length t.justs) others (counted (defaults_of items) t.justs c.args.reading.now.justs) (minus-lt (length t.justs) c.args.set c.args.part c.requires.inside) in
     let premises : map (λ f. formula_of f.now) c.deref-2.result.now ≡ generated items c.args.part = ap (map (λ f. formula_of f.now)) c.deref-2.ensures.value ∙ c.in_ok-premises.ensures in
     let h = c.in_ok-denied.ensures in
     let denied : IsTrue c.in_ok-denied.denied ↔ AreDenied names (generated items c.args.part) (map (λ (d : Default). d.pre) (defaults_at 0 (defaults_of items) others)) h.value =

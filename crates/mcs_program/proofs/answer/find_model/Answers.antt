@@ -11,4 +11,4 @@ returns-in-None-clause-found c = λ fs m a h.
 pub returns-in-Some-clause-found : goal.returns-in-Some-clause-found
 returns-in-Some-clause-found c = λ fs m.
     let answer : IsSettledAnswer c.args.known.now (Some c.in-Some.values) = subst (IsSettledAnswer c.args.known.now) c.in-Some.is c.in_ok-values.ensures.exact in
-    modelled c.args.atoms.now fs c.in-Some.values.items c.deref.result.now c.true_places.result c.requires.different (λ a e. m.satisfied a _ e answer.1) c.deref.ensures.value c.true_places.ensures
+    modelled c.args.program.now.atoms.now fs c.in-Some.values.items c.deref.result.now c.true_places.result c.args.program.now.different (λ a e. m.satisfied a _ e answer.1) c.deref.ensures.value c.true_places.ensures

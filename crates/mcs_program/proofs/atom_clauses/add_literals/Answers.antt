@@ -12,7 +12,7 @@ use Rattle.mcs_program.proofs.atom_clauses.add_literals.Goals as goal
 pub literal-requires : goal.literal-requires
 literal-requires c =
     let known = (all_drop_parts _ c.args.names.now c.loop-name.name-index c.name-item.result c.loop-name-test.true c.name-item.is c.loop-name.invariant.over).0 in
-    let within = atom_within c.args.atoms.now c.name-item.result known in
+    let within = atom_within c.args.program.now.atoms.now c.name-item.result known in
     omega (arith, within)
 
 pub loop-name-preserved : goal.loop-name-preserved
@@ -20,7 +20,7 @@ loop-name-preserved c =
     let names = c.args.names.now in
     let i = c.loop-name.name-index in
     let name = c.name-item.result in
-    let atoms = c.args.atoms.now in
+    let atoms = c.args.program.now.atoms.now in
     let tail : List ℤ = literals_of_names atoms c.args.sign (drop (i + 1) names) in
     let all = all_drop_parts _ names i name c.loop-name-test.true c.name-item.is c.loop-name.invariant.over in
     let within = atom_within atoms name all.0 in

@@ -5,4 +5,4 @@ use Rattle.mcs_program.specs.Clauses.{AreMeantBy}
 use Rattle.mcs_program.proofs.atom_clauses.clauses_of_rules.Given as goal
 
 abbrev pub invariant-loop-rule : goal.invariant-loop-rule
-invariant-loop-rule l = AreMeantBy l.atoms (map rule_formula (map rule_of (take l.rule-index l.rules))) l.cnf
+invariant-loop-rule l = AreMeantBy l.program.atoms.now (map rule_formula (map rule_of (take l.rule-index l.program.rules.now))) l.cnf

@@ -9,11 +9,11 @@ use Rattle.mcs_program.proofs.ClauseLemmas.{literal_fits, atom_there, adds_value
 use Rattle.mcs_program.proofs.atom_clauses.push_value.Goals as goal
 
 pub literal-requires : goal.literal-requires
-literal-requires c = omega (arith, atom_within c.args.atoms.now c.args.belief.now c.requires.over)
+literal-requires c = omega (arith, atom_within c.args.program.now.atoms.now c.args.belief.now c.requires.over)
 
 pub add-requires-clause-clause : goal.add-requires-clause-clause
 add-requires-clause-clause c =
-    let atoms = c.args.atoms.now in
+    let atoms = c.args.program.now.atoms.now in
     let n = c.args.belief.now in
     let within = atom_within atoms n c.requires.over in
     let equal = c.literal.ensures ∙ ap (literal_of c.args.value) c.atom_number.ensures in
@@ -22,7 +22,7 @@ add-requires-clause-clause c =
 
 pub add-requires-clause-within : goal.add-requires-clause-within
 add-requires-clause-within c =
-    let atoms = c.args.atoms.now in
+    let atoms = c.args.program.now.atoms.now in
     let n = c.args.belief.now in
     let within = atom_within atoms n c.requires.over in
     let equal = c.literal.ensures ∙ ap (literal_of c.args.value) c.atom_number.ensures in
@@ -32,7 +32,7 @@ add-requires-clause-within c =
 
 pub returns-clause-clause : goal.returns-clause-clause
 returns-clause-clause c =
-    let atoms = c.args.atoms.now in
+    let atoms = c.args.program.now.atoms.now in
     let n = c.args.belief.now in
     let within = atom_within atoms n c.requires.over in
     let equal = c.literal.ensures ∙ ap (literal_of c.args.value) c.atom_number.ensures in
@@ -40,4 +40,4 @@ returns-clause-clause c =
     on_ok_weaker c.add.result (λ e. e ∙ ap (λ (l : ℤ). (let f : ClauseList = record c.args.known.now { clauses = c.args.known.now.clauses ++ (l ∷ []) ∷ [] } in f)) (to_z-of_z (fits_literal c.literal.result is) ∙ equal)) c.add.ensures.ok
 
 pub returns-clause-adds : goal.returns-clause-adds
-returns-clause-adds c = on_ok_weaker c.add.result (λ e. adds_value c.args.atoms.now c.args.belief.now c.args.value c.args.known.now c.add.new.self c.requires.over e) (returns-clause-clause c)
+returns-clause-adds c = on_ok_weaker c.add.result (λ e. adds_value c.args.program.now.atoms.now c.args.belief.now c.args.value c.args.known.now c.add.new.self c.requires.over e) (returns-clause-clause c)

@@ -12,11 +12,11 @@ use Rattle.mcs_program.specs.Clauses.{AreMeantBy, AddsFormula}
 use Rattle.mcs_program.proofs.listing.add_own.Goals as goal
 
 pub loop-atom-init : goal.loop-atom-init
-loop-atom-init c = subst (λ (fs : List Formula). AreMeantBy c.args.atoms.now fs c.args.known.now) (sym (append-nil (map rule_formula (map rule_of c.args.rules.now)))) c.requires.known
+loop-atom-init c = subst (λ (fs : List Formula). AreMeantBy c.args.program.now.atoms.now fs c.args.known.now) (sym (append-nil (map rule_formula (map rule_of c.args.program.now.rules.now)))) c.requires
 
 pub add_support-requires-clause-over : goal.add_support-requires-clause-over
 add_support-requires-clause-over c =
-    let atoms = c.args.atoms.now in
+    let atoms = c.args.program.now.atoms.now in
     let n = c.atom-item.result in
     let among = subst (λ (m : Name). IsAmong m atoms) (sym c.atom-item.is) (among_at atoms c.loop-atom.atom-index n c.loop-atom-test.true) in
     subst (AreNamesOf atoms) (sym c.from_ref.ensures.value) ((is_in-among n atoms).1 among, tt)
@@ -26,8 +26,8 @@ add_support-requires-clause-room c = c.loop-atom.invariant.room
 
 pub loop-atom-preserved : goal.loop-atom-preserved
 loop-atom-preserved c =
-    let atoms = c.args.atoms.now in
-    let rules = map rule_of c.args.rules.now in
+    let atoms = c.args.program.now.atoms.now in
+    let rules = map rule_of c.args.program.now.rules.now in
     let i = c.loop-atom.atom-index in
     let n = c.atom-item.result in
     let new = c.add_support.new.known in
@@ -41,6 +41,6 @@ loop-atom-preserved c =
 
 pub returns : goal.returns
 returns c =
-    let atoms = c.args.atoms.now in
-    let rules = map rule_of c.args.rules.now in
+    let atoms = c.args.program.now.atoms.now in
+    let rules = map rule_of c.args.program.now.rules.now in
     subst (λ (ns : List Name). AreMeantBy atoms (map rule_formula rules ++ map (λ n. support_formula rules (n ∷ [])) ns) c.loop-atom.known) (take_all c.loop-atom.atom-index atoms c.loop-atom-test.false) c.loop-atom.invariant

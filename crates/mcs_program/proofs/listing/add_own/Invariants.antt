@@ -6,4 +6,4 @@ use Rattle.mcs_program.specs.Clauses.{AreMeantBy}
 use Rattle.mcs_program.proofs.listing.add_own.Given as goal
 
 abbrev pub invariant-loop-atom : goal.invariant-loop-atom
-invariant-loop-atom l = AreMeantBy l.atoms (map rule_formula (map rule_of l.rules) ++ map (λ n. support_formula (map rule_of l.rules) (n ∷ [])) (take l.atom-index l.atoms)) l.known
+invariant-loop-atom l = AreMeantBy l.program.atoms.now (map rule_formula (map rule_of l.program.rules.now) ++ map (λ n. support_formula (map rule_of l.program.rules.now) (n ∷ [])) (take l.atom-index l.program.atoms.now)) l.known

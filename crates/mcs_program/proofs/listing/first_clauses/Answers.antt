@@ -4,5 +4,5 @@ use Rattle.mcs_evidence.specs.Programs.{rule_formula}
 use Rattle.mcs_program.specs.Clauses.{AreMeantBy}
 use Rattle.mcs_program.proofs.listing.first_clauses.Goals as goal
 
-pub add_own-requires-clause-known : goal.add_own-requires-clause-known
-add_own-requires-clause-known c = subst (AreMeantBy c.args.atoms.now (map rule_formula (map rule_of c.args.rules.now))) (sym c.in_ok-known.ensures) c.in_ok-cnf.ensures
+pub add_own-requires : goal.add_own-requires
+add_own-requires c = subst (AreMeantBy c.args.program.now.atoms.now (map rule_formula (map rule_of c.args.program.now.rules.now))) (sym c.in_ok-known.ensures) c.in_ok-cnf.ensures

@@ -1,11 +1,9 @@
-use Rattle.std.proofs.Common.{map}
-use Rattle.mcs_system.specs.Plain.{Atom}
-use Rattle.mcs_system.specs.Seen.{rule_of}
+use Rattle.mcs_program.specs.Asked.{program_names, program_rules, program_beliefs, belief_names}
 use Rattle.mcs_program.proofs.SearchLemmas.{atoms_of_names}
 use Rattle.mcs_program.proofs.ListingLemmas.{all_listed}
 use Rattle.mcs_program.proofs.listing.list_by_models.Goals as goal
 
 pub returns : goal.returns
 returns c =
-    all_listed c.args.atoms.now (map rule_of c.args.rules.now) (map Atom (map (λ b. b.now) c.args.beliefs.now)) c.in_ok-known.field-0
-    (atoms_of_names c.args.atoms.now (map (λ b. b.now) c.args.beliefs.now) c.requires.beliefs) c.in_ok-known.ensures.listed c.in_ok-known.ensures.all
+    let p = c.args.placed.now.program.now in
+    all_listed (program_names p) (program_rules p) (program_beliefs p) c.in_ok-known.field-0 (atoms_of_names (program_names p) (belief_names p) p.beliefs_over) c.in_ok-known.ensures.listed c.in_ok-known.ensures.all

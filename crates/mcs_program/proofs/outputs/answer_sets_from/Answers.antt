@@ -10,10 +10,15 @@ use Rattle.mcs_program.proofs.SearchLemmas.{atoms_of_names}
 use Rattle.mcs_program.proofs.OutputLemmas.{with_facts_over}
 use Rattle.mcs_program.proofs.outputs.answer_sets_from.Goals as goal
 
-pub found_and_shown-result-requires-clause-rules : goal.found_and_shown-result-requires-clause-rules
-found_and_shown-result-requires-clause-rules c =
-    subst (AreOverRules c.args.atoms.now) (sym (ap (map rule_of) c.deref.ensures.value ∙ c.in_ok-all.ensures))
-    (with_facts_over c.args.atoms.now (map (λ b. b.now) c.args.added.now) (map rule_of c.args.rules.now) c.requires.rules c.requires.added)
+pub invariant_of-program : goal.invariant_of-program
+invariant_of-program c = record {
+  few = c.requires.few;
+  different = c.requires.different;
+  few_beliefs = c.requires.few_beliefs;
+  rules_over = subst (AreOverRules c.args.atoms.now) (sym (ap (map rule_of) c.deref.ensures.value ∙ c.in_ok-all.ensures))
+      (with_facts_over c.args.atoms.now (map (λ b. b.now) c.args.added.now) (map rule_of c.args.rules.now) c.requires.rules c.requires.added);
+  beliefs_over = c.requires.beliefs;
+}
 
 pub returns-clause-accepted : goal.returns-clause-accepted
 returns-clause-accepted c =

@@ -5,10 +5,10 @@ use Rattle.mcs_base.proofs.Mapped.{image_each_read}
 use Rattle.mcs_base.proofs.Zipped.{zip_take_read}
 use Rattle.mcs_program.proofs.placing.placed_rules.Goals as goal
 
-pub of-requires-clause-over : goal.of-requires-clause-over
-of-requires-clause-over c = image_each_read (IsOverRule c.args.atoms.now) rule_of c.args.rules.now c.loop-rule.rule-index c.rule-item.result c.loop-rule-test.true c.rule-item.is c.requires.rules
+pub of-requires : goal.of-requires
+of-requires c = image_each_read (IsOverRule c.args.program.now.atoms.now) rule_of c.args.program.now.rules.now c.loop-rule.rule-index c.rule-item.result c.loop-rule-test.true c.rule-item.is c.args.program.now.rules_over
 
 pub loop-rule-preserved : goal.loop-rule-preserved
 loop-rule-preserved c =
-    zip_take_read (IsPlacedRule c.args.atoms.now) rule_of c.args.rules.now c.loop-rule.rule-index c.rule-item.result c.loop-rule.placed.items c.push.new.self.items c.of.result
+    zip_take_read (IsPlacedRule c.args.program.now.atoms.now) rule_of c.args.program.now.rules.now c.loop-rule.rule-index c.rule-item.result c.loop-rule.placed.items c.push.new.self.items c.of.result
     c.loop-rule-test.true c.rule-item.is c.in_ok-push.ensures.items c.loop-rule.invariant c.of.ensures

@@ -5,4 +5,4 @@ use Rattle.mcs_program.specs.Placing.{IsPlacedRule}
 use Rattle.mcs_program.proofs.placing.placed_rules.Given as goal
 
 abbrev pub invariant-loop-rule : goal.invariant-loop-rule
-invariant-loop-rule l = AllZip (IsPlacedRule l.atoms) (map rule_of (take l.rule-index l.rules)) l.placed.items
+invariant-loop-rule l = AllZip (IsPlacedRule l.program.atoms.now) (map rule_of (take l.rule-index l.program.rules.now)) l.placed.items

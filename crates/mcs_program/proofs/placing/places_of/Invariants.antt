@@ -3,4 +3,4 @@ use Rattle.mcs_program.specs.Placing.{ArePlaces}
 use Rattle.mcs_program.proofs.placing.places_of.Given as goal
 
 abbrev pub invariant-loop-name : goal.invariant-loop-name
-invariant-loop-name l = ArePlaces l.atoms (take l.name-index l.names) l.places
+invariant-loop-name l = ArePlaces l.program.atoms.now (take l.name-index l.names) l.places

@@ -17,36 +17,36 @@ use Rattle.mcs_program.proofs.splitting.+add_views.Goals as goal
 
 pub returns-then-decided-beliefs-clause-added : goal.returns-then-decided-beliefs-clause-added
 returns-then-decided-beliefs-clause-added t c = λ fs meant v agree.
-    let ns : List Name = map (λ b. b.now) c.args.beliefs.now in
-    let end : c.args.decided ≡ length (map Atom ns) = omega (arith, length-map ns Atom, length-map c.args.beliefs.now (λ b. b.now)) in
-    one_added c.args.atoms.now (map Atom ns) (atoms_of_names c.args.atoms.now ns c.requires.beliefs) fs c.args.view c.args.decided c.args.views.now.items c.push.new.self.items end c.in_ok-push.ensures.items v agree
+    let ns : List Name = map (λ b. b.now) c.args.placed.now.program.now.beliefs.now in
+    let end : c.args.decided ≡ length (map Atom ns) = omega (arith, length-map ns Atom, length-map c.args.placed.now.program.now.beliefs.now (λ b. b.now)) in
+    one_added c.args.placed.now.program.now.atoms.now (map Atom ns) (atoms_of_names c.args.placed.now.program.now.atoms.now ns c.args.placed.now.program.now.beliefs_over) fs c.args.view c.args.decided c.args.views.now.items c.push.new.self.items end c.in_ok-push.ensures.items v agree
 
 pub push_value-requires-clause-over : goal.push_value-requires-clause-over
 push_value-requires-clause-over t c =
-    let atoms = c.args.atoms.now in
-    let less : c.args.decided < length c.args.beliefs.now = omega arith in
-    all_get (λ (n : Name). is_in n atoms ≡ true) (map (λ b. b.now) c.args.beliefs.now) c.args.decided c.index-beliefs-decided.result.now c.requires.beliefs
-    (slice_get-map_read (λ b. b.now) c.args.beliefs.now c.args.decided c.index-beliefs-decided.result less c.index-beliefs-decided.is)
+    let atoms = c.args.placed.now.program.now.atoms.now in
+    let less : c.args.decided < length c.args.placed.now.program.now.beliefs.now = omega arith in
+    all_get (λ (n : Name). is_in n atoms ≡ true) (map (λ b. b.now) c.args.placed.now.program.now.beliefs.now) c.args.decided c.index-beliefs-decided.result.now c.args.placed.now.program.now.beliefs_over
+    (slice_get-map_read (λ b. b.now) c.args.placed.now.program.now.beliefs.now c.args.decided c.index-beliefs-decided.result less c.index-beliefs-decided.is)
 
 pub cut-requires-clause-within : goal.cut-requires-clause-within
 cut-requires-clause-within t c =
     let known : ClauseList = c.args.known.now in
-    let literals : List ℤ = literal_of c.has-value.result (atom_number c.args.atoms.now c.index-beliefs-decided.result.now) ∷ [] in
+    let literals : List ℤ = literal_of c.has-value.result (atom_number c.args.placed.now.program.now.atoms.now c.index-beliefs-decided.result.now) ∷ [] in
     value_within known c.add_views.new.known literals (c.in_ok-add_views.ensures.same ∙ c.in_ok-push_value.ensures.clause) c.vars-vars.result c.count-count.result c.vars-vars.ensures.value c.count-count.ensures c.vars-vars.ensures.kept
 
 pub push_value-requires-2-clause-over : goal.push_value-requires-2-clause-over
 push_value-requires-2-clause-over t c =
-    let atoms = c.args.atoms.now in
-    let less : c.args.decided < length c.args.beliefs.now = omega arith in
-    all_get (λ (n : Name). is_in n atoms ≡ true) (map (λ b. b.now) c.args.beliefs.now) c.args.decided c.index-beliefs-decided.result.now c.requires.beliefs
-    (slice_get-map_read (λ b. b.now) c.args.beliefs.now c.args.decided c.index-beliefs-decided.result less c.index-beliefs-decided.is)
+    let atoms = c.args.placed.now.program.now.atoms.now in
+    let less : c.args.decided < length c.args.placed.now.program.now.beliefs.now = omega arith in
+    all_get (λ (n : Name). is_in n atoms ≡ true) (map (λ b. b.now) c.args.placed.now.program.now.beliefs.now) c.args.decided c.index-beliefs-decided.result.now c.args.placed.now.program.now.beliefs_over
+    (slice_get-map_read (λ b. b.now) c.args.placed.now.program.now.beliefs.now c.args.decided c.index-beliefs-decided.result less c.index-beliefs-decided.is)
 
 pub cut-requires-2-clause-within : goal.cut-requires-2-clause-within
 cut-requires-2-clause-within t c =
     let known : ClauseList = c.args.known.now in
     let n = c.index-beliefs-decided.result.now in
-    let literals : List ℤ = literal_of c.has-value.result (atom_number c.args.atoms.now n) ∷ [] in
-    let others : List ℤ = literal_of (not c.has-value.result) (atom_number c.args.atoms.now n) ∷ [] in
+    let literals : List ℤ = literal_of c.has-value.result (atom_number c.args.placed.now.program.now.atoms.now n) ∷ [] in
+    let others : List ℤ = literal_of (not c.has-value.result) (atom_number c.args.placed.now.program.now.atoms.now n) ∷ [] in
     let back : c.cut.new.self ≡ known = value_back known c.add_views.new.known literals (c.in_ok-add_views.ensures.same ∙ c.in_ok-push_value.ensures.clause) c.vars-vars.result c.count-count.result c.vars-vars.ensures.value c.count-count.ensures c.cut.new.self c.cut.ensures in
     let same : c.match-branch-6.known ≡ c.push_value-2.new.known = elim c.match-branch-6.branch [
       | in-Some+in_ok-add_views-2 w ↦ w.known-is ∙ w.in_ok-add_views-2.ensures.same ∙ c.in_ok-other.ensures.same
@@ -58,16 +58,16 @@ cut-requires-2-clause-within t c =
 
 pub returns-clause-added : goal.returns-clause-added
 returns-clause-added t c = λ fs meant v agree.
-    let names = c.args.atoms.now in
-    let ns : List Name = map (λ b. b.now) c.args.beliefs.now in
+    let names = c.args.placed.now.program.now.atoms.now in
+    let ns : List Name = map (λ b. b.now) c.args.placed.now.program.now.beliefs.now in
     let beliefs : List Formula = map Atom ns in
-    let atoms = atoms_of_names names ns c.requires.beliefs in
+    let atoms = atoms_of_names names ns c.args.placed.now.program.now.beliefs_over in
     let k = c.args.decided in
     let view = c.args.view in
     let n = c.index-beliefs-decided.result.now in
     let value : Bool = c.has-value.result in
-    let less : k < length c.args.beliefs.now = omega arith in
-    let at : slice_get beliefs k ≡ Some (Atom n) = slice_get-map_some Atom ns k n (slice_get-map_read (λ b. b.now) c.args.beliefs.now k c.index-beliefs-decided.result less c.index-beliefs-decided.is) in
+    let less : k < length c.args.placed.now.program.now.beliefs.now = omega arith in
+    let at : slice_get beliefs k ≡ Some (Atom n) = slice_get-map_some Atom ns k n (slice_get-map_read (λ b. b.now) c.args.placed.now.program.now.beliefs.now k c.index-beliefs-decided.result less c.index-beliefs-decided.is) in
     let known : ClauseList = c.args.known.now in
     let literals : List ℤ = literal_of value (atom_number names n) ∷ [] in
     let back : c.cut.new.self ≡ known = value_back known c.add_views.new.known literals (c.in_ok-add_views.ensures.same ∙ c.in_ok-push_value.ensures.clause) c.vars-vars.result c.count-count.result c.vars-vars.ensures.value c.count-count.ensures c.cut.new.self c.cut.ensures in

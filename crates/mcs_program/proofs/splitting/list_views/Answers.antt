@@ -10,10 +10,10 @@ use Rattle.mcs_program.proofs.splitting.list_views.Goals as goal
 
 pub returns : goal.returns
 returns c = λ fs meant.
-    let names = c.args.atoms.now in
-    let ns : List Name = map (λ b. b.now) c.args.beliefs.now in
+    let names = c.args.placed.now.program.now.atoms.now in
+    let ns : List Name = map (λ b. b.now) c.args.placed.now.program.now.beliefs.now in
     let beliefs : List Formula = map Atom ns in
-    let atoms = atoms_of_names names ns c.requires.beliefs in
+    let atoms = atoms_of_names names ns c.args.placed.now.program.now.beliefs_over in
     let found : IsViewFoundFor names beliefs fs c.in_ok-view.field-0 = c.in_ok-view.ensures.found fs meant in
     let added : AreModelViewsAdded names beliefs fs c.new-views.result.items c.match-branch-2.views.items = elim c.match-branch-2.branch [
       | in-Some+in_ok-add_views w ↦

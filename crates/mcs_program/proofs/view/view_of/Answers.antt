@@ -1,26 +1,21 @@
-use Rattle.std.proofs.Common.{◌≡◌, ◌∙◌, ℕ, Bool, cond, sym, ap, get_or, length, arith}
-use Rattle.mcs_sets.specs.Sets.{has, single, union, such_that}
-use Rattle.mcs_sets.proofs.SetLemmas.{such_that-more, such_that-none}
+use Rattle.std.proofs.Common.{◌≤◌, ◌<◌, ◌∙◌, ℕ, List, length, sym, ap, subst}
+use Rattle.std.specs.List.{AllByRecursion}
+use Rattle.std.proofs.lemmas.List.{length-map}
+use Rattle.mcs_program.specs.Asked.{program_names, belief_names}
 use Rattle.mcs_program.specs.Placing.{view_at}
-use Rattle.mcs_program.proofs.view.view_of.Goals.{then-has, else-has}
+use Rattle.mcs_program.proofs.PlaceLemmas.{low_places, few_places}
 use Rattle.mcs_program.proofs.view.view_of.Goals as goal
 
-pub loop-k-init : goal.loop-k-init
-loop-k-init c = c.empty-view.ensures ∙ sym (such_that-none (λ k. has c.args.model (get_or c.args.beliefs.now k 0)))
+pub numbers_in-requires-clause-few : goal.numbers_in-requires-clause-few
+numbers_in-requires-clause-few c =
+    let p = c.args.placed.now.program.now in
+    subst (λ (ps : List ℕ). length ps ≤ 64) (sym c.deref.ensures.value)
+    (few_places (program_names p) (belief_names p) c.args.placed.now.placing.beliefs.items (subst (λ n. n ≤ 64) (sym (length-map p.beliefs.now (λ b. b.now))) p.few_beliefs) c.args.placed.now.right.placed_beliefs)
 
-pub loop-k-preserved : goal.loop-k-preserved
-loop-k-preserved c =
-    let k = c.loop-k.k in
-    let p : ℕ → Bool = λ j. has c.args.model (get_or c.args.beliefs.now j 0) in
-    elim c.if-has.branch [
-      | then-has w ↦ w.view-is ∙ w.with-view.ensures ∙ ap (λ v. union v (single k)) c.loop-k.invariant
-          ∙ sym (such_that-more k p ∙ ap (λ b. cond b (union (such_that k p) (single k)) (such_that k p)) (sym c.has.ensures.value ∙ w.if-has.true))
-      | else-has w ↦ w.view-is ∙ c.loop-k.invariant
-          ∙ sym (such_that-more k p ∙ ap (λ b. cond b (union (such_that k p) (single k)) (such_that k p)) (sym c.has.ensures.value ∙ w.if-has.false))
-    ]
+pub numbers_in-requires-clause-places : goal.numbers_in-requires-clause-places
+numbers_in-requires-clause-places c =
+    let p = c.args.placed.now.program.now in
+    subst (AllByRecursion (λ k. k < 64)) (sym c.deref.ensures.value) (low_places (program_names p) (belief_names p) c.args.placed.now.placing.beliefs.items p.few c.args.placed.now.right.placed_beliefs)
 
 pub returns : goal.returns
-unfolding view_at
-returns c =
-    let long : c.loop-k.k ≡ length c.args.beliefs.now = omega arith in
-    c.loop-k.invariant ∙ ap (λ n. such_that n (λ j. has c.args.model (get_or c.args.beliefs.now j 0))) long
+returns c = c.numbers_in.ensures ∙ ap (λ (ps : List ℕ). view_at ps c.args.model) c.deref.ensures.value

@@ -7,16 +7,16 @@ use Rattle.mcs_cnf.proofs.GrowingLemmas.{grown_fewer, grown_within}
 use Rattle.mcs_solver.proofs.ViewLemmas.{told_clauses, told_over}
 use Rattle.mcs_solver.proofs.views.view_with.Goals as goal
 
-pub outputs_in-shown-requires-clause-room : goal.outputs_in-shown-requires-clause-room
-outputs_in-shown-requires-clause-room c =
+pub outputs_in-shown-requires : goal.outputs_in-shown-requires
+outputs_in-shown-requires c =
     let heads = map (λ f. formula_of f.now) c.args.heads.now in
-    omega (arith, c.requires.room, grown_fewer c.args.atoms.now c.args.known.now c.add_formulas.new.known (heads, c.in_ok-add_formulas.ensures.ok))
+    omega (arith, c.requires.room, grown_fewer c.args.given.now.asked.now.atoms.now c.args.known.now c.add_formulas.new.known (heads, c.in_ok-add_formulas.ensures.ok))
 
 pub cut-requires-clause-fewer : goal.cut-requires-clause-fewer
 cut-requires-clause-fewer c =
     let heads = map (λ f. formula_of f.now) c.args.heads.now in
     let pushed = c.outputs_in-shown.ensures.kept ∙ c.in_ok-add_formulas.ensures.ok in
-    let known : c.args.known.now.vars ≤ c.outputs_in-shown.new.known.vars = grown_fewer c.args.atoms.now c.args.known.now c.outputs_in-shown.new.known (heads, pushed) in
+    let known : c.args.known.now.vars ≤ c.outputs_in-shown.new.known.vars = grown_fewer c.args.given.now.asked.now.atoms.now c.args.known.now c.outputs_in-shown.new.known (heads, pushed) in
     omega arith
 
 pub cut-requires-clause-within : goal.cut-requires-clause-within
@@ -25,16 +25,16 @@ cut-requires-clause-within c =
     let pushed = c.outputs_in-shown.ensures.kept ∙ c.in_ok-add_formulas.ensures.ok in
     subst (λ (k : ℕ). AllByRecursion (IsWithin c.vars-vars.result) (take k c.outputs_in-shown.new.known.clauses)) (sym c.count-count.ensures)
     (subst (λ (n : ℕ). AllByRecursion (IsWithin n) (take (length c.args.known.now.clauses) c.outputs_in-shown.new.known.clauses)) (sym c.vars-vars.ensures.value)
-    (grown_within c.args.atoms.now c.args.known.now c.outputs_in-shown.new.known (heads, pushed) c.vars-vars.ensures.kept))
+    (grown_within c.args.given.now.asked.now.atoms.now c.args.known.now c.outputs_in-shown.new.known (heads, pushed) c.vars-vars.ensures.kept))
 
 pub returns-clause-exact : goal.returns-clause-exact
 returns-clause-exact c =
     let heads = map (λ f. formula_of f.now) c.args.heads.now in
-    IfOk-weaker c.outputs_in-shown.result _ _ (λ r h. λ fs is over. h _ (told_clauses c.args.atoms.now c.args.known.now c.add_formulas.new.known fs heads is c.in_ok-add_formulas.ensures.ok) (told_over c.args.atoms.now fs heads over c.requires.heads))
+    IfOk-weaker c.outputs_in-shown.result _ _ (λ r h. λ fs is over. h _ (told_clauses c.args.given.now.asked.now.atoms.now c.args.known.now c.add_formulas.new.known fs heads is c.in_ok-add_formulas.ensures.ok) (told_over c.args.given.now.asked.now.atoms.now fs heads over c.requires.heads))
     c.outputs_in-shown.ensures.exact
 
 pub returns-clause-shown : goal.returns-clause-shown
 returns-clause-shown c =
     let heads = map (λ f. formula_of f.now) c.args.heads.now in
-    IfOk-weaker c.outputs_in-shown.result _ _ (λ r h. λ fs is over. h _ (told_clauses c.args.atoms.now c.args.known.now c.add_formulas.new.known fs heads is c.in_ok-add_formulas.ensures.ok) (told_over c.args.atoms.now fs heads over c.requires.heads))
+    IfOk-weaker c.outputs_in-shown.result _ _ (λ r h. λ fs is over. h _ (told_clauses c.args.given.now.asked.now.atoms.now c.args.known.now c.add_formulas.new.known fs heads is c.in_ok-add_formulas.ensures.ok) (told_over c.args.given.now.asked.now.atoms.now fs heads over c.requires.heads))
     c.outputs_in-shown.ensures.accepted

@@ -12,11 +12,11 @@ use Rattle.mcs_classical.proofs.consequences.Consequences.of.Goals as goal
 pub returns : goal.returns
 returns c = λ xs.
     let fs = map formula_of c.args.formulas.now in
-    let gs = map (λ g. formula_of g.now) c.args.goals.now in
+    let gs = map (λ g. formula_of g.now) c.args.asked.now.beliefs.now in
     let none = c.new-found.ensures fs xs gs in
     let l : Lower = record { assumed = c.empty.result; entailed = c.goals_among-entailed.result } in
     record {
       lower = subst (λ (ls : List Lower). AllByRecursion (IsLowerConsequence fs xs gs) ls) (sym c.in_ok-push.ensures.items)
-          (all_push (IsLowerConsequence fs xs gs) c.new-found.result.lower.items l none.lower (standing_follow fs (assumed c.empty.result xs) gs c.goals_among-entailed.result (rw (length-map c.args.goals.now (λ g. formula_of g.now)) c.goals_among-entailed.ensures)));
+          (all_push (IsLowerConsequence fs xs gs) c.new-found.result.lower.items l none.lower (standing_follow fs (assumed c.empty.result xs) gs c.goals_among-entailed.result (rw (length-map c.args.asked.now.beliefs.now (λ g. formula_of g.now)) c.goals_among-entailed.ensures)));
       upper = none.upper;
     }

@@ -3,7 +3,7 @@ use Rattle.mcs_default.proofs.base.TheoryBase.keep.Goals as goal
 pub returns-in_err-keep_lower : goal.returns-in_err-keep_lower
 returns-in_err-keep_lower c items base right = record {
   facts = base.facts;
-  lower = c.keep_lower.ensures items c.args.assumptions.now (rw c.deref.ensures.value right.0) base.lower;
+  lower = c.keep_lower.ensures items c.args.given.now.assumptions.now (rw c.deref.ensures.value right.0) base.lower;
   upper = base.upper;
   conflicts = base.conflicts;
 }
@@ -11,7 +11,7 @@ returns-in_err-keep_lower c items base right = record {
 pub returns-in_err-keep_upper : goal.returns-in_err-keep_upper
 returns-in_err-keep_upper c items base right = record {
   facts = base.facts;
-  lower = c.keep_lower.ensures items c.args.assumptions.now (rw c.deref.ensures.value right.0) base.lower;
+  lower = c.keep_lower.ensures items c.args.given.now.assumptions.now (rw c.deref.ensures.value right.0) base.lower;
   upper = c.keep_upper.ensures items c.args.set (rw c.deref-2.ensures.value right.1) base.upper;
   conflicts = base.conflicts;
 }
@@ -19,7 +19,7 @@ returns-in_err-keep_upper c items base right = record {
 pub returns : goal.returns
 returns c items base right = record {
   facts = base.facts;
-  lower = c.keep_lower.ensures items c.args.assumptions.now (rw c.deref.ensures.value right.0) base.lower;
+  lower = c.keep_lower.ensures items c.args.given.now.assumptions.now (rw c.deref.ensures.value right.0) base.lower;
   upper = c.keep_upper.ensures items c.args.set (rw c.deref-2.ensures.value right.1) base.upper;
-  conflicts = c.keep_conflicts.ensures items c.args.assumptions.now (rw c.deref-3.ensures.value right.2) base.conflicts;
+  conflicts = c.keep_conflicts.ensures items c.args.given.now.assumptions.now (rw c.deref-3.ensures.value right.2) base.conflicts;
 }

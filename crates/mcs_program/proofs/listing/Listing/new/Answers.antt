@@ -12,8 +12,8 @@ use Rattle.mcs_program.proofs.listing.Listing.new.Goals as goal
 
 pub returns : goal.returns
 returns c = λ beliefs.
-    let names = c.args.atoms.now in
-    let rules = map rule_of c.args.rules.now in
+    let names = c.args.program.now.atoms.now in
+    let rules = map rule_of c.args.program.now.rules.now in
     record {
       known = meant_same names (first_formulas names rules) (left_formulas names rules c.new.result.items beliefs c.new-2.result.items) c.in_ok-known.known
           (λ a. sym (ap (λ (xs : List ℕ). holds_all a (left_formulas names rules xs beliefs c.new-2.result.items)) c.new.ensures.items ∙ ap (λ (xs : List ℕ). holds_all a (left_formulas names rules [] beliefs xs)) c.new-2.ensures.items

@@ -7,5 +7,5 @@ use Rattle.mcs_program.proofs.search.Search.new.Goals as goal
 
 pub returns : goal.returns
 returns c = λ beliefs.
-    begun c.args.atoms.now (map rule_of c.args.rules.now) beliefs (record { known = c.in_ok-known.known; smaller = c.new.result; views = c.new-2.result; models = c.new-3.result })
-    (subst (AreMeantBy c.args.atoms.now (map rule_formula (map rule_of c.args.rules.now))) (sym c.in_ok-known.ensures) c.in_ok-cnf.ensures) c.new.ensures.items c.new-2.ensures.items c.new-3.ensures.items
+    begun c.args.program.now.atoms.now (map rule_of c.args.program.now.rules.now) beliefs (record { known = c.in_ok-known.known; smaller = c.new.result; views = c.new-2.result; models = c.new-3.result })
+    (subst (AreMeantBy c.args.program.now.atoms.now (map rule_formula (map rule_of c.args.program.now.rules.now))) (sym c.in_ok-known.ensures) c.in_ok-cnf.ensures) c.new.ensures.items c.new-2.ensures.items c.new-3.ensures.items

@@ -2,11 +2,11 @@ use Rattle.std.proofs.Common.{◌≡◌, map, IfSome}
 use Rattle.mcs_system.specs.Seen.{formula_of}
 use Rattle.mcs_cnf.specs.Entailments.{entailment_of, IsAcceptedEntailment, IsModelAt}
 use Rattle.mcs_entailment.proofs.General.{GoFrom}
-use Rattle.mcs_entailment.proofs.entailment.tell.Given as goal
+use Rattle.mcs_entailment.proofs.entailment.shown_places.Given as goal
 
 abbrev pub invariant-loop-index : goal.invariant-loop-index
 invariant-loop-index l = record {
-  model : IfSome l.model (IsModelAt l.atoms (map (λ f. formula_of f.now) l.premises));
+  model : IfSome l.model (IsModelAt l.asked.atoms.now (map (λ f. formula_of f.now) l.premises));
   kept : l.known ≡ l.fn.known;
-  rest : GoFrom (IsAcceptedEntailment l.atoms (map (λ f. formula_of f.now) l.premises)) (λ f. formula_of f.now) entailment_of l.goals l.entails l.index;
+  rest : GoFrom (IsAcceptedEntailment l.asked.atoms.now (map (λ f. formula_of f.now) l.premises)) (λ f. formula_of f.now) entailment_of l.asked.beliefs.now l.entails l.index;
 }

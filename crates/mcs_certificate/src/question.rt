@@ -1,0 +1,24 @@
+//! What is asked of a context.
+
+ghost use Rattle.std.specs.Prelude.{◌≤◌, map};
+ghost use Rattle.mcs_system.specs.Faults.{default_count};
+ghost use Rattle.mcs_system.specs.Seen.{formula_of, kb_of};
+ghost use Rattle.mcs_cnf.specs.ClauseLists.{AreOver};
+ghost use Rattle.mcs_asking.specs.Kinds.{IsOverKb, AreOfKind};
+ghost use Rattle.mcs_asked.specs.OneProof.{AreOver-prop};
+ghost use Rattle.mcs_certificate.specs.OneProof.{IsOverKb-prop, AreOfKind-prop};
+
+use mcs_asked::Asked;
+use mcs_system::{Formula, Kb};
+
+/// A knowledge base with the heads that it is told, its atoms, and the beliefs that it is asked for.
+#[derive(Clone, Copy)]
+pub(crate) struct Question<'a> {
+    pub(crate) asked: &'a Asked<'a>,
+    pub(crate) kb: &'a Kb,
+    pub(crate) heads: &'a [&'a Formula],
+    ghost few_defaults: { default_count (kb_of kb.now) ≤ 10 },
+    ghost own: { IsOverKb asked.now.atoms.now (kb_of kb.now) } by { IsOverKb-prop asked.now.atoms.now (kb_of kb.now) },
+    ghost told: { AreOver asked.now.atoms.now (map (λ f. formula_of f.now) heads.now) } by { AreOver-prop asked.now.atoms.now (map (λ f. formula_of f.now) heads.now) },
+    ghost kinds: { AreOfKind (kb_of kb.now) (map (λ b. formula_of b.now) asked.now.beliefs.now) } by { AreOfKind-prop (kb_of kb.now) (map (λ b. formula_of b.now) asked.now.beliefs.now) },
+}
