@@ -1,6 +1,7 @@
 pub mod General
 pub mod SameLemmas
 pub mod PushLemmas
+pub mod SaidLemmas
 pub mod AskLemmas
 pub mod OrderLemmas
 pub mod JudgeLemmas

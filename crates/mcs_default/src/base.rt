@@ -11,15 +11,16 @@ ghost use Rattle.mcs_system.specs.Views.{IsAcceptedView};
 ghost use Rattle.mcs_classical.specs.Given.{given_names, given_beliefs, given_with};
 ghost use Rattle.mcs_classical.specs.declared.assumptions.Assumption as declared;
 ghost use Rattle.mcs_evidence.specs.Defaults.{AreOverItems, defaults_of};
-ghost use Rattle.mcs_default.specs.Searches.{AreRightFindings};
+ghost use Rattle.mcs_default.specs.Searches.{AreRightFindings, IsLower};
 ghost use Rattle.mcs_default.specs.Keeping.{items_with, IsTheoryBase};
 
-use crate::findings::Findings;
+use crate::findings::{Findings, Lower};
 use crate::kept::{
     KeptConflict, KeptLower, KeptUpper, keep_conflicts, keep_lower, keep_upper, select_conflicts,
     select_lower, select_upper,
 };
 use crate::listing::list_with;
+use crate::said::lower_of_said;
 use crate::theory::facts_base;
 use mcs_base::{Active, Memory, Vars};
 use mcs_classical::{Given, assumed};
@@ -60,16 +61,17 @@ impl TheoryBase {
         })
     }
 
-    /// Takes what tells of this set of assumptions.
-    fn select(&mut self, set: Active) -> Result<Selected, Memory>
+    /// Takes what tells of this set of assumptions, and what these say themselves.
+    fn select(&mut self, set: Active, said: Lower) -> Result<Selected, Memory>
         ensures facts { self.new.findings.facts ≡ self.old.findings.facts }
         ensures lower { self.new.lower ≡ self.old.lower }
         ensures upper { self.new.upper ≡ self.old.upper }
         ensures conflicts { self.new.conflicts ≡ self.old.conflicts }
         ensures right { OnOk result ((names : List plain.Name) (items : List plain.Item) (given : List declared.Assumption) → IsTheoryBase names items given self.old
-            → AreRightFindings names (items_with items given set) self.new.findings) }
+            → IsLower (items_with items given set) said → AreRightFindings names (items_with items given set) self.new.findings) }
     {
         select_lower(&self.lower, set, &mut self.findings.lower)?;
+        self.findings.lower.push(said)?;
         select_upper(&self.upper, set, &mut self.findings.upper)?;
         select_conflicts(&self.conflicts, set, &mut self.findings.conflicts)?;
         Ok(Selected {
@@ -113,7 +115,8 @@ impl TheoryBase {
         ensures exact { IfOk result (λ views. IsListing (IsAcceptedView (with_heads (DefaultTheory (map item_of items.now)) (given_with given.now set)) (given_beliefs given.now)) StateBefore views.items) }
     {
         let heads = assumed(alloc, given.assumptions, set)?;
-        let selected = self.select(set)?;
+        let said = lower_of_said(alloc, items, &heads)?;
+        let selected = self.select(set, said)?;
         let views = list_with(alloc, &mut self.findings, items, &heads, given)?;
         self.keep(selected, given, set)?;
         Ok(views)

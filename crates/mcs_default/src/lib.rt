@@ -14,6 +14,7 @@ mod models;
 mod nodes;
 mod outside;
 mod questions;
+mod said;
 mod search;
 mod searching;
 mod theory;

@@ -193,7 +193,8 @@ fn entails_all(alloc: Global, search: &mut Search<'_>, set: Vars) -> Result<bool
     is_conflict
 }
 
-/// The set, by which everything follows, without the default at the index if everything follows all the same.
+/// The set, by which everything follows, without the default at the index if everything follows all the same. It is
+/// asked only where nothing that was found tells that it does not.
 fn without_needless(
     alloc: Global,
     search: &mut Search<'_>,
@@ -209,6 +210,9 @@ fn without_needless(
         return Ok(set);
     }
     let smaller = set.without(index);
+    if is_consistent(&search.findings.upper, smaller) {
+        return Ok(set);
+    }
     if entails_all(alloc, search, smaller)? {
         return Ok(smaller);
     }
