@@ -7,3 +7,4 @@ pub mod ViewLemmas
 pub mod ListingLemmas
 pub mod TightLemmas
 pub mod SplitLemmas
+pub mod OnceLemmas

@@ -5,6 +5,7 @@ mod answer;
 mod asked;
 mod atom_clauses;
 mod listing;
+mod once;
 mod outputs;
 mod placed;
 mod placing;

@@ -16,6 +16,7 @@ ghost use Rattle.mcs_program.specs.Asked.{program_names, program_rules, program_
 
 use crate::asked::LogicProgram;
 use crate::listing::list_all;
+use crate::once::once_with_facts;
 use crate::search::{Search, find_all};
 use mcs_base::{Memory, Vars};
 use mcs_classical::{Satisfied, satisfy_from};
@@ -197,7 +198,12 @@ pub fn list_answer_sets(
     ensures exact { IfOk result (λ r. IsListing (IsAcceptedView (with_heads (Program (map rule_of rules.now)) (map Atom (map (λ b. b.now) added.now)))
         (map Atom (map (λ b. b.now) beliefs.now))) StateBefore r.items) }
 {
-    let all = with_facts(alloc, rules, added)?;
+    let given = LogicProgram {
+        atoms,
+        rules,
+        beliefs,
+    };
+    let all = once_with_facts(alloc, &given, added)?;
     let program = LogicProgram {
         atoms,
         rules: &all,

@@ -16,7 +16,7 @@ use mcs_system::{Name, ProgRule};
 use std::alloc::Global;
 
 /// A rule, as three sets of places of atoms.
-#[derive(Clone, Copy)]
+#[derive(Clone, Copy, PartialEq, Eq, PartialOrd, Ord)]
 pub struct PlacedRule {
     pub head: Vars,
     pub pos: Vars,
@@ -66,7 +66,7 @@ fn places_of(program: &LogicProgram<'_>, names: &[Name]) -> Vars
 
 impl PlacedRule {
     /// The rule, by the places of its atoms.
-    fn of(program: &LogicProgram<'_>, rule: &ProgRule) -> PlacedRule
+    pub(crate) fn of(program: &LogicProgram<'_>, rule: &ProgRule) -> PlacedRule
         requires { IsOverRule (program_names program.now) (rule_of rule.now) }
         ensures { IsPlacedRule (program_names program.now) (rule_of rule.now) result }
     {
