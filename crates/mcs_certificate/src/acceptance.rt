@@ -1,15 +1,14 @@
 //! Whether a certificate of a context is accepted.
 
-ghost use Rattle.std.specs.Prelude.{ℕ, ◌<◌, ◌↔◌, List, length, map, IsTrue, IfOk, MatchOption};
+ghost use Rattle.std.specs.Prelude.{◌≡◌, ℕ, ◌<◌, ◌↔◌, List, length, map, IsTrue, IfOk, MatchOption};
 ghost use Rattle.mcs_sets.specs.Orders.{StateBefore};
 ghost use Rattle.mcs_sets.specs.Sets.{Within};
 ghost use Rattle.mcs_base.specs.Listings.{IsListing};
 ghost use Rattle.mcs_system.specs.Imports.{rules_into};
-ghost use Rattle.mcs_system.specs.Logic.{with_heads};
-ghost use Rattle.mcs_system.specs.Seen.{formula_of, kb_of};
-ghost use Rattle.mcs_system.specs.Systems.{IsAcceptedPart};
-ghost use Rattle.mcs_asked.specs.Questions.{asked_beliefs};
-ghost use Rattle.mcs_asking.specs.Certificates.{plain_of, IsAccepted, IsAcceptedFor};
+ghost use Rattle.mcs_system.specs.Systems.{variables_of, IsAcceptedPart};
+ghost use Rattle.mcs_system.specs.Views.{at_places};
+ghost use Rattle.mcs_asking.specs.Certificates.{plain_of, IsAccepted};
+ghost use Rattle.mcs_certificate.specs.Questions.{AreViewsShown};
 
 use crate::question::Question;
 use mcs_answer_sets::program_views;
@@ -29,8 +28,8 @@ fn shown_views(
     cert: &AnswerCert,
 ) -> Result<Option<Vec<Vars>>, Memory>
     ensures { IfOk result (λ shown. MatchOption shown
-        ((views : List ℕ) → ¬ IsAcceptedFor question.now.asked.now.atoms.now (with_heads (kb_of question.now.kb.now) (map (λ f. formula_of f.now) question.now.heads.now)) (asked_beliefs question.now.asked.now) views (plain_of cert.now))
-        (λ views. IsAcceptedFor question.now.asked.now.atoms.now (with_heads (kb_of question.now.kb.now) (map (λ f. formula_of f.now) question.now.heads.now)) (asked_beliefs question.now.asked.now) views.items (plain_of cert.now))) }
+        ((views : List ℕ) → ¬ AreViewsShown question.now views (plain_of cert.now))
+        (λ views. AreViewsShown question.now views.items (plain_of cert.now))) }
 {
     let asked = question.asked;
     let heads = question.heads;
@@ -51,6 +50,22 @@ fn shown_views(
             AnswerCert::Program(cert) => program_views(alloc, rules, heads, asked, cert),
         },
     }
+}
+
+/// Whether the outputs are, for each of the views in order, the variables of the context at its places. The context has
+/// to be one of the system's.
+pub fn are_parts(
+    alloc: Global,
+    system: &System,
+    context: u32,
+    views: &[Vars],
+    outputs: &[Vars],
+) -> Result<bool, Memory>
+    requires { context < length system.now.contexts }
+    ensures { IfOk result (λ yes. IsTrue yes ↔ (map (at_places (variables_of system.now context)) views.now ≡ outputs.now)) }
+{
+    let parts = parts_at(alloc, system.vars_of(context), views)?;
+    Ok(parts.as_slice() == outputs)
 }
 
 /// Whether the certificate is accepted as showing that the context accepts exactly these outputs with the heads of the
@@ -91,6 +106,5 @@ pub fn accepts(
     let Some(views) = shown else {
         return Ok(false);
     };
-    let parts = parts_at(alloc, system.vars_of(context), &views)?;
-    Ok(parts.as_slice() == outputs)
+    are_parts(alloc, system, context, &views, outputs)
 }

@@ -4,5 +4,6 @@
 mod acceptance;
 mod question;
 
-pub use acceptance::accepts;
+pub use acceptance::{accepts, are_parts};
 pub use mcs_asking::AnswerCert;
+pub use question::Question;

@@ -6,8 +6,6 @@ pub mod OwnAnswers
 pub mod SortedAnswers
 pub mod Counting
 pub mod JudgedAnswers
-pub mod JudgedPrograms
-pub mod JudgedTheories
 pub mod RelistingLemmas
 pub mod FindingLemmas
 pub mod OneFinding

@@ -4,7 +4,7 @@ use Rattle.std.specs.List.{AllByRecursion}
 use Rattle.std.specs.declared.alloc.Global.{Global}
 use Rattle.mcs_base.specs.Listings.{IsAscending}
 use Rattle.mcs_spelling.specs.Lines.{complete_lines}
-use Rattle.mcs_system.specs.Plain.{Formula, Item, ProgramRule, Classical, DefaultTheory, Program, Context, System}
+use Rattle.mcs_system.specs.Plain.{Kb, Context, System}
 use Rattle.mcs_proof_text.specs.Answers.{Answer}
 use Rattle.mcs_proof_text.specs.Proofs.{HasAcceptedCertificate}
 use Rattle.mcs_proof_text.specs.Reports.{AnswerBefore}
@@ -21,23 +21,11 @@ pub record IsAnswerJudged (m : System) (a : Answer) (line : ℕ) (j : code.Judge
   pub outputs : j.outputs.items ≡ a.outputs
   pub right : IsTrue j.is_right ↔ HasAcceptedCertificate m a
 
--- the context is classical and has these formulas
-pub record HasFormulas (m : System) (i : ℕ) (fs : List Formula) : Type 0 where
+-- the context has this knowledge base
+pub record HasKb (m : System) (i : ℕ) (kb : Kb) : Type 0 where
   pub context : Context
   pub is_it : slice_get m.contexts i ≡ Some context
-  pub formulas : context.kb ≡ Classical fs
-
--- it is a program and has these rules
-pub record HasRules (m : System) (i : ℕ) (rs : List ProgramRule) : Type 0 where
-  pub context : Context
-  pub is_it : slice_get m.contexts i ≡ Some context
-  pub rules : context.kb ≡ Program rs
-
--- it is a default theory and has these items
-pub record HasItems (m : System) (i : ℕ) (items : List Item) : Type 0 where
-  pub context : Context
-  pub is_it : slice_get m.contexts i ≡ Some context
-  pub items_are : context.kb ≡ DefaultTheory items
+  pub kb_is : context.kb ≡ kb
 
 -- they stand for these answers, the first of which begins at this line
 abbrev pub AreJudged : System → ℕ → List Answer → List code.Judged → Type 0

@@ -1,29 +1,29 @@
 //! The answers of a report, judged while they are read.
 
-ghost use Rattle.std.specs.Prelude.{◌≡◌, ◌<◌, ◌↔◌, [], ◌∷◌, length, map, IsTrue, IfOk, MatchOption, slice_get};
+ghost use Rattle.std.specs.Prelude.{◌≡◌, ◌≤◌, ◌<◌, ◌++◌, [], ◌∷◌, length, map, IsTrue, IfOk, MatchOption, slice_get};
 ghost use Rattle.std.specs.List.{AllByRecursion};
-ghost use Rattle.mcs_sets.specs.Sets.{size};
-ghost use Rattle.mcs_system.specs.Atoms.{atoms_of};
-ghost use Rattle.mcs_system.specs.Faults.{IsValid};
-ghost use Rattle.mcs_system.specs.Seen.{formula_of, item_of, rule_of};
-ghost use Rattle.mcs_system.specs.Systems.{variables_of};
-ghost use Rattle.mcs_asking.specs.Certificates.{OfFormulas, OfDefaults, OfProgram, IsAccepted};
-ghost use Rattle.mcs_proof_lines.specs.Walks.{entailment_at, many_at};
-ghost use Rattle.mcs_proof_lines.specs.Programs.{program_at};
+ghost use Rattle.mcs_system.specs.Plain.{DefaultTheory, Fact};
+ghost use Rattle.mcs_system.specs.Seen.{formula_of, item_of, kb_of};
+ghost use Rattle.mcs_evidence.specs.Defaults.{IsAcceptedDefault};
+ghost use Rattle.mcs_asked.specs.Questions.{asked_beliefs};
+ghost use Rattle.mcs_asking.specs.Certificates.{IsAccepted};
+ghost use Rattle.mcs_certificate.specs.Questions.{AreViewsShown};
+ghost use Rattle.mcs_proof_lines.specs.Walks.{Gives};
 ghost use Rattle.mcs_proof_lines.specs.Verdicts.{verdicts_at};
-ghost use Rattle.mcs_proof_reader.specs.Answers.{shown_of, terms_for};
-ghost use Rattle.mcs_proof_reader.specs.Keeping.{TakesAndKeeps, answer_with};
 ghost use Rattle.mcs_proof_reader.specs.Readers.{AreTexts};
 ghost use Rattle.mcs_steps.specs.Judging.{Judges};
-ghost use Rattle.mcs_judging.specs.Judging.{Tells};
-ghost use Rattle.mcs_check.specs.Judging.{IsAnswerJudged, HasFormulas, HasItems, HasRules, IsFirstWrong};
+ghost use Rattle.mcs_judging.specs.Judging.{Tells, AreViewsOf};
+ghost use Rattle.mcs_check.specs.Judging.{HasKb, IsFirstWrong};
+ghost use Rattle.mcs_check.specs.Parts.{outputs_at, terms_with, certificate_at, certificate_of};
 
-use mcs_asking::{beliefs_of, heads_into, parts_at};
-use mcs_base::{Active, Memory, Vars};
-use mcs_judging::{judge_classical, judge_program, judge_verdicts};
+use mcs_asked::Asked;
+use mcs_asking::{beliefs_of, heads_into};
+use mcs_base::{Active, Memory, Text, Vars};
+use mcs_certificate::{Question, are_parts};
+use mcs_judging::{Named, judge_classical, judge_program, judge_verdicts};
 use mcs_proof_lines::{Lines, ReportFault, Theory};
 use mcs_proof_reader::{Keep, Texts, just_counts, name_texts, take_state, take_states};
-use mcs_system::{Formula, Kb, ProgRule, System, TheoryItem};
+use mcs_system::{Kb, System, TheoryItem};
 use std::alloc::Global;
 
 /// An answer of a report, without its certificate: the number of its first line (counted from 1), the question, the
@@ -37,35 +37,6 @@ pub(crate) struct Judged {
     pub is_right: bool,
 }
 
-/// Reads the entailments of an answer of a classical context with these formulas, and returns whether they show that it
-/// accepts exactly these outputs with the heads of the rules.
-fn judge_entailments(
-    alloc: Global,
-    system: &System,
-    question: (u32, Active),
-    outputs: &[Vars],
-    formulas: &[Formula],
-    lines: &mut Lines<'_>,
-) -> Result<bool, ReportFault>
-    requires valid { IsValid system.now }
-    requires context { question.0 < length system.now.contexts }
-    requires formulas { HasFormulas system.now question.0 (map formula_of formulas.now) }
-    ensures { Judges (λ es. IsAccepted system.now question.0 question.1 outputs.now (OfFormulas es)) result lines.new
-        (many_at (entailment_at (atoms_of system.now question.0)) (size (variables_of system.now question.0)) lines.old) }
-{
-    let (context, active) = question;
-    let atoms = system.atoms_of(context);
-    let names = name_texts(alloc, atoms)?;
-    let heads = heads_into(alloc, system, context, active)?;
-    let beliefs = beliefs_of(alloc, system, context)?;
-    let shown = judge_classical(alloc, formulas, &heads, &beliefs, atoms, &names, lines)?;
-    let Some(views) = shown else {
-        return Ok(false);
-    };
-    let parts = parts_at(alloc, system.vars_of(context), &views)?;
-    Ok(parts.as_slice() == outputs)
-}
-
 /// The list of this one state.
 fn only(alloc: Global, state: Vars) -> Result<Vec<Vars>, Memory>
     ensures { IfOk result (λ states. states.items ≡ state ∷ []) }
@@ -75,209 +46,123 @@ fn only(alloc: Global, state: Vars) -> Result<Vec<Vars>, Memory>
     Ok(states)
 }
 
-/// Judges the answer of a classical context with these formulas, entailment by entailment as they are read.
-fn judge_formulas(
+/// Takes the states that an answer of a context with this knowledge base puts out: one if it is classical.
+fn take_outputs(
     alloc: Global,
     system: &System,
     texts: &Texts,
-    question: (u32, Active),
-    line: u64,
-    formulas: &[Formula],
+    context: u32,
+    kb: &Kb,
     lines: &mut Lines<'_>,
-) -> Result<Judged, ReportFault>
+) -> Result<Vec<Vars>, ReportFault>
     requires texts { AreTexts system.now texts.now }
-    requires context { question.0 < length system.now.contexts }
-    requires formulas { HasFormulas system.now question.0 (map formula_of formulas.now) }
-    ensures { TakesAndKeeps IsAnswerJudged system.now question line result lines.new (shown_of system.now question.0 (slice_get system.now.contexts question.0) lines.old) }
+    requires context { context < length system.now.contexts }
+    ensures { Gives (λ outputs. outputs.items) result lines.new (outputs_at system.now context (kb_of kb.now) lines.old) }
 {
-    let state = take_state(system, texts, question.0, lines)?;
-    let outputs = only(alloc, state)?;
-    let asked = (question.0, question.1);
-    match judge_entailments(alloc, system, asked, &outputs, formulas, lines) {
-        Ok(is_right) => Ok(Judged {
-            line,
-            context: question.0,
-            active: question.1,
-            outputs,
-            is_right,
-        }),
-        Err(fault) => {
-            drop(outputs);
-            Err(fault)
+    let allowed = system.vars_of(context);
+    match kb {
+        Kb::Classical(_) => {
+            let state = take_state(system, texts, context, lines)?;
+            Ok(only(alloc, state)?)
         }
+        Kb::DefaultTheory(_) => Ok(take_states(alloc, system, texts, allowed, lines)?),
+        Kb::Program(_) => Ok(take_states(alloc, system, texts, allowed, lines)?),
     }
 }
 
-/// Reads the certificate of an answer of a program with these rules, and returns whether it shows that it accepts exactly
-/// these outputs with the heads of the rules.
-fn judge_answer_sets(
-    alloc: Global,
-    system: &System,
-    question: (u32, Active),
-    outputs: &[Vars],
-    rules: &[ProgRule],
-    lines: &mut Lines<'_>,
-) -> Result<bool, ReportFault>
-    requires valid { IsValid system.now }
-    requires context { question.0 < length system.now.contexts }
-    requires rules { HasRules system.now question.0 (map rule_of rules.now) }
-    ensures { Judges (λ shown. IsAccepted system.now question.0 question.1 outputs.now (OfProgram shown)) result lines.new
-        (program_at (atoms_of system.now question.0) (length outputs.now) lines.old) }
-{
-    let (context, active) = question;
-    let atoms = system.atoms_of(context);
-    let names = name_texts(alloc, atoms)?;
-    let heads = heads_into(alloc, system, context, active)?;
-    let beliefs = beliefs_of(alloc, system, context)?;
-    let count = outputs.len();
-    let shown = judge_program(alloc, rules, &heads, &beliefs, atoms, &names, count, lines)?;
-    let Some(views) = shown else {
-        return Ok(false);
-    };
-    let parts = parts_at(alloc, system.vars_of(context), &views)?;
-    Ok(parts.as_slice() == outputs)
-}
-
-/// Judges the certificate of an answer of a program with these rules, in which these states are output.
-fn judge_models(
-    alloc: Global,
-    system: &System,
-    question: (u32, Active),
-    line: u64,
-    outputs: Vec<Vars>,
-    rules: &[ProgRule],
-    lines: &mut Lines<'_>,
-) -> Result<Judged, ReportFault>
-    requires valid { IsValid system.now }
-    requires context { question.0 < length system.now.contexts }
-    requires rules { HasRules system.now question.0 (map rule_of rules.now) }
-    ensures { Tells (λ j shown. IsAnswerJudged system.now (answer_with question (outputs.items, OfProgram shown)) line j) result lines.new
-        (program_at (atoms_of system.now question.0) (length outputs.items) lines.old) }
-{
-    let asked = (question.0, question.1);
-    match judge_answer_sets(alloc, system, asked, &outputs, rules, lines) {
-        Ok(is_right) => Ok(Judged {
-            line,
-            context: question.0,
-            active: question.1,
-            outputs,
-            is_right,
-        }),
-        Err(fault) => {
-            drop(outputs);
-            Err(fault)
-        }
-    }
-}
-
-/// Judges the answer of a program with these rules, model by model as they are read.
-fn judge_rules(
-    alloc: Global,
-    system: &System,
-    texts: &Texts,
-    question: (u32, Active),
-    line: u64,
-    rules: &[ProgRule],
-    lines: &mut Lines<'_>,
-) -> Result<Judged, ReportFault>
-    requires texts { AreTexts system.now texts.now }
-    requires context { question.0 < length system.now.contexts }
-    requires rules { HasRules system.now question.0 (map rule_of rules.now) }
-    ensures { TakesAndKeeps IsAnswerJudged system.now question line result lines.new (shown_of system.now question.0 (slice_get system.now.contexts question.0) lines.old) }
-{
-    let allowed = system.vars_of(question.0);
-    let outputs = take_states(alloc, system, texts, allowed, lines)?;
-    judge_models(alloc, system, question, line, outputs, rules, lines)
-}
-
-/// Reads the certificate of an answer of a default theory with these items, and returns whether it shows that it accepts
-/// exactly these outputs with the heads of the rules.
+/// Reads the certificate of a default theory with these items, verdict by verdict, and returns the views that it shows
+/// of the question, if it is accepted. The names are those of its atoms in the lines, and the numbers those of defaults.
 fn judge_extensions(
     alloc: Global,
+    question: &Question<'_>,
+    items: &[TheoryItem],
+    names: &[Text],
+    numbers: &[Text],
+    lines: &mut Lines<'_>,
+) -> Result<Option<Vec<Vars>>, ReportFault>
+    requires items { kb_of question.now.kb.now ≡ DefaultTheory (map item_of items.now) }
+    requires names { names.now ≡ question.now.asked.now.atoms.now }
+    requires numbers { length numbers.now ≤ 64 }
+    ensures { Tells (AreViewsOf (IsAcceptedDefault question.now.asked.now.atoms.now (map item_of items.now ++ map Fact (map (λ f. formula_of f.now) question.now.heads.now)) (asked_beliefs question.now.asked.now))) result lines.new
+        (verdicts_at (terms_with question.now.asked.now.atoms.now numbers.now (map item_of items.now) (length question.now.asked.now.beliefs.now)) lines.old) }
+{
+    let justs = just_counts(alloc, items)?;
+    let terms = Theory {
+        atoms: names,
+        numbers,
+        justs: &justs,
+        beliefs: question.asked.beliefs.len(),
+    };
+    judge_verdicts(alloc, items, question.heads, question.asked, &terms, lines)
+}
+
+/// Reads the certificate of an answer with so many outputs, by the kind of the knowledge base: entailment by entailment,
+/// verdict by verdict or model by model. Returns the views that it shows of the question, if it is accepted. The
+/// numbers are those of defaults in the lines.
+fn judge_answer(
+    alloc: Global,
+    question: &Question<'_>,
+    numbers: &[Text],
+    count: usize,
+    lines: &mut Lines<'_>,
+) -> Result<Option<Vec<Vars>>, ReportFault>
+    requires { length numbers.now ≤ 64 }
+    ensures { Tells (AreViewsOf (AreViewsShown question.now)) result lines.new
+        (certificate_at question.now.asked.now.atoms.now numbers.now (length question.now.asked.now.beliefs.now) (kb_of question.now.kb.now) count lines.old) }
+{
+    let names = name_texts(alloc, question.asked.atoms)?;
+    let asked = Asked {
+        atoms: question.asked.atoms,
+        beliefs: question.asked.beliefs,
+    };
+    let named = Named {
+        asked: &asked,
+        texts: &names,
+    };
+    let heads = question.heads;
+    match question.kb {
+        Kb::Classical(formulas) => judge_classical(alloc, formulas, heads, &named, lines),
+        Kb::DefaultTheory(items) => {
+            judge_extensions(alloc, question, items, &names, numbers, lines)
+        }
+        Kb::Program(rules) => judge_program(alloc, rules, heads, &named, count, lines),
+    }
+}
+
+/// Reads the certificate of an answer of a context with this knowledge base, and returns whether it shows that the
+/// context accepts exactly these outputs with the heads of the rules.
+fn is_shown(
+    alloc: Global,
     system: &System,
     texts: &Texts,
     question: (u32, Active),
+    kb: &Kb,
     outputs: &[Vars],
-    items: &[TheoryItem],
     lines: &mut Lines<'_>,
 ) -> Result<bool, ReportFault>
     requires texts { AreTexts system.now texts.now }
     requires context { question.0 < length system.now.contexts }
-    requires items { HasItems system.now question.0 (map item_of items.now) }
-    ensures { Judges (λ vs. IsAccepted system.now question.0 question.1 outputs.now (OfDefaults vs)) result lines.new
-        (verdicts_at (terms_for system.now question.0 (map item_of items.now)) lines.old) }
+    requires kb { HasKb system.now question.0 (kb_of kb.now) }
+    ensures { Judges (IsAccepted system.now question.0 question.1 outputs.now) result lines.new
+        (certificate_of system.now question.0 (kb_of kb.now) (length outputs.now) lines.old) }
 {
     let (context, active) = question;
-    let atoms = system.atoms_of(context);
-    let names = name_texts(alloc, atoms)?;
-    let justs = just_counts(alloc, items)?;
     let heads = heads_into(alloc, system, context, active)?;
     let beliefs = beliefs_of(alloc, system, context)?;
-    let theory = Theory {
-        atoms: &names,
-        numbers: texts.numbers(),
-        justs: &justs,
-        beliefs: beliefs.len(),
+    let asked = Asked {
+        atoms: system.atoms_of(context),
+        beliefs: &beliefs,
     };
-    let shown = judge_verdicts(alloc, items, &heads, &beliefs, atoms, &theory, lines)?;
+    let told = Question {
+        asked: &asked,
+        kb,
+        heads: &heads,
+    };
+    let shown = judge_answer(alloc, &told, texts.numbers(), outputs.len(), lines)?;
     let Some(views) = shown else {
         return Ok(false);
     };
-    let parts = parts_at(alloc, system.vars_of(context), &views)?;
-    Ok(parts.as_slice() == outputs)
-}
-
-/// Judges the certificate of an answer of a default theory with these items, in which these states are output.
-fn judge_sets(
-    alloc: Global,
-    system: &System,
-    texts: &Texts,
-    question: (u32, Active),
-    line: u64,
-    outputs: Vec<Vars>,
-    items: &[TheoryItem],
-    lines: &mut Lines<'_>,
-) -> Result<Judged, ReportFault>
-    requires texts { AreTexts system.now texts.now }
-    requires context { question.0 < length system.now.contexts }
-    requires items { HasItems system.now question.0 (map item_of items.now) }
-    ensures { Tells (λ j vs. IsAnswerJudged system.now (answer_with question (outputs.items, OfDefaults vs)) line j) result lines.new
-        (verdicts_at (terms_for system.now question.0 (map item_of items.now)) lines.old) }
-{
-    let asked = (question.0, question.1);
-    match judge_extensions(alloc, system, texts, asked, &outputs, items, lines) {
-        Ok(is_right) => Ok(Judged {
-            line,
-            context: question.0,
-            active: question.1,
-            outputs,
-            is_right,
-        }),
-        Err(fault) => {
-            drop(outputs);
-            Err(fault)
-        }
-    }
-}
-
-/// Judges the answer of a default theory with these items, verdict by verdict as they are read.
-fn judge_theory(
-    alloc: Global,
-    system: &System,
-    texts: &Texts,
-    question: (u32, Active),
-    line: u64,
-    items: &[TheoryItem],
-    lines: &mut Lines<'_>,
-) -> Result<Judged, ReportFault>
-    requires texts { AreTexts system.now texts.now }
-    requires context { question.0 < length system.now.contexts }
-    requires items { HasItems system.now question.0 (map item_of items.now) }
-    ensures { TakesAndKeeps IsAnswerJudged system.now question line result lines.new (shown_of system.now question.0 (slice_get system.now.contexts question.0) lines.old) }
-{
-    let allowed = system.vars_of(question.0);
-    let outputs = take_states(alloc, system, texts, allowed, lines)?;
-    judge_sets(alloc, system, texts, question, line, outputs, items, lines)
+    Ok(are_parts(alloc, system, context, &views, outputs)?)
 }
 
 /// Judges each answer while it is read. Of a classical context nothing of the certificate is held but the clauses of one
@@ -301,14 +186,21 @@ impl Keep for Judge {
         lines: &mut Lines<'_>,
     ) -> Result<Judged, ReportFault> {
         let context = question.0;
-        match &system.contexts()[context as usize].kb {
-            Kb::Classical(formulas) => {
-                judge_formulas(alloc, system, texts, question, line, formulas, lines)
+        let asked = (question.0, question.1);
+        let kb = &system.contexts()[context as usize].kb;
+        let outputs = take_outputs(alloc, system, texts, context, kb, lines)?;
+        match is_shown(alloc, system, texts, asked, kb, &outputs, lines) {
+            Ok(is_right) => Ok(Judged {
+                line,
+                context,
+                active: question.1,
+                outputs,
+                is_right,
+            }),
+            Err(fault) => {
+                drop(outputs);
+                Err(fault)
             }
-            Kb::DefaultTheory(items) => {
-                judge_theory(alloc, system, texts, question, line, items, lines)
-            }
-            Kb::Program(rules) => judge_rules(alloc, system, texts, question, line, rules, lines),
         }
     }
 }

@@ -15,7 +15,7 @@ use mcs_trace::ClassicalCert;
 use std::alloc::Global;
 
 /// The list of this one view.
-fn only(alloc: Global, view: Vars) -> Result<Vec<Vars>, Memory>
+pub fn one_view(alloc: Global, view: Vars) -> Result<Vec<Vars>, Memory>
     ensures { IfOk result (λ views. views.items ≡ view ∷ []) }
 {
     let mut views = Vec::new(alloc);
@@ -43,6 +43,6 @@ pub fn classical_views(
     let Some(view) = shown else {
         return Ok(None);
     };
-    let views = only(alloc, view)?;
+    let views = one_view(alloc, view)?;
     Ok(Some(views))
 }

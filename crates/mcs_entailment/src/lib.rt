@@ -6,6 +6,6 @@ mod classical;
 mod entailment;
 mod premises;
 
-pub use classical::classical_views;
+pub use classical::{classical_views, one_view};
 pub use entailment::{denies, deny, is_in_range, shown_places, shows};
-pub use premises::{clauses_of, extended, lend};
+pub use premises::{clauses_of, formulas_with, lend};

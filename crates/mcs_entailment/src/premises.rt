@@ -22,7 +22,7 @@ pub fn clauses_of(alloc: Global, asked: &Asked<'_>, formulas: &[&Formula]) -> Re
 }
 
 /// The formulas of a classical knowledge base, followed by those that are added.
-pub(crate) fn formulas_with<'f>(
+pub fn formulas_with<'f>(
     alloc: Global,
     formulas: &'f [Formula],
     added: &[&'f Formula],
@@ -42,19 +42,5 @@ pub fn lend(alloc: Global, formulas: &[Formula]) -> Result<Vec<&Formula>, Memory
     for formula in formulas {
         all.push(formula)?;
     }
-    Ok(all)
-}
-
-/// The formulas, followed by those that are added.
-pub fn extended<'f>(
-    alloc: Global,
-    formulas: &[&'f Formula],
-    added: &[&'f Formula],
-) -> Result<Vec<&'f Formula>, Memory>
-    ensures { IfOk result (λ all. map (λ f. formula_of f.now) all.items ≡ map (λ f. formula_of f.now) formulas.now ++ map (λ f. formula_of f.now) added.now) }
-{
-    let mut all = Vec::new(alloc);
-    all.extend_from_slice(formulas)?;
-    all.extend_from_slice(added)?;
     Ok(all)
 }

@@ -1,18 +1,30 @@
 -- How many there are of the defaults of a set and of their justifications, and places as sets.
-use Rattle.std.proofs.Common.{◌≡◌, ℕ, ◌+◌, ◌-◌, ◌<◌, ◌≤◌, ◌^◌, zero, suc, Bool, true, false, cond, nat_lt, nat_eq, ltb, List, [], ◌∷◌, ◌++◌, map, length, slice_index, Some, refl, sym, ap, ◌∙◌, subst, arith}
+use Rattle.std.proofs.Common.{◌≡◌, ℕ, ◌+◌, ◌-◌, ◌<◌, ◌≤◌, ◌^◌, zero, suc, Bool, true, false, nat_lt, nat_eq, ltb, List, [], ◌∷◌, ◌++◌, map, length, slice_index, Some, refl, sym, ap, ◌∙◌, subst, arith}
 use Rattle.std.proofs.lemmas.Bool.Decides.{nat_tests}
 use Rattle.std.proofs.lemmas.List.{length-map, length-append}
 use Rattle.std.proofs.lemmas.Nat.Bits.{bit_at_ones, bit_at_ones_above}
 use Rattle.std.proofs.lemmas.Option.{none-some}
 use Rattle.std.specs.List.{AllByRecursion}
-use Rattle.mcs_sets.specs.Sets.{has, members_from, size, such_that}
-use Rattle.mcs_sets.proofs.SetLemmas.{members-width, members_below, has-such_that, same_set}
+use Rattle.mcs_sets.specs.Sets.{has, members, size, such_that}
+use Rattle.mcs_sets.proofs.SetLemmas.{members_below, has-such_that, same_set}
 use Rattle.mcs_base.proofs.Each.{all_from_among}
-use Rattle.mcs_system.specs.Plain.{Default, Not}
-use Rattle.mcs_evidence.specs.Defaults.{defaults_at, negated_justs}
+use Rattle.mcs_system.specs.Plain.{Formula, Default, Item, Not}
+use Rattle.mcs_system.specs.Seen.{default_of}
+use Rattle.mcs_evidence.specs.Defaults.{defaults_of, defaults_in, negated_justs}
+use Rattle.mcs_evidence.proofs.TheorySizes.{as_many}
 use Rattle.mcs_extensions.specs.Checks.{at_number, AreNumbersOf}
+use Rattle.mcs_asked.specs.Questions.{theory_defaults}
+use Rattle.mcs_judging.specs.declared.theory.TheoryLines as lines
 use Rattle.mcs_proof_lines.specs.Walks.{IsNumberOf}
-use Rattle.mcs_proof_lines.proofs.Justs.{justs_in, counted, just_at}
+use Rattle.mcs_proof_lines.specs.Verdicts.{just_total}
+use Rattle.mcs_proof_lines.proofs.Justs.{justs_in, counted, just_at, total_justs}
+
+-- ---- how many justifications the defaults have, as the code holds them
+pub own_counts : (r : lines.TheoryLines) → r.terms.now.justs.now ≡ map justs_in (theory_defaults r.theory.now)
+own_counts r = r.justs ∙ ap (map justs_in) (sym r.theory.now.are)
+
+pub as_long : (r : lines.TheoryLines) → length r.terms.now.justs.now ≡ length r.theory.now.defaults.now
+as_long r = counted (theory_defaults r.theory.now) r.terms.now.justs.now (own_counts r) ∙ length-map r.theory.now.defaults.now (λ d. default_of d.now)
 
 -- ---- justifications of one default
 pub own_justs : (ds : List Default) (justs : List ℕ) → justs ≡ map justs_in ds → (n : ℕ) (d : Default) → at_number ds n ≡ Some d → slice_index justs (n - 1) ≡ length d.justs
@@ -28,25 +40,14 @@ one_default d =
 pub one_justs : (ds : List Default) (justs : List ℕ) → justs ≡ map justs_in ds → (n : ℕ) (d : Default) → at_number ds n ≡ Some d → length (negated_justs (d ∷ [])) ≡ slice_index justs (n - 1)
 one_justs ds justs are n d at = one_default d ∙ sym (own_justs ds justs are n d at)
 
--- the same of defaults as the code holds them
-pub long_as : {X : Type 0} (f : X → Default) (xs : List X) (ds : List Default) (justs : List ℕ) → map f xs ≡ ds → justs ≡ map justs_in ds → length justs ≡ length xs
-long_as f xs ds justs e are = counted ds justs are ∙ ap length (sym e) ∙ length-map xs f
+-- ---- the defaults of a set: there are as many prerequisites as members
+pub as_many_goals : {X : Type 0} (f : X → Formula) (xs : List X) (items : List Item) (justs : List ℕ) (s : ℕ) → map f xs ≡ map (λ (d : Default). d.pre) (defaults_in items s) → justs ≡ map justs_in (defaults_of items) → s < 2 ^ length justs → length xs ≡ size s
+as_many_goals f xs items justs s goals are small =
+    sym (length-map xs f) ∙ ap length goals ∙ length-map (defaults_in items s) (λ (d : Default). d.pre) ∙ as_many items s (subst (λ (n : ℕ). s < 2 ^ n) (counted (defaults_of items) justs are) small)
 
--- ---- the defaults of a set
-size_from : (k : ℕ) (ds : List Default) (s : ℕ) → length (defaults_at k ds s) ≡ length (members_from k (length ds) s)
-unfolding members_from
-size_from k [] s = refl
-size_from k (d ∷ ds) s = at (has s k) (size_from (k + 1) ds s)
-  where
-    at : (b : Bool) → length (defaults_at (k + 1) ds s) ≡ length (members_from (k + 1) (length ds) s)
-        → length (cond b (d ∷ defaults_at (k + 1) ds s) (defaults_at (k + 1) ds s)) ≡ length (cond b (k ∷ members_from (k + 1) (length ds) s) (members_from (k + 1) (length ds) s))
-    at true rest = omega (arith, rest)
-    at false rest = rest
-
-pub size_chosen : (ds : List Default) (n s : ℕ) → n ≡ length ds → s < 2 ^ n → length (defaults_at 0 ds s) ≡ size s
-size_chosen ds n s same small =
-    let low : s < 2 ^ length ds = subst (λ (m : ℕ). s < 2 ^ m) same small in
-    size_from 0 ds s ∙ ap length (sym (members-width s (length ds) low))
+-- and as many justifications as are counted
+pub as_many_justs : (xs : List Default) (items : List Item) (justs : List ℕ) (s : ℕ) → xs ≡ defaults_in items s → justs ≡ map justs_in (defaults_of items) → s < 2 ^ length justs → length (negated_justs xs) ≡ just_total justs (members s)
+as_many_justs xs items justs s are counts small = ap (λ (ds : List Default). length (negated_justs ds)) are ∙ total_justs (defaults_of items) justs counts s small
 
 -- ---- all places
 pub all_places_are : (n : ℕ) → 2 ^ n - 1 ≡ such_that n (λ k. true)

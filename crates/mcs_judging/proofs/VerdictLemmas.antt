@@ -1,21 +1,19 @@
 -- Verdicts on sets of defaults, judged as they are read.
-use Rattle.std.proofs.Common.{◌≡◌, ℕ, ◌+◌, ◌-◌, ◌<◌, ◌^◌, Bool, true, false, cond, IsTrue, List, [], ◌∷◌, ◌++◌, map, length, slice_get, slice_index, Option, Some, None, Ok, Err, Result, Vec, codes, ◌⊎◌, inl, inr, ◌↔◌, refl, sym, ap, ◌∙◌, subst, arith, length-append, append-nil, true≢false}
+use Rattle.std.proofs.Common.{◌≡◌, ℕ, ◌+◌, ◌-◌, ◌<◌, ◌^◌, Bool, true, false, cond, IsTrue, List, [], ◌∷◌, ◌++◌, map, length, slice_get, slice_index, Option, Some, None, Ok, Err, Result, Vec, codes, ◌↔◌, refl, sym, ap, ◌∙◌, subst, arith, length-append, append-nil, true≢false}
 use Rattle.std.specs.declared.alloc.Global.{Global}
-use Rattle.std.proofs.lemmas.Option.{same_Some, none-some}
+use Rattle.std.proofs.lemmas.Option.{same_Some}
 use Rattle.std.proofs.lemmas.List.{length-map}
-use Rattle.mcs_sets.specs.Sets.{minus, members, size, Within, has}
+use Rattle.mcs_sets.specs.Sets.{minus, members, size, Within}
 use Rattle.mcs_sets.specs.Orders.{StateBefore}
 use Rattle.mcs_base.specs.Listings.{IsAmong, IsListing}
-use Rattle.mcs_base.proofs.Among.{among_push}
-use Rattle.mcs_base.proofs.Lists.{slice_get_kept, slice_get_push_at, slice_get_seam}
-use Rattle.mcs_sets.proofs.SetLemmas.{same_set}
-use Rattle.std.proofs.lemmas.Bool.Decides.{same_from_decides}
+use Rattle.mcs_base.proofs.Lists.{slice_get_kept, slice_get_seam}
 use Rattle.mcs_system.specs.Plain.{Name, Formula, Default, Item}
 use Rattle.mcs_cnf.specs.Entailments.{Entailment}
-use Rattle.mcs_evidence.specs.Defaults.{Absence, Verdict, Fails, Applied, Ungrounded, Extension, defaults_of, facts_of, defaults_in, all_defaults, generated, negated_justs, IsEntailmentShown, AreDenied, AreGrounded, IsAcceptedVerdict, ShowsView, IsAcceptedDefault}
+use Rattle.mcs_evidence.specs.Defaults.{Absence, Verdict, Fails, Applied, Ungrounded, Extension, defaults_of, facts_of, defaults_in, all_defaults, generated, negated_justs, IsEntailmentShown, AreDenied, AreGrounded, IsAcceptedVerdict, IsAcceptedDefault}
 use Rattle.mcs_extensions.specs.Checks.{at_number, judged_by, judged_as, IsNumberIn, AreNumbersOf, AreAbsent, IsVerdictJudged}
 use Rattle.mcs_extensions.specs.declared.verdict.Judged.{Judged}
 use Rattle.mcs_extensions.specs.declared.verdict.Judged.TheVariants as variants
+use Rattle.mcs_extensions.proofs.JudgingLemmas.{AreJudged, judged_none, judged_passed, judged_shows, all_judged, one_refused}
 use Rattle.mcs_extensions.proofs.OrderLemmas.{numbered_same}
 use Rattle.mcs_extensions.proofs.VerdictLemmas.{complete_view, judged_view, judged_test, ready, applied_inside, applied_iff}
 use Rattle.mcs_proof_lines.specs.declared.fault.ReportFault.{ReportFault}
@@ -269,89 +267,30 @@ pub told_same : {X A : Type 0} (Fits : X → A → Type 0) (r : Result X ReportF
 told_same {A = A} Fits r now read read' e h = subst (λ (x : Reading A). Tells Fits r now x) (sym e) h
 
 -- ---- the sets, one after the other
-shows_once : (names : List Name) (items : List Item) (beliefs : List Formula) (set : ℕ) (v : Verdict) (p q : ℕ) → ShowsView names items beliefs set v p → ShowsView names items beliefs set v q → p ≡ q
-shows_once names items beliefs set (Fails a) p q h h' = absurd h
-shows_once names items beliefs set (Applied n pre justs) p q h h' = absurd h
-shows_once names items beliefs set (Ungrounded closed pres) p q h h' = absurd h
-shows_once names items beliefs set (Extension order pres justs outside outputs) p q h h' = same_set p q (λ k. same_from_decides {P = has q k ≡ true} (has p k) (has q k)
-    (λ is. (h'.shown.exactly k).1 ((h.shown.exactly k).0 is), λ is. (h.shown.exactly k).1 ((h'.shown.exactly k).0 is)) (λ is. is, λ is. is))
-
-shows_accepted : (names : List Name) (items : List Item) (beliefs : List Formula) (set : ℕ) (v : Verdict) (p : ℕ) → ShowsView names items beliefs set v p → IsAcceptedVerdict names items beliefs set v
-shows_accepted names items beliefs set (Fails a) p h = absurd h
-shows_accepted names items beliefs set (Applied n pre justs) p h = absurd h
-shows_accepted names items beliefs set (Ungrounded closed pres) p h = absurd h
-shows_accepted names items beliefs set (Extension order pres justs outside outputs) p h = (p, h)
-
 module _ (names : List Name) (items : List Item) (beliefs : List Formula) where
-  -- a verdict on one of the sets so far shows this view
-  abbrev ShowsSome : List Verdict → ℕ → Type 0
-  ShowsSome front places = (set : ℕ) × (v : Verdict) × (slice_get front set ≡ Some v) × ShowsView names items beliefs set v places
-
   -- the verdicts so far are accepted, and these are the views that they show; or one of them is refused
   pub record AreNoted (told : Bool) (views : List ℕ) (front : List Verdict) : Type 0 where
-    pub accepted : IsTrue told → (set : ℕ) (v : Verdict) → slice_get front set ≡ Some v → IsAcceptedVerdict names items beliefs set v
-    pub listed : IsTrue told → (places : ℕ) → IsAmong places views ↔ ShowsSome front places
+    pub judged : IsTrue told → AreJudged names items beliefs views front
     pub refused : told ≡ false → (set : ℕ) × (v : Verdict) × (slice_get front set ≡ Some v) × ¬ IsAcceptedVerdict names items beliefs set v
 
   pub none_noted : (told : Bool) → told ≡ true → AreNoted told [] []
-  none_noted told is = record {
-    accepted = λ t set v e. absurd (none-some v e);
-    listed = λ t places. (λ among. absurd among, λ (set, v, e, shows). absurd (none-some v e));
-    refused = λ e. absurd (true≢false (sym is ∙ e));
-  }
+  none_noted told is = record { judged = λ t. judged_none names items beliefs; refused = λ e. absurd (true≢false (sym is ∙ e)) }
 
   module _ (told : Bool) (views : List ℕ) (front : List Verdict) (before : AreNoted told views front) (n : ℕ) (many : length front ≡ n) (v : Verdict) where
-    here : slice_get (front ++ v ∷ []) n ≡ Some v
-    here = slice_get_seam front v [] n (sym many)
-
-    accepted_more : IsAcceptedVerdict names items beliefs n v → IsTrue told → (set : ℕ) (w : Verdict) → slice_get (front ++ v ∷ []) set ≡ Some w → IsAcceptedVerdict names items beliefs set w
-    accepted_more fine t set w e = elim (slice_get_push_at front v set w e) as (λ _. IsAcceptedVerdict names items beliefs set w) [
-      | inl old ↦ before.accepted t set w old
-      | inr (at, same) ↦ subst (λ (m : ℕ). IsAcceptedVerdict names items beliefs m w) (sym (at ∙ many)) (subst (IsAcceptedVerdict names items beliefs n) (sym same) fine)
-    ]
-
     refused_more : told ≡ false → (set : ℕ) × (w : Verdict) × (slice_get (front ++ v ∷ []) set ≡ Some w) × ¬ IsAcceptedVerdict names items beliefs set w
     refused_more e = let (set, w, at, wrong) = before.refused e in (set, w, slice_get_kept front (v ∷ []) set w at, wrong)
 
-    -- a view of the sets so far is one of those before or one of this set
-    last_or : (places : ℕ) → ShowsSome (front ++ v ∷ []) places → ShowsSome front places ⊎ ShowsView names items beliefs n v places
-    last_or places (set, w, e, shows) = elim (slice_get_push_at front v set w e) as (λ _. ShowsSome front places ⊎ ShowsView names items beliefs n v places) [
-      | inl old ↦ inl (set, w, old, shows)
-      | inr (at, same) ↦ inr (subst (λ (x : Verdict). ShowsView names items beliefs n x places) same (subst (λ (m : ℕ). ShowsView names items beliefs m w places) (at ∙ many) shows))
-    ]
-
-    still_shows : (places : ℕ) → ShowsSome front places → ShowsSome (front ++ v ∷ []) places
-    still_shows places (set, w, e, shows) = (set, w, slice_get_kept front (v ∷ []) set w e, shows)
-
     pub one_noted : (j : Judged) (told' : Bool) (views' : List ℕ) → IsVerdictJudged names items beliefs n v j → IsNoted j told views told' views' → AreNoted told' views' (front ++ v ∷ [])
     one_noted variants.Refused told' views' wrong noted = record {
-      accepted = λ t. absurd (true≢false (sym t ∙ noted.0));
-      listed = λ t. absurd (true≢false (sym t ∙ noted.0));
-      refused = λ e. (n, v, here, wrong);
+      judged = λ t. absurd (true≢false (sym t ∙ noted.0));
+      refused = λ e. (n, v, slice_get_seam front v [] n (sym many), wrong);
     }
-    one_noted variants.Passed told' views' (fine, none) noted = record {
-      accepted = λ t. accepted_more fine (sym noted.0 ∙ t);
-      listed = λ t places. (
-        λ among. still_shows places ((before.listed (sym noted.0 ∙ t) places).0 (subst (IsAmong places) noted.1 among)),
-        λ h. subst (IsAmong places) (sym noted.1) (elim (last_or places h) as (λ _. IsAmong places views) [
-          | inl old ↦ (before.listed (sym noted.0 ∙ t) places).1 old
-          | inr last ↦ absurd (none places last)
-        ]),
-      );
+    one_noted variants.Passed told' views' fine noted = record {
+      judged = λ t. subst (λ (vs : List ℕ). AreJudged names items beliefs vs (front ++ v ∷ [])) (sym noted.1) (judged_passed names items beliefs views front (before.judged (sym noted.0 ∙ t)) n many v fine);
       refused = λ e. refused_more (sym noted.0 ∙ e);
     }
     one_noted (variants.Shows view) told' views' shown noted = record {
-      accepted = λ t. accepted_more (shows_accepted names items beliefs n v view shown) (sym noted.0 ∙ t);
-      listed = λ t places. (
-        λ among. elim ((among_push places views view).0 (subst (IsAmong places) noted.1 among)) as (λ _. ShowsSome (front ++ v ∷ []) places) [
-          | inl old ↦ still_shows places ((before.listed (sym noted.0 ∙ t) places).0 old)
-          | inr same ↦ (n, v, here, subst (ShowsView names items beliefs n v) (sym same) shown)
-        ],
-        λ h. subst (IsAmong places) (sym noted.1) ((among_push places views view).1 (elim (last_or places h) as (λ _. IsAmong places views ⊎ (places ≡ view)) [
-          | inl old ↦ inl ((before.listed (sym noted.0 ∙ t) places).1 old)
-          | inr last ↦ inr (shows_once names items beliefs n v places view last shown)
-        ])),
-      );
+      judged = λ t. judged_shows names items beliefs views front (before.judged (sym noted.0 ∙ t)) n many v views' view noted.1 shown;
       refused = λ e. refused_more (sym noted.0 ∙ e);
     }
 
@@ -393,10 +332,10 @@ module _ (names : List Name) (items : List Item) (beliefs : List Formula) where
         all_read = sym h.read ∙ ap (λ (n : ℕ). after_front h.front (sets_from t set n at)) none ∙ ap (λ (vs : List Verdict). (let r : Reading (List Verdict) = Ok (vs, at) in r)) (append-nil h.front)
 
         pub sets_refused : told ≡ false → IsTold (AreViewsOf (IsAcceptedDefault names items beliefs)) None at (verdicts_at t start)
-        sets_refused wrong = record {
+        sets_refused is_wrong = record {
           value = h.front;
           is = all_read;
-          fits = λ views' accepted. (let (set', v, there, not_it) = h.noted.refused wrong in not_it (accepted.accepted set' v there));
+          fits = λ views' accepted. (let (set', v, there, wrong) = h.noted.refused is_wrong in one_refused names items beliefs views' h.front set' v there wrong accepted);
         }
 
         pub sets_accepted : (shown : Vec ℕ Global) → told ≡ true → set ≡ 2 ^ length (defaults_of items) → IsListing (λ s. IsAmong s views) StateBefore shown.items
@@ -404,13 +343,5 @@ module _ (names : List Name) (items : List Item) (beliefs : List Formula) where
         sets_accepted shown right all listing = record {
           value = h.front;
           is = all_read;
-          fits = record {
-            one_each = h.many ∙ all;
-            accepted = h.noted.accepted right;
-            ascending = listing.ascending;
-            listed = λ places. (
-              λ among. (h.noted.listed right places).0 ((listing.exactly places).0 among),
-              λ some. (listing.exactly places).1 ((h.noted.listed right places).1 some),
-            );
-          };
+          fits = all_judged names items beliefs views shown.items h.front (h.noted.judged right) (h.many ∙ all) listing;
         }

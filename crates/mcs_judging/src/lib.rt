@@ -12,5 +12,6 @@ mod theory;
 mod verdicts;
 
 pub use classical::judge_classical;
+pub use named::Named;
 pub use programs::judge_program;
 pub use verdicts::judge_verdicts;

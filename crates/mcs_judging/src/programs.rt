@@ -13,9 +13,10 @@ ghost use Rattle.mcs_proof_lines.specs.Walks.{trace_at, many_at};
 ghost use Rattle.mcs_proof_lines.specs.Programs.{model_at, smaller_at, rest_at, program_at};
 ghost use Rattle.mcs_steps.specs.Judging.{Judges, PassesBy};
 ghost use Rattle.mcs_judging.specs.Judging.{Tells, AreViewsOf};
-ghost use Rattle.mcs_asked.specs.Questions.{program_rules, program_beliefs};
+ghost use Rattle.mcs_asked.specs.Questions.{asked_beliefs, program_rules, program_beliefs};
 ghost use Rattle.mcs_judging.specs.Programs.{IsViewOf, Refutes, MayBeShown, Completes};
 
+use crate::named::Named;
 use mcs_answer_sets::{are_ascending, rules_hold, view_of};
 use mcs_asked::AskedProgram;
 use mcs_base::{Memory, Text, Vars};
@@ -255,7 +256,6 @@ fn judge_asked(
 
 /// Reads a certificate of a program, as `take_program` does for `count` models, and returns the views that it shows for
 /// the program with the heads, if it is accepted. The beliefs have to be atoms. A head that is not an atom adds no fact.
-/// `texts` are the names of the atoms in the lines. There are at most 64 atoms and at most 64 beliefs.
 ///
 /// Of a model its view is kept, of a smaller set its number, and of a trace the clauses of its steps as long as it is
 /// read. A certificate that is not accepted is read to its end all the same: `Grammar` is returned for the first line
@@ -264,30 +264,24 @@ pub fn judge_program(
     alloc: Global,
     rules: &[ProgRule],
     heads: &[&Formula],
-    beliefs: &[&Formula],
-    atoms: &[Name],
-    texts: &[Text],
+    named: &Named<'_>,
     count: usize,
     lines: &mut Lines<'_>,
 ) -> Result<Option<Vec<Vars>>, ReportFault>
-    requires few { length atoms.now ≤ 64 }
-    requires few_texts { length texts.now ≤ 64 }
-    requires few_beliefs { length beliefs.now ≤ 64 }
-    requires rules { AreOverRules atoms.now (map rule_of rules.now) }
-    requires heads { AreOver atoms.now (map (λ f. formula_of f.now) heads.now) }
-    requires beliefs { AreOver atoms.now (map (λ f. formula_of f.now) beliefs.now) }
-    requires belief_atoms { AllByRecursion (λ f. IsTrue (is_atom (formula_of f.now))) beliefs.now }
-    ensures { Tells (AreViewsOf (IsAcceptedProgram atoms.now (map rule_of rules.now ++ filter_map fact_of (map (λ f. formula_of f.now) heads.now)) (map (λ f. formula_of f.now) beliefs.now))) result lines.new
-        (program_at texts.now count lines.old) }
+    requires rules { AreOverRules named.now.asked.now.atoms.now (map rule_of rules.now) }
+    requires heads { AreOver named.now.asked.now.atoms.now (map (λ f. formula_of f.now) heads.now) }
+    requires belief_atoms { AllByRecursion (λ f. IsTrue (is_atom (formula_of f.now))) named.now.asked.now.beliefs.now }
+    ensures { Tells (AreViewsOf (IsAcceptedProgram named.now.asked.now.atoms.now (map rule_of rules.now ++ filter_map fact_of (map (λ f. formula_of f.now) heads.now)) (asked_beliefs named.now.asked.now))) result lines.new
+        (program_at named.now.texts.now count lines.old) }
 {
-    let names = names_of(alloc, beliefs)?;
+    let names = names_of(alloc, named.asked.beliefs)?;
     let all = with_heads(alloc, rules, heads)?;
     let program = AskedProgram {
-        atoms,
+        atoms: named.asked.atoms,
         rules: &all,
         beliefs: &names,
     };
-    let judged = judge_asked(alloc, &program, texts, count, lines);
+    let judged = judge_asked(alloc, &program, named.texts, count, lines);
     drop(all);
     judged
 }

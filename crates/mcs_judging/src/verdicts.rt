@@ -1,19 +1,19 @@
 //! Certificates of default theories: the verdicts on sets of defaults, judged one at a time as they are read.
 
-ghost use Rattle.std.specs.Prelude.{◌≡◌, ◌≤◌, ◌<◌, ◌^◌, ◌++◌, ◌∷◌, ◌↔◌, [], ℕ, List, length, map, codes, IsTrue, IfOk, IfSome, OnOk};
+ghost use Rattle.std.specs.Prelude.{◌≡◌, ◌≤◌, ◌<◌, ◌^◌, ◌++◌, ◌↔◌, ℕ, length, map, IsTrue, IfOk, OnOk};
 ghost use Rattle.mcs_sets.specs.Sets.{Within};
 ghost use Rattle.mcs_system.specs.Plain.{Fact};
+ghost use Rattle.mcs_system.specs.Plain as plain;
 ghost use Rattle.mcs_system.specs.Seen.{default_of, formula_of, item_of};
-ghost use Rattle.mcs_asked.specs.Questions.{theory_names, theory_items, theory_beliefs};
+ghost use Rattle.mcs_asked.specs.Questions.{asked_beliefs, theory_names, theory_items, theory_beliefs};
 ghost use Rattle.mcs_cnf.specs.ClauseLists.{clause_list, AreOver};
 ghost use Rattle.mcs_evidence.specs.Defaults.{AreOverItems, AreDenied, IsAcceptedDefault, defaults_of, facts_of, generated, negated_justs};
 ghost use Rattle.mcs_extensions.specs.Checks.{IsNumberIn};
 ghost use Rattle.mcs_proof_lines.specs.Walks.{IsNumberOf, many_at, no_at};
-ghost use Rattle.mcs_proof_lines.specs.Verdicts.{terms_of, defaults_of_line, extension_at, applied_at, ungrounded_at, or_absence, verdict_at, names_set, set_at, verdicts_at};
+ghost use Rattle.mcs_proof_lines.specs.Verdicts.{terms_of, extension_at, applied_at, ungrounded_at, or_absence, verdict_at, names_set, set_at, verdicts_at};
 ghost use Rattle.mcs_steps.specs.Judging.{Judges};
 ghost use Rattle.mcs_judging.specs.Judging.{Tells, AreViewsOf};
 ghost use Rattle.mcs_judging.specs.Theories.{numbers_in, AreNumbers, complete_at, TellsCompletion, shown_if, TellsVerdict, IsNoted};
-ghost use Rattle.mcs_system.specs.Plain as plain;
 
 use crate::absences::{judge_absence, judge_absences};
 use crate::entailments::{judge_all_no, judge_places, judge_yes};
@@ -31,7 +31,7 @@ use mcs_extensions::{
 use mcs_proof_lines::{
     Lines, ReportFault, Theory, names_set, next_applied, next_defaults, out_of_place,
 };
-use mcs_system::{Default, Formula, Name, TheoryItem};
+use mcs_system::{Default, Formula, TheoryItem};
 use mcs_trace::Cnf;
 use std::alloc::Global;
 
@@ -361,7 +361,7 @@ fn judge_sets(
 }
 
 /// Reads the certificate of a default theory, as `take_verdicts` does, and returns the views that it shows for the
-/// theory with the heads as facts, if it is accepted. `theory` says what the lines may name: the names of the atoms, the
+/// theory with the heads as facts, if it is accepted. `terms` says what the lines may name: the names of the atoms, the
 /// numbers of the defaults, of each default how many justifications it has, and how many beliefs there are.
 ///
 /// The verdicts are judged one at a time as they are read, and each of their lines at once. What is not accepted is read
@@ -370,38 +370,37 @@ pub fn judge_verdicts(
     alloc: Global,
     items: &[TheoryItem],
     heads: &[&Formula],
-    beliefs: &[&Formula],
-    atoms: &[Name],
-    theory: &Theory<'_>,
+    asked: &Asked<'_>,
+    terms: &Theory<'_>,
     lines: &mut Lines<'_>,
 ) -> Result<Option<Vec<Vars>>, ReportFault>
-    requires few { length atoms.now ≤ 64 }
-    requires few_texts { length theory.now.atoms.now ≤ 64 }
-    requires few_numbers { length theory.now.numbers.now ≤ 64 }
-    requires few_beliefs { length beliefs.now ≤ 64 }
+    requires few_texts { length terms.now.atoms.now ≤ 64 }
+    requires few_numbers { length terms.now.numbers.now ≤ 64 }
     requires few_defaults { length (defaults_of (map item_of items.now)) ≤ 10 }
-    requires justs { theory.now.justs.now ≡ map (λ (d : plain.Default). length d.justs) (defaults_of (map item_of items.now)) }
-    requires told_beliefs { theory.now.beliefs ≡ length beliefs.now }
-    requires items { AreOverItems atoms.now (map item_of items.now) }
-    requires heads { AreOver atoms.now (map (λ f. formula_of f.now) heads.now) }
-    requires beliefs { AreOver atoms.now (map (λ f. formula_of f.now) beliefs.now) }
-    ensures { Tells (AreViewsOf (IsAcceptedDefault atoms.now (map item_of items.now ++ map Fact (map (λ f. formula_of f.now) heads.now)) (map (λ f. formula_of f.now) beliefs.now))) result lines.new
-        (verdicts_at (terms_of theory.now) lines.old) }
+    requires justs { terms.now.justs.now ≡ map (λ (d : plain.Default). length d.justs) (defaults_of (map item_of items.now)) }
+    requires told_beliefs { terms.now.beliefs ≡ length asked.now.beliefs.now }
+    requires items { AreOverItems asked.now.atoms.now (map item_of items.now) }
+    requires heads { AreOver asked.now.atoms.now (map (λ f. formula_of f.now) heads.now) }
+    ensures { Tells (AreViewsOf (IsAcceptedDefault asked.now.atoms.now (map item_of items.now ++ map Fact (map (λ f. formula_of f.now) heads.now)) (asked_beliefs asked.now))) result lines.new
+        (verdicts_at (terms_of terms.now) lines.old) }
 {
     let defaults = defaults_of(alloc, items)?;
     let facts = facts_with(alloc, items, heads)?;
-    let asked = Asked { atoms, beliefs };
-    let mut known = clauses_of(alloc, &asked, &facts)?;
+    let mut known = clauses_of(alloc, asked, &facts)?;
     drop(facts);
+    let own = Asked {
+        atoms: asked.atoms,
+        beliefs: asked.beliefs,
+    };
     let question = AskedTheory {
-        asked: &asked,
+        asked: &own,
         items,
         heads,
         defaults: &defaults,
     };
     let reading = TheoryLines {
         theory: &question,
-        terms: theory,
+        terms,
     };
     judge_sets(alloc, &mut known, &reading, lines)
 }

@@ -46,10 +46,6 @@ fn is_told_by_clauses(
     if !may_be_asked(kb, atoms) || !is_over(atoms, goal) {
         return Ok(false);
     }
-    let mut known = clauses(alloc, kb, atoms)?;
-    if known.vars() < atoms.len() as u64 {
-        return Ok(false);
-    }
     let asked = Asked {
         atoms,
         beliefs: &[],
@@ -58,6 +54,10 @@ fn is_told_by_clauses(
         asked: &asked,
         assumptions: &[],
     };
+    let mut known = clauses(alloc, kb, atoms)?;
+    if known.vars() < atoms.len() as u64 {
+        return Ok(false);
+    }
     let entail = entails_from(alloc, &mut known, goal, &given);
     drop(known);
     let entail = entail?;

@@ -1,7 +1,6 @@
 use Rattle.std.proofs.Common.{◌≡◌, ◌∙◌, ◌↔◌, IsTrue, ℕ, List, length, map, get_or, slice_get, Some, ap, subst, arith}
 use Rattle.std.proofs.lemmas.List.{length-map}
-use Rattle.std.proofs.lemmas.Slice.Eq.{slice_eq-Decides}
-use Rattle.std.specs.Cmp.{unsigned_Decides}
+use Rattle.std.proofs.lemmas.Result.{IfOk-weaker}
 use Rattle.mcs_base.proofs.Booleans.{false_tells}
 use Rattle.mcs_system.specs.Plain.{Name, Formula, Context, System}
 use Rattle.mcs_system.specs.Logic.{with_heads}
@@ -60,12 +59,11 @@ returns-clause-exact c =
     let d : Context = context_of (get_or c.contexts.result.now i c.index-contexts-context.result) in
     let there : slice_get m.contexts i ≡ Some d = context_there m c.contexts.result.now i c.index-contexts-context.result c.contexts.ensures.value c.requires.context in
     let views : List ℕ = c.in-Some.views.items in
-    let parts : c.as_slice.result.now ≡ map (at_places (variables_of m i)) views =
-    c.as_slice.ensures.value ∙ c.in_ok-parts.ensures ∙ ap (map (at_places c.vars_of.result)) c.deref-3.ensures.value ∙ ap (λ (s : ℕ). map (at_places s) views) c.vars_of.ensures in
     let shown = rw c.in-Some.is at c.in_ok-shown.ensures in
-    accepted_views m i c.args.active c.args.outputs.now (plain_of c.args.cert.now) d there views c.eq.result c.contexts.ensures.valid
+    IfOk-weaker c.are_parts.result _ _ (λ same tells. accepted_views m i c.args.active c.args.outputs.now (plain_of c.args.cert.now) d there views same c.contexts.ensures.valid
     (as_asked (λ (ns : List Name) (hs bs : List Formula). IsAcceptedFor ns (with_heads d.kb hs) bs views (plain_of c.args.cert.now)) _ _ _ _ _ _ c.atoms_of.ensures.value told asked shown)
-    (subst (λ (ps : List ℕ). IsTrue c.eq.result ↔ (ps ≡ c.args.outputs.now)) parts (slice_eq-Decides unsigned_Decides c.as_slice.result.now c.args.outputs.now c.eq.result c.eq.ensures))
+    (subst (λ (vs : List ℕ). IsTrue same ↔ (map (at_places (variables_of m i)) vs ≡ c.args.outputs.now)) c.deref-3.ensures.value tells)) c.are_parts.ensures
 
 pub returns-clause-right : goal.returns-clause-right
-returns-clause-right c = λ h. accepted_right c.args.system.now c.args.context c.args.active c.args.outputs.now (plain_of c.args.cert.now) c.contexts.ensures.valid ((returns-clause-exact c).0 h)
+returns-clause-right c =
+    IfOk-weaker c.are_parts.result _ _ (λ same tells h. accepted_right c.args.system.now c.args.context c.args.active c.args.outputs.now (plain_of c.args.cert.now) c.contexts.ensures.valid (tells.0 h)) (returns-clause-exact c)

@@ -1,4 +1,4 @@
-use Rattle.std.proofs.Common.{◌≡◌, ◌-◌, ◌<◌, ◌∙◌, map, length, subst, sym, ap, Some, arith}
+use Rattle.std.proofs.Common.{◌≡◌, ◌-◌, ◌<◌, length, Some, arith}
 use Rattle.std.proofs.lemmas.List.{length-map}
 use Rattle.mcs_system.specs.Plain.{Default}
 use Rattle.mcs_system.specs.Seen.{default_of, formula_of}
@@ -8,8 +8,7 @@ use Rattle.mcs_extensions.proofs.OrderLemmas.{numbered_read}
 use Rattle.mcs_extensions.proofs.VerdictLemmas.{numbered_over, numbered_formula_over}
 use Rattle.mcs_asked.specs.Questions.{theory_names, theory_defaults, theory_items}
 use Rattle.mcs_judging.proofs.AbsenceLemmas.{tells_blocked}
-use Rattle.mcs_proof_lines.proofs.Justs.{justs_in}
-use Rattle.mcs_judging.proofs.Places.{own_justs}
+use Rattle.mcs_judging.proofs.Places.{own_counts, own_justs}
 use Rattle.mcs_judging.proofs.Readings.{told_err}
 use Rattle.mcs_judging.proofs.absences.judge_blocked.Goals as goal
 
@@ -18,7 +17,7 @@ index-formula-requires c =
     let room = c.default_numbered-default.result.now.justs.ok.0 in
     let ds = theory_defaults c.args.reading.now.theory.now in
     let d : Default = default_of c.default_numbered-default.result.now in
-    let own = own_justs ds c.args.reading.now.terms.now.justs.now (c.args.reading.now.justs ∙ ap (map justs_in) (sym c.args.reading.now.theory.now.are)) c.args.number d c.default_numbered-default.ensures in
+    let own = own_justs ds c.args.reading.now.terms.now.justs.now (own_counts c.args.reading.now) c.args.number d c.default_numbered-default.ensures in
     let long = length-map c.default_numbered-default.result.now.justs.items formula_of in
     let less : c.args.just - 1 < length c.default_numbered-default.result.now.justs.items = omega (arith, own, long, c.requires.within.some, c.requires.within.enough) in
     omega (arith, less, room)
@@ -27,7 +26,7 @@ pub judge_negation-requires-clause-over : goal.judge_negation-requires-clause-ov
 judge_negation-requires-clause-over c =
     let ds = theory_defaults c.args.reading.now.theory.now in
     let d : Default = default_of c.default_numbered-default.result.now in
-    let own = own_justs ds c.args.reading.now.terms.now.justs.now (c.args.reading.now.justs ∙ ap (map justs_in) (sym c.args.reading.now.theory.now.are)) c.args.number d c.default_numbered-default.ensures in
+    let own = own_justs ds c.args.reading.now.terms.now.justs.now (own_counts c.args.reading.now) c.args.number d c.default_numbered-default.ensures in
     let long = length-map c.default_numbered-default.result.now.justs.items formula_of in
     let less : c.args.just - 1 < length c.default_numbered-default.result.now.justs.items = omega (arith, own, long, c.requires.within.some, c.requires.within.enough) in
     let there : at_number d.justs c.args.just ≡ Some (formula_of c.index-formula.result.now) = numbered_read formula_of c.default_numbered-default.result.now.justs.items c.args.just c.index-formula.result.now (λ none. omega (arith, none, c.requires.within.some)) less c.index-formula.ensures in
@@ -41,7 +40,7 @@ pub returns-clause-exact : goal.returns-clause-exact
 returns-clause-exact c = λ fs is. (
     let ds = theory_defaults c.args.reading.now.theory.now in
     let d : Default = default_of c.default_numbered-default.result.now in
-    let own = own_justs ds c.args.reading.now.terms.now.justs.now (c.args.reading.now.justs ∙ ap (map justs_in) (sym c.args.reading.now.theory.now.are)) c.args.number d c.default_numbered-default.ensures in
+    let own = own_justs ds c.args.reading.now.terms.now.justs.now (own_counts c.args.reading.now) c.args.number d c.default_numbered-default.ensures in
     let long = length-map c.default_numbered-default.result.now.justs.items formula_of in
     let less : c.args.just - 1 < length c.default_numbered-default.result.now.justs.items = omega (arith, own, long, c.requires.within.some, c.requires.within.enough) in
     let there : at_number d.justs c.args.just ≡ Some (formula_of c.index-formula.result.now) = numbered_read formula_of c.default_numbered-default.result.now.justs.items c.args.just c.index-formula.result.now (λ none. omega (arith, none, c.requires.within.some)) less c.index-formula.ensures in

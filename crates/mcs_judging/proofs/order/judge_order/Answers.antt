@@ -1,4 +1,4 @@
-use Rattle.std.proofs.Common.{◌-◌, ◌∙◌, map, length, take, drop, refl, sym, subst}
+use Rattle.std.proofs.Common.{◌-◌, ◌∙◌, length, take, drop, refl, sym}
 use Rattle.mcs_system.specs.Seen.{default_of}
 use Rattle.mcs_asked.proofs.QuestionLemmas.{defaults_over}
 use Rattle.mcs_extensions.proofs.VerdictLemmas.{numbered_over}

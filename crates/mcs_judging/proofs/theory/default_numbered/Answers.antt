@@ -1,18 +1,16 @@
-use Rattle.std.proofs.Common.{◌-◌, ◌<◌, ◌∙◌, Some, length, ap, arith}
+use Rattle.std.proofs.Common.{◌-◌, ◌<◌, length, arith}
 use Rattle.mcs_system.specs.Seen.{default_of}
-use Rattle.mcs_evidence.specs.Defaults.{defaults_of}
 use Rattle.mcs_extensions.proofs.OrderLemmas.{numbered_read}
-use Rattle.mcs_asked.specs.Questions.{theory_items}
-use Rattle.mcs_judging.proofs.Places.{long_as}
+use Rattle.mcs_judging.proofs.Places.{as_long}
 use Rattle.mcs_judging.proofs.theory.default_numbered.Goals as goal
 
 pub bounds-defaults-number : goal.bounds-defaults-number
 bounds-defaults-number c =
-    let long = long_as (λ d. default_of d.now) c.args.reading.now.theory.now.defaults.now (defaults_of (theory_items c.args.reading.now.theory.now)) c.args.reading.now.terms.now.justs.now c.args.reading.now.theory.now.are c.args.reading.now.justs in
+    let long = as_long c.args.reading.now in
     omega (arith, long, c.requires.0, c.requires.1)
 
 pub returns : goal.returns
 returns c =
-    let long = long_as (λ d. default_of d.now) c.args.reading.now.theory.now.defaults.now (defaults_of (theory_items c.args.reading.now.theory.now)) c.args.reading.now.terms.now.justs.now c.args.reading.now.theory.now.are c.args.reading.now.justs in
+    let long = as_long c.args.reading.now in
     let less : c.args.number - 1 < length c.args.reading.now.theory.now.defaults.now = omega (arith, long, c.requires.0, c.requires.1) in
     numbered_read (λ d. default_of d.now) c.args.reading.now.theory.now.defaults.now c.args.number c.index-defaults-number.result (λ none. omega (arith, none, c.requires.0)) less c.index-defaults-number.is

@@ -1,4 +1,4 @@
-use Rattle.std.proofs.Common.{◌≡◌, ◌∙◌, [], ◌∷◌, List, ◌-◌, ◌↔◌, IsTrue, slice_index, map, length, sym, ap, subst}
+use Rattle.std.proofs.Common.{◌≡◌, ◌∙◌, [], ◌∷◌, List, ◌-◌, ◌↔◌, IsTrue, slice_index, map, length, ap, subst}
 use Rattle.mcs_system.specs.Plain.{Formula, Default}
 use Rattle.mcs_system.specs.Seen.{default_of, formula_of}
 use Rattle.mcs_cnf.proofs.GrowingLemmas.{room_known}
@@ -7,8 +7,7 @@ use Rattle.mcs_asked.proofs.QuestionLemmas.{defaults_over}
 use Rattle.mcs_extensions.proofs.VerdictLemmas.{numbered_over}
 use Rattle.mcs_proof_lines.specs.Verdicts.{terms_of}
 use Rattle.mcs_asked.specs.Questions.{theory_names, theory_beliefs, theory_defaults, theory_items}
-use Rattle.mcs_proof_lines.proofs.Justs.{justs_in}
-use Rattle.mcs_judging.proofs.Places.{one_justs}
+use Rattle.mcs_judging.proofs.Places.{own_counts, one_justs}
 use Rattle.mcs_judging.proofs.Readings.{told_err}
 use Rattle.mcs_judging.proofs.VerdictLemmas.{applied_unread, justs_unread, applied_told, applied_judged}
 use Rattle.mcs_judging.proofs.verdicts.judge_applying.Goals as goal
@@ -34,7 +33,7 @@ returns-in_err-allowed-clause-exact c =
     let t = terms_of c.args.reading.now.terms.now in
     let ds : List Default = theory_defaults c.args.reading.now.theory.now in
     let d : Default = default_of c.default_numbered-default.result.now in
-    let many : length (negated_justs (d ∷ [])) ≡ slice_index t.justs (c.args.number - 1) = one_justs ds t.justs (c.args.reading.now.justs ∙ ap (map justs_in) (sym c.args.reading.now.theory.now.are)) c.args.number d c.default_numbered-default.ensures in
+    let many : length (negated_justs (d ∷ [])) ≡ slice_index t.justs (c.args.number - 1) = one_justs ds t.justs (own_counts c.args.reading.now) c.args.number d c.default_numbered-default.ensures in
     let h = c.in_ok-shown.ensures.exact (generated items c.args.set) c.requires.made in
     told_err _ _ _ _ _ c.from_residual-in_err-allowed.ensures.1
     (justs_unread t names items beliefs c.args.set c.args.number c.args.lines.now (length (negated_justs (d ∷ []))) many h.value c.judge_yes.new.lines h.is _ c.in_err-allowed.ensures)
@@ -47,7 +46,7 @@ returns-clause-exact c =
     let t = terms_of c.args.reading.now.terms.now in
     let ds : List Default = theory_defaults c.args.reading.now.theory.now in
     let d : Default = default_of c.default_numbered-default.result.now in
-    let many : length (negated_justs (d ∷ [])) ≡ slice_index t.justs (c.args.number - 1) = one_justs ds t.justs (c.args.reading.now.justs ∙ ap (map justs_in) (sym c.args.reading.now.theory.now.are)) c.args.number d c.default_numbered-default.ensures in
+    let many : length (negated_justs (d ∷ [])) ≡ slice_index t.justs (c.args.number - 1) = one_justs ds t.justs (own_counts c.args.reading.now) c.args.number d c.default_numbered-default.ensures in
     let h = c.in_ok-shown.ensures.exact (generated items c.args.set) c.requires.made in
     let h' = c.in_ok-allowed.ensures in
     let allowed : IsTrue c.in_ok-allowed.allowed ↔ AreDenied names (generated items c.args.set) (negated_justs (d ∷ [])) h'.value =

@@ -3,12 +3,12 @@ use Rattle.std.proofs.lemmas.List.Elements.{recursion_from_All}
 use Rattle.mcs_sets.specs.Sets.{members, minus, such_that}
 use Rattle.mcs_system.specs.Plain.{Formula, Default}
 use Rattle.mcs_system.specs.Seen.{default_of, formula_of}
-use Rattle.mcs_evidence.specs.Defaults.{defaults_of, defaults_at, all_defaults, negated_justs, AreDenied}
+use Rattle.mcs_evidence.specs.Defaults.{defaults_of, defaults_at, defaults_in, all_defaults, negated_justs, AreDenied}
 use Rattle.mcs_extensions.specs.Checks.{AreAbsent}
-use Rattle.mcs_proof_lines.specs.Verdicts.{terms_of, all_places, just_total}
-use Rattle.mcs_asked.specs.Questions.{theory_names, theory_beliefs, theory_defaults, theory_items}
-use Rattle.mcs_proof_lines.proofs.Justs.{justs_in, counted, total_justs}
-use Rattle.mcs_judging.proofs.Places.{all_places_are}
+use Rattle.mcs_proof_lines.specs.Verdicts.{terms_of, all_places}
+use Rattle.mcs_asked.specs.Questions.{theory_names, theory_beliefs, theory_items}
+use Rattle.mcs_proof_lines.proofs.Justs.{counted}
+use Rattle.mcs_judging.proofs.Places.{as_many_justs, all_places_are}
 use Rattle.mcs_judging.proofs.Readings.{told_err}
 use Rattle.mcs_judging.proofs.VerdictLemmas.{completion_first, completion_second, completion_third, completion_read, completion_told}
 use Rattle.mcs_judging.proofs.verdicts.judge_completion.Goals as goal
@@ -28,11 +28,9 @@ returns-in_err-allowed-clause-exact c =
     let items = theory_items c.args.reading.now.theory.now in
     let beliefs : List Formula = theory_beliefs c.args.reading.now.theory.now in
     let t = terms_of c.args.reading.now.terms.now in
-    let ds : List Default = theory_defaults c.args.reading.now.theory.now in
     let chosen : List Default = map (λ d. default_of d.now) c.deref.result.now in
-    let inside : chosen ≡ defaults_at 0 ds c.args.set = ap (map (λ d. default_of d.now)) c.deref.ensures.value ∙ c.in_ok-inside.ensures in
-    let many : length (negated_justs chosen) ≡ just_total t.justs (members c.args.set) =
-    ap (λ (xs : List Default). length (negated_justs xs)) inside ∙ total_justs ds t.justs (c.args.reading.now.justs ∙ ap (map justs_in) (sym c.args.reading.now.theory.now.are)) c.args.set c.requires.inside in
+    let inside : chosen ≡ defaults_in items c.args.set = ap (map (λ d. default_of d.now)) c.deref.ensures.value ∙ c.in_ok-inside.ensures ∙ ap (λ (xs : List Default). defaults_at 0 xs c.args.set) c.args.reading.now.theory.now.are in
+    let many = as_many_justs chosen items t.justs c.args.set inside c.args.reading.now.justs c.requires.inside in
     told_err _ _ _ _ _ c.from_residual-in_err-allowed.ensures.1
     (completion_first t names items beliefs c.args.set c.args.lines.now (length (negated_justs chosen)) many (members (minus (all_places t) c.args.set)) refl (length c.args.reading.now.theory.now.asked.now.beliefs.now) (sym c.args.reading.now.beliefs) _ c.in_err-allowed.ensures)
 
@@ -42,11 +40,9 @@ returns-in_err-absent-clause-exact c =
     let items = theory_items c.args.reading.now.theory.now in
     let beliefs : List Formula = theory_beliefs c.args.reading.now.theory.now in
     let t = terms_of c.args.reading.now.terms.now in
-    let ds : List Default = theory_defaults c.args.reading.now.theory.now in
     let chosen : List Default = map (λ d. default_of d.now) c.deref.result.now in
-    let inside : chosen ≡ defaults_at 0 ds c.args.set = ap (map (λ d. default_of d.now)) c.deref.ensures.value ∙ c.in_ok-inside.ensures in
-    let many : length (negated_justs chosen) ≡ just_total t.justs (members c.args.set) =
-    ap (λ (xs : List Default). length (negated_justs xs)) inside ∙ total_justs ds t.justs (c.args.reading.now.justs ∙ ap (map justs_in) (sym c.args.reading.now.theory.now.are)) c.args.set c.requires.inside in
+    let inside : chosen ≡ defaults_in items c.args.set = ap (map (λ d. default_of d.now)) c.deref.ensures.value ∙ c.in_ok-inside.ensures ∙ ap (λ (xs : List Default). defaults_at 0 xs c.args.set) c.args.reading.now.theory.now.are in
+    let many = as_many_justs chosen items t.justs c.args.set inside c.args.reading.now.justs c.requires.inside in
     let places : c.members-others.result ≡ members (minus (all_places t) c.args.set) = c.members-others.ensures.list ∙ ap members (c.minus.ensures ∙ ap (λ (s : ℕ). minus s c.args.set) c.places.ensures) in
     let h = c.in_ok-allowed.ensures in
     told_err _ _ _ _ _ c.from_residual-in_err-absent.ensures.1
@@ -58,11 +54,9 @@ returns-in_err-view-clause-exact c =
     let items = theory_items c.args.reading.now.theory.now in
     let beliefs : List Formula = theory_beliefs c.args.reading.now.theory.now in
     let t = terms_of c.args.reading.now.terms.now in
-    let ds : List Default = theory_defaults c.args.reading.now.theory.now in
     let chosen : List Default = map (λ d. default_of d.now) c.deref.result.now in
-    let inside : chosen ≡ defaults_at 0 ds c.args.set = ap (map (λ d. default_of d.now)) c.deref.ensures.value ∙ c.in_ok-inside.ensures in
-    let many : length (negated_justs chosen) ≡ just_total t.justs (members c.args.set) =
-    ap (λ (xs : List Default). length (negated_justs xs)) inside ∙ total_justs ds t.justs (c.args.reading.now.justs ∙ ap (map justs_in) (sym c.args.reading.now.theory.now.are)) c.args.set c.requires.inside in
+    let inside : chosen ≡ defaults_in items c.args.set = ap (map (λ d. default_of d.now)) c.deref.ensures.value ∙ c.in_ok-inside.ensures ∙ ap (λ (xs : List Default). defaults_at 0 xs c.args.set) c.args.reading.now.theory.now.are in
+    let many = as_many_justs chosen items t.justs c.args.set inside c.args.reading.now.justs c.requires.inside in
     let places : c.members-others.result ≡ members (minus (all_places t) c.args.set) = c.members-others.ensures.list ∙ ap members (c.minus.ensures ∙ ap (λ (s : ℕ). minus s c.args.set) c.places.ensures) in
     let h = c.in_ok-allowed.ensures in
     let h' = c.in_ok-absent.ensures.exact in
@@ -76,18 +70,16 @@ returns-clause-exact c =
     let beliefs : List Formula = theory_beliefs c.args.reading.now.theory.now in
     let fs : List Formula = map (λ f. formula_of f.now) c.args.premises.now in
     let t = terms_of c.args.reading.now.terms.now in
-    let ds : List Default = theory_defaults c.args.reading.now.theory.now in
     let chosen : List Default = map (λ d. default_of d.now) c.deref.result.now in
-    let inside : chosen ≡ defaults_at 0 ds c.args.set = ap (map (λ d. default_of d.now)) c.deref.ensures.value ∙ c.in_ok-inside.ensures in
-    let many : length (negated_justs chosen) ≡ just_total t.justs (members c.args.set) =
-    ap (λ (xs : List Default). length (negated_justs xs)) inside ∙ total_justs ds t.justs (c.args.reading.now.justs ∙ ap (map justs_in) (sym c.args.reading.now.theory.now.are)) c.args.set c.requires.inside in
+    let inside : chosen ≡ defaults_in items c.args.set = ap (map (λ d. default_of d.now)) c.deref.ensures.value ∙ c.in_ok-inside.ensures ∙ ap (λ (xs : List Default). defaults_at 0 xs c.args.set) c.args.reading.now.theory.now.are in
+    let many = as_many_justs chosen items t.justs c.args.set inside c.args.reading.now.justs c.requires.inside in
     let places : c.members-others.result ≡ members (minus (all_places t) c.args.set) = c.members-others.ensures.list ∙ ap members (c.minus.ensures ∙ ap (λ (s : ℕ). minus s c.args.set) c.places.ensures) in
     let all : all_places t ≡ all_defaults items = all_places_are (length t.justs) ∙ ap (λ (n : ℕ). such_that n (λ k. true)) (counted (defaults_of items) t.justs c.args.reading.now.justs) in
     let h = c.in_ok-allowed.ensures in
     let h' = c.in_ok-absent.ensures.exact in
     let v = c.in_ok-view.ensures.exact in
-    let allowed : IsTrue c.in_ok-allowed.allowed ↔ AreDenied names fs (negated_justs (defaults_at 0 (defaults_of items) c.args.set)) h.value =
-    subst (λ (xs : List Default). IsTrue c.in_ok-allowed.allowed ↔ AreDenied names fs (negated_justs xs) h.value) (inside ∙ ap (λ (xs : List Default). defaults_at 0 xs c.args.set) c.args.reading.now.theory.now.are) h.right in
+    let allowed : IsTrue c.in_ok-allowed.allowed ↔ AreDenied names fs (negated_justs (defaults_in items c.args.set)) h.value =
+    subst (λ (xs : List Default). IsTrue c.in_ok-allowed.allowed ↔ AreDenied names fs (negated_justs xs) h.value) inside h.right in
     let absent : IsTrue c.in_ok-absent.absent ↔ AreAbsent names items fs (members (minus (all_defaults items) c.args.set)) h'.value =
     subst (λ (ks : List ℕ). IsTrue c.in_ok-absent.absent ↔ AreAbsent names items fs ks h'.value) (places ∙ ap (λ (s : ℕ). members (minus s c.args.set)) all) h'.right in
     completion_read t names items beliefs c.args.set c.args.lines.now (length (negated_justs chosen)) many c.members-others.result places (length c.args.reading.now.theory.now.asked.now.beliefs.now) (sym c.args.reading.now.beliefs) h.value c.judge_justs.new.lines h.is h'.value c.judge_absences.new.lines h'.is

@@ -1,5 +1,4 @@
-use Rattle.std.proofs.Common.{map, sym, ◌∙◌}
-use Rattle.mcs_system.specs.Seen.{formula_of}
+use Rattle.std.proofs.Common.{sym, ◌∙◌}
 use Rattle.mcs_proof_lines.specs.Verdicts.{terms_of}
 use Rattle.mcs_asked.specs.Questions.{theory_names, theory_beliefs, theory_items}
 use Rattle.mcs_judging.specs.Theories.{TellsVerdict}

@@ -1,6 +1,5 @@
-use Rattle.std.proofs.Common.{◌≡◌, ◌+◌, ◌^◌, ◌∙◌, map, length, refl, ap, arith}
+use Rattle.std.proofs.Common.{◌≡◌, ◌+◌, ◌^◌, ◌∙◌, length, refl, ap, arith}
 use Rattle.mcs_base.proofs.NumberCases.{power_less_one}
-use Rattle.mcs_system.specs.Seen.{formula_of}
 use Rattle.mcs_evidence.specs.Defaults.{defaults_of}
 use Rattle.mcs_proof_lines.specs.Verdicts.{terms_of}
 use Rattle.mcs_asked.specs.Questions.{theory_names, theory_beliefs, theory_items}

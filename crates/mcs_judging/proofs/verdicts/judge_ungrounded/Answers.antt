@@ -1,5 +1,4 @@
-use Rattle.std.proofs.Common.{◌≡◌, ◌∙◌, ◌↔◌, IsTrue, ℕ, List, map, length, sym, ap, subst, arith}
-use Rattle.std.proofs.lemmas.List.{length-map}
+use Rattle.std.proofs.Common.{◌≡◌, ◌∙◌, ◌↔◌, IsTrue, ℕ, List, map, length, ap, subst, arith}
 use Rattle.mcs_sets.specs.Sets.{minus, size}
 use Rattle.mcs_system.specs.Plain.{Formula, Default}
 use Rattle.mcs_system.specs.Seen.{default_of, formula_of}
@@ -7,8 +6,7 @@ use Rattle.mcs_evidence.specs.Defaults.{defaults_of, defaults_at, generated, Are
 use Rattle.mcs_proof_lines.specs.Verdicts.{terms_of}
 use Rattle.mcs_asked.specs.Questions.{theory_names, theory_beliefs, theory_defaults, theory_items}
 use Rattle.mcs_sets.proofs.Lattice.{minus-lt}
-use Rattle.mcs_proof_lines.proofs.Justs.{counted}
-use Rattle.mcs_judging.proofs.Places.{size_chosen}
+use Rattle.mcs_judging.proofs.Places.{as_many_goals}
 use Rattle.mcs_judging.proofs.Readings.{told_err}
 use Rattle.mcs_judging.proofs.VerdictLemmas.{ungrounded_unread, ungrounded_told, ungrounded_judged}
 use Rattle.mcs_judging.proofs.verdicts.judge_ungrounded.Goals as goal
@@ -27,9 +25,7 @@ returns-in_err-denied c =
     ap (map (λ d. default_of d.now)) c.deref.ensures.value ∙ c.in_ok-others.ensures ∙ ap (defaults_at 0 (theory_defaults c.args.reading.now.theory.now)) c.minus.ensures ∙ ap (λ (xs : List Default). defaults_at 0 xs others) c.args.reading.now.theory.now.are in
     let goals : map (λ f. formula_of f.now) c.deref-3.result.now ≡ map (λ (d : Default). d.pre) (defaults_at 0 (defaults_of items) others) =
     ap (map (λ f. formula_of f.now)) c.deref-3.ensures.value ∙ c.in_ok-goals.ensures ∙ ap (map (λ (d : Default). d.pre)) chosen in
-    let many : length c.deref-3.result.now ≡ size others =
-    sym (length-map c.deref-3.result.now (λ f. formula_of f.now)) ∙ ap length goals ∙ length-map (defaults_at 0 (defaults_of items) others) (λ (d : Default). d.pre)
-    ∙ size_chosen (defaults_of items) (length t.justs) others (counted (defaults_of items) t.justs c.args.reading.now.justs) (minus-lt (length t.justs) c.args.set c.args.part c.requires.inside) in
+    let many : length c.deref-3.result.now ≡ size others = as_many_goals (λ f. formula_of f.now) c.deref-3.result.now items t.justs others goals c.args.reading.now.justs (minus-lt (length t.justs) c.args.set c.args.part c.requires.inside) in
     told_err _ _ _ _ _ c.from_residual-in_err-denied.ensures.1 (ungrounded_unread t names items beliefs c.args.set c.args.part c.args.lines.now (length c.deref-3.result.now) many _ c.in_err-denied.ensures)
 
 pub returns : goal.returns
@@ -43,9 +39,7 @@ returns c =
     ap (map (λ d. default_of d.now)) c.deref.ensures.value ∙ c.in_ok-others.ensures ∙ ap (defaults_at 0 (theory_defaults c.args.reading.now.theory.now)) c.minus.ensures ∙ ap (λ (xs : List Default). defaults_at 0 xs others) c.args.reading.now.theory.now.are in
     let goals : map (λ f. formula_of f.now) c.deref-3.result.now ≡ map (λ (d : Default). d.pre) (defaults_at 0 (defaults_of items) others) =
     ap (map (λ f. formula_of f.now)) c.deref-3.ensures.value ∙ c.in_ok-goals.ensures ∙ ap (map (λ (d : Default). d.pre)) chosen in
-    let many : length c.deref-3.result.now ≡ size others =
-    sym (length-map c.deref-3.result.now (λ f. formula_of f.now)) ∙ ap length goals ∙ length-map (defaults_at 0 (defaults_of items) others) (λ (d : Default). d.pre)
-    ∙ size_chosen (defaults_of items) (length t.justs) others (counted (defaults_of items) t.justs c.args.reading.now.justs) (minus-lt (length t.justs) c.args.set c.args.part c.requires.inside) in
+    let many : length c.deref-3.result.now ≡ size others = as_many_goals (λ f. formula_of f.now) c.deref-3.result.now items t.justs others goals c.args.reading.now.justs (minus-lt (length t.justs) c.args.set c.args.part c.requires.inside) in
     let premises : map (λ f. formula_of f.now) c.deref-2.result.now ≡ generated items c.args.part = ap (map (λ f. formula_of f.now)) c.deref-2.ensures.value ∙ c.in_ok-premises.ensures in
     let h = c.in_ok-denied.ensures in
     let denied : IsTrue c.in_ok-denied.denied ↔ AreDenied names (generated items c.args.part) (map (λ (d : Default). d.pre) (defaults_at 0 (defaults_of items) others)) h.value =

@@ -11,8 +11,8 @@ use Rattle.mcs_judging.proofs.verdicts.judge_verdicts.Goals as goal
 
 pub clauses_of-requires : goal.clauses_of-requires
 clauses_of-requires c =
-    subst (AreOver c.args.atoms.now) (sym (ap (map (λ f. formula_of f.now)) c.deref.ensures.value ∙ c.in_ok-facts.ensures))
-    (all_append (IsOver c.args.atoms.now) (facts_of (map item_of c.args.items.now)) (map (λ f. formula_of f.now) c.args.heads.now) (over_facts c.args.atoms.now (map item_of c.args.items.now) c.requires.items) c.requires.heads)
+    subst (AreOver c.args.asked.now.atoms.now) (sym (ap (map (λ f. formula_of f.now)) c.deref.ensures.value ∙ c.in_ok-facts.ensures))
+    (all_append (IsOver c.args.asked.now.atoms.now) (facts_of (map item_of c.args.items.now)) (map (λ f. formula_of f.now) c.args.heads.now) (over_facts c.args.asked.now.atoms.now (map item_of c.args.items.now) c.requires.items) c.requires.heads)
 
 pub invariant_of-question : goal.invariant_of-question
 invariant_of-question c =
@@ -21,7 +21,7 @@ invariant_of-question c =
     record {
       are = ap (map (λ d. default_of d.now)) c.deref-2.ensures.value ∙ c.in_ok-defaults.ensures ∙ sym (defaults_with own heads);
       few_defaults = omega (arith, ap length c.deref-2.ensures.value, length-map c.in_ok-defaults.defaults.items (λ d. default_of d.now), ap length c.in_ok-defaults.ensures, c.requires.few_defaults);
-      over = over_with_facts c.args.atoms.now own heads c.requires.items c.requires.heads;
+      over = over_with_facts c.args.asked.now.atoms.now own heads c.requires.items c.requires.heads;
     }
 
 pub invariant_of-reading : goal.invariant_of-reading
@@ -32,10 +32,10 @@ invariant_of-reading c =
       beliefs = c.requires.told_beliefs;
       few_texts = c.requires.few_texts;
       few_numbers = c.requires.few_numbers;
-      few_justs = (let long = counted (defaults_of own) c.args.theory.now.justs.now c.requires.justs in let few = c.requires.few_defaults in omega (arith, long, few));
+      few_justs = (let long = counted (defaults_of own) c.args.terms.now.justs.now c.requires.justs in let few = c.requires.few_defaults in omega (arith, long, few));
     }
 
 pub judge_sets-requires : goal.judge_sets-requires
 judge_sets-requires c = record {
-  made = c.in_ok-known.ensures ∙ ap (λ fs. clause_list c.args.atoms.now (map (λ f. formula_of f.now) fs)) c.deref.ensures.value ∙ ap (clause_list c.args.atoms.now) (c.in_ok-facts.ensures ∙ sym (facts_with (map item_of c.args.items.now) (map (λ f. formula_of f.now) c.args.heads.now)));
+  made = c.in_ok-known.ensures ∙ ap (λ fs. clause_list c.args.asked.now.atoms.now (map (λ f. formula_of f.now) fs)) c.deref.ensures.value ∙ ap (clause_list c.args.asked.now.atoms.now) (c.in_ok-facts.ensures ∙ sym (facts_with (map item_of c.args.items.now) (map (λ f. formula_of f.now) c.args.heads.now)));
 }
