@@ -1,32 +1,16 @@
--- That formulas, items and rules are over names has at most one proof, as a fact that a struct keeps must.
-use Rattle.std.specs.Prelude.{◌≡◌, Bool, true, IsTrue, List}
+-- That items and rules are over names has at most one proof, as a fact that a struct keeps must.
+use Rattle.std.specs.Prelude.{◌≡◌, IsTrue, List}
 use Rattle.std.specs.List.{AllByRecursion-prop}
-use Rattle.std.specs.Coded.{Coded-set, coded_bool, coded_list, ×_prop, Unit-prop}
+use Rattle.std.specs.Coded.{Coded-set, coded_list}
+use Rattle.mcs_base.specs.OneProof.{IsTrue-prop}
 use Rattle.mcs_system.specs.Codes.{coded_default}
-use Rattle.mcs_system.specs.Plain.{Name, Formula, Truth, Falsity, Atom, Not, And, Or, Implies, Iff, Default, Item, Fact, Rule, ProgramRule}
+use Rattle.mcs_system.specs.Plain.{Name, Default, Item, Fact, Rule, ProgramRule}
 use Rattle.mcs_system.specs.Logic.{is_in}
-use Rattle.mcs_cnf.specs.ClauseLists.{IsOver, AreOver}
+use Rattle.mcs_cnf.specs.OneProof.{IsOver-prop, AreOver-prop}
 use Rattle.mcs_evidence.specs.Defaults.{IsOverItem, AreOverItems}
 use Rattle.mcs_evidence.specs.Programs.{IsOverRule, AreOverRules}
 use Rattle.mcs_evidence.specs.Pushing.{AreNamesOf}
 use Rattle.mcs_evidence.specs.Theories.{IsOverDefault, AreOverDefaults}
-
-pub IsTrue-prop : (b : Bool) → IsProp (IsTrue b)
-IsTrue-prop b = Coded-set coded_bool b true
-
--- ---- formulas
-pub IsOver-prop : (names : List Name) (f : Formula) → IsProp (IsOver names f)
-IsOver-prop names Truth = Unit-prop
-IsOver-prop names Falsity = Unit-prop
-IsOver-prop names (Atom n) = IsTrue-prop (is_in n names)
-IsOver-prop names (Not f) = IsOver-prop names f
-IsOver-prop names (And f g) = ×_prop (IsOver-prop names f) (IsOver-prop names g)
-IsOver-prop names (Or f g) = ×_prop (IsOver-prop names f) (IsOver-prop names g)
-IsOver-prop names (Implies f g) = ×_prop (IsOver-prop names f) (IsOver-prop names g)
-IsOver-prop names (Iff f g) = ×_prop (IsOver-prop names f) (IsOver-prop names g)
-
-pub AreOver-prop : (names : List Name) (fs : List Formula) → IsProp (AreOver names fs)
-AreOver-prop names fs = AllByRecursion-prop (IsOver names) (IsOver-prop names) fs
 
 -- ---- default theories
 IsOverDefault-prop : (names : List Name) (d : Default) → IsProp (IsOverDefault names d)

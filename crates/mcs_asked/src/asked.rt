@@ -3,7 +3,7 @@
 ghost use Rattle.std.specs.Prelude.{◌≤◌, length, map};
 ghost use Rattle.mcs_system.specs.Seen.{formula_of};
 ghost use Rattle.mcs_cnf.specs.ClauseLists.{AreOver};
-ghost use Rattle.mcs_asked.specs.OneProof.{AreOver-prop};
+ghost use Rattle.mcs_cnf.specs.OneProof.{AreOver-prop};
 
 use mcs_system::{Formula, Name};
 

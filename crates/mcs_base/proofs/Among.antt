@@ -9,6 +9,7 @@ use Rattle.std.proofs.lemmas.Option.{slice_get-get_or, slice_get_within, get_or_
 use Rattle.std.specs.List.{Contains, flat_map, list_all, list_any, range_with_len, AllZip}
 use Rattle.std.specs.List.Sorted.{IsPermutation}
 use Rattle.mcs_base.specs.Listings.{IsAmong}
+use Rattle.mcs_base.proofs.Written.{take_front}
 
 -- ---- one list after another
 module _ {A : Type 0} where
@@ -248,3 +249,9 @@ known_same P xs n known never i = (
   λ h. let (less, p) = (known i).0 h in (omega arith, p),
   λ h. (known i).1 (elim (cases_eq i n) [ inl e ↦ absurd (never (subst P e h.1)) | inr differ ↦ (let less = h.0 in omega arith, h.1) ]),
 )
+
+-- ---- what is among a front is among a longer one
+pub among_take_longer : {A : Type 0} (xs : List A) (n k : ℕ) (x : A) → n ≤ k → IsAmong x (take n xs) → IsAmong x (take k xs)
+among_take_longer xs n k x fewer h =
+    let (rest, is) = take_front n k xs fewer in
+    subst (IsAmong x) (sym is) (among_left x (take n xs) rest h)

@@ -122,3 +122,9 @@ iff_trans f g = (λ p. g.0 (f.0 p), λ r. f.1 (g.1 r))
 pub cond_option : {A : Type 0} (b : Bool) (o : Option A) (x : A) → cond b o None ≡ Some x → (b ≡ true) × (o ≡ Some x)
 cond_option true o x e = (refl, e)
 cond_option false o x e = absurd (none-some x e)
+
+pub cases_same : (a b : Bool) → (a ≡ b) ⊎ (¬ (a ≡ b))
+cases_same true true = inl refl
+cases_same true false = inr true≢false
+cases_same false true = inr (λ e. true≢false (sym e))
+cases_same false false = inl refl

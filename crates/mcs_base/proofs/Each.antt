@@ -1,8 +1,9 @@
 -- What holds of each of a list.
-use Rattle.std.proofs.Common.{◌≡◌, ℕ, ◌+◌, ◌<◌, Bool, true, false, List, [], ◌∷◌, ◌++◌, map, filter, length, take, drop, get_or, slice_get, Some, refl, sym, subst, inl, inr, ◌↔◌}
+use Rattle.std.proofs.Common.{◌≡◌, ℕ, ◌+◌, ◌<◌, Bool, true, false, List, [], ◌∷◌, ◌++◌, map, filter, length, take, drop, get_or, slice_get, Some, refl, sym, subst, inl, inr, ◌↔◌, ◌⊎◌, if◌then◌else◌}
 use Rattle.std.proofs.lemmas.Bool.{and_parts, and_from}
 use Rattle.std.proofs.lemmas.List.{take_more, drop_more, take-append-drop}
 use Rattle.std.specs.List.{AllByRecursion, list_all, list_any}
+use Rattle.std.proofs.lemmas.Option.{slice_get_read}
 use Rattle.mcs_base.specs.Listings.{IsAmong}
 use Rattle.mcs_base.proofs.Among.{among_get, filter_among, none_any}
 
@@ -72,3 +73,26 @@ all_map f P Q each (x ∷ xs) all = (each x all.0, all_map f P Q each xs all.1)
 
 pub all_take : {A : Type 0} (P : A → Type 0) (k : ℕ) (xs : List A) → AllByRecursion P xs → AllByRecursion P (take k xs)
 all_take P k xs all = all_left P (take k xs) (drop k xs) (subst (AllByRecursion P) (sym (take-append-drop k xs)) all)
+
+-- ---- one that is read, one more if there is one, and each or else
+pub all_read : {A : Type 0} (P : A → Type 0) (xs : List A) (i : ℕ) (x : A) → i < length xs → x ≡ get_or xs i x → AllByRecursion P xs → P x
+all_read P xs i x less is all = all_get P xs i x all (slice_get_read xs (length xs) i x refl less is)
+
+pub all_pushed : {A : Type 0} (P : A → Type 0) (b : Bool) (xs : List A) (x : A) → AllByRecursion P xs → P x → AllByRecursion P (if b then xs ++ x ∷ [] else xs)
+all_pushed P true xs x all is = all_push P xs x all is
+all_pushed P false xs x all is = all
+
+-- each of the list has P, or else H holds
+pub all_or : {A : Type 0} (P : A → Type 0) (H : Type 0) (xs : List A) → ((x : A) → IsAmong x xs → P x ⊎ H) → ((x : A) → IsAmong x xs → P x) ⊎ H
+all_or P H [] f = inl (λ x h. absurd h)
+all_or P H (x ∷ xs) f = elim (f x (inl refl)) [
+  | inl here ↦ elim (all_or P H xs (λ y h. f y (inr h))) [
+    | inl rest ↦ inl (λ y h. elim h [ inl e ↦ subst P (sym e) here | inr later ↦ rest y later ])
+    | inr other ↦ inr other
+  ]
+  | inr other ↦ inr other
+]
+
+-- what holds of two holds of each of the list of the two
+pub each_of_two : {A : Type 0} (P : A → Type 0) (x y : A) → P x → P y → (i : ℕ) (z : A) → slice_get (x ∷ y ∷ []) i ≡ Some z → P z
+each_of_two P x y here there i z at = all_get P (x ∷ y ∷ []) i z (here, (there, tt)) at

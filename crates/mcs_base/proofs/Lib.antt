@@ -31,3 +31,4 @@ pub mod Walks
 pub mod Searched
 pub mod Placed
 pub mod GroupLemmas
+pub mod Bags

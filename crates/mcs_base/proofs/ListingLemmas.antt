@@ -23,6 +23,7 @@ use Rattle.mcs_base.proofs.Among.{among_left, among_right, among_either, among_f
 use Rattle.mcs_base.proofs.Ascending.{ascending_append, ascending_filter, ascending_map, before_at}
 use Rattle.std.proofs.lemmas.List.{get_or-take, length-take}
 use Rattle.mcs_base.proofs.Booleans.{test_of, test_of-tells}
+use Rattle.mcs_base.proofs.NumberCases.{cases_order}
 pub use Rattle.mcs_base.proofs.Among.{among_from_contains, contains_from_among, among_map as map_among}
 pub use Rattle.mcs_base.proofs.Each.{all_among, all_from_among}
 
@@ -296,3 +297,10 @@ decided_listed P n decides small = let (xs, listing) = pairs_of_test n (λ s. te
   xs,
   IsListing-same PairBefore _ P xs (λ s. (λ h. (test_of-tells (decides s)).0 h.1, λ p. (small s p, (test_of-tells (decides s)).1 p))) listing,
 )
+
+-- a list of numbers in order
+pub listing_of_numbers : (xs : List ℕ) → (ys : List ℕ) × IsListing (λ x. IsAmong x xs) (λ a b. a < b) ys
+listing_of_numbers [] = ([], record { exactly = λ x. (λ h. h, λ h. h); ascending = tt })
+listing_of_numbers (x ∷ xs) =
+    let (ys, listing) = listing_of_numbers xs in
+    listing_with_one (λ (a b : ℕ). a < b) (λ a b c h k. omega (arith, h, k)) cases_order (λ z. IsAmong z xs) x ys listing

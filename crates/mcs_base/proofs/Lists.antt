@@ -1,7 +1,7 @@
 -- Lists, beyond std's lemmas: what stands at a place, images, ranges, and the parts of a list.
 use Rattle.std.proofs.Common.{◌≡◌, ℕ, ◌+◌, ◌-◌, ◌<◌, ◌≤◌, min, zero, suc, Bool, true, false, ◌&&◌, ◌||◌, cond, eqb, List, [], ◌∷◌, ◌++◌, map, filter, reverse, length, take, drop, get_or, slice_get, Option, Some, None, refl, sym, ap, ◌∙◌, subst, inl, inr, ◌⊎◌, arith, add-one, set, ap₂}
-use Rattle.std.proofs.Math.Seq.{take-append-add, drop-append_seam}
-use Rattle.std.proofs.lemmas.Bool.{cases_eq}
+use Rattle.std.proofs.Math.Seq.{take-append-add, drop-append_seam, take-append_seam}
+use Rattle.std.proofs.lemmas.Bool.{cases_eq, cases_lt}
 use Rattle.std.proofs.lemmas.Bool.Decides.{nat_tests}
 use Rattle.std.proofs.lemmas.Grind.{flat_map-append}
 use Rattle.std.proofs.lemmas.List.{append-nil, drop_more, flat_map_more, length-append, length-map, length-drop, reverse-append, get_or-map, drop-drop, take_min, get_or_append_left, append_assoc}
@@ -233,3 +233,46 @@ choose_below {B} Q (suc n) each = let (b, q) = each 0 (omega arith) in let (xs, 
     at : (i : ℕ) (c b : B) → Q 0 b → (xs : List B) → ((i : ℕ) (b : B) → slice_get xs i ≡ Some b → Q (i + 1) b) → slice_get (b ∷ xs) i ≡ Some c → Q i c
     at zero c b q xs rest is = let e : b ≡ c = cc in subst (Q 0) e q
     at (suc i) c b q xs rest is = rw (← add-one i) (rest i c is)
+
+-- ---- lists of two, one place or the end, and the same at each place
+module _ {A : Type 0} where
+  pub two_of : (xs : List A) → length xs ≡ 2 → (x : A) × (y : A) × (xs ≡ x ∷ y ∷ [])
+  two_of [] e = absurd (omega (arith, e))
+  two_of (x ∷ []) e = absurd (omega (arith, e))
+  two_of (x ∷ y ∷ []) e = (x, y, refl)
+  two_of (x ∷ y ∷ z ∷ xs) e = absurd (omega (arith, e))
+
+  pub place_cases : (xs : List A) (k : ℕ) → ((x : A) × (slice_get xs k ≡ Some x)) ⊎ (length xs ≤ k)
+  place_cases xs k = elim (cases_lt k (length xs)) [ inl less ↦ inl (slice_get_below xs k less) | inr past ↦ inr past ]
+
+  pub same_lists : (xs ys : List A) → length xs ≡ length ys → ((k : ℕ) (x y : A) → slice_get xs k ≡ Some x → slice_get ys k ≡ Some y → x ≡ y) → xs ≡ ys
+  same_lists [] [] long each = refl
+  same_lists [] (y ∷ ys) long each = absurd (omega (arith, long))
+  same_lists (x ∷ xs) [] long each = absurd (omega (arith, long))
+  same_lists (x ∷ xs) (y ∷ ys) long each =
+      ap₂ (λ (z : A) (zs : List A). z ∷ zs) (each zero x y refl refl) (same_lists xs ys (omega (arith, long)) (λ k v w at there. each (suc k) v w at there))
+
+  -- ---- fronts, and what is left
+  -- a front of which a front is known
+  pub split_front : (front xs ys : List A) (j k : ℕ) → k ≡ length front + j → take k xs ≡ front ++ ys → (xs ≡ front ++ drop (length front) xs) × (take j (drop (length front) xs) ≡ ys)
+  split_front [] xs ys j k is e = (refl, let same : j ≡ k = omega (arith, is) in ap (λ (n : ℕ). take n xs) same ∙ e)
+  split_front (f ∷ front) xs ys j zero is e = absurd (omega (arith, is))
+  split_front (f ∷ front) [] ys j (suc k) is e = absurd (cc)
+  split_front (f ∷ front) (x ∷ xs) ys j (suc k) is e =
+      let less : k ≡ length front + j = omega (arith, is) in
+      let first : x ≡ f = cc in
+      let rest : take k xs ≡ front ++ ys = cc in
+      let again = split_front front xs ys j k less rest in
+      (ap (λ (y : A). y ∷ xs) first ∙ ap (λ (zs : List A). f ∷ zs) again.0, again.1)
+
+  -- a front, counted from the end
+  pub take_but_last : (xs ys zs : List A) (n k : ℕ) → zs ≡ xs ++ ys → n ≡ length zs → k ≡ length ys → take (n - k) zs ≡ xs
+  take_but_last xs ys zs n k is long last =
+      let first : n - k ≡ length xs = omega (arith, long, last, ap length is, length-append xs ys) in
+      (λ i. take (first i) (is i)) ∙ take-append_seam xs ys
+
+  -- the first that is left
+  pub next_dropped : (n : ℕ) (xs : List A) (x : A) (rest : List A) → drop n xs ≡ x ∷ rest → (slice_get xs n ≡ Some x) × (rest ≡ drop (n + 1) xs)
+  next_dropped n xs x rest is =
+      let within = drop-cons_within n xs x x rest is in
+      (slice_get_read_as xs xs n x refl within.0 (sym within.1), sym (drop_past n xs (x ∷ []) rest is))

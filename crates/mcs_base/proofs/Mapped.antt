@@ -1,9 +1,9 @@
 -- The images of a list, by what is read at an index.
 use Rattle.std.proofs.Common.{◌≡◌, ℕ, ◌+◌, ◌<◌, List, [], ◌∷◌, ◌++◌, map, length, drop, get_or, slice_get, Some, sym, ap, ◌∙◌, subst, Bool, false, IsTrue, ◌-◌, ◌≤◌, ◌==◌, ◌↔◌, zero, suc, take, refl, append_assoc, add-one, arith, true≢false}
-use Rattle.std.proofs.lemmas.List.{drop_more, map_push, map_more, append-nil}
+use Rattle.std.proofs.lemmas.List.{drop_more, map_push, map_more, append-nil, length-map}
 use Rattle.std.specs.List.{AllByRecursion, flat_map, range_with_len}
 use Rattle.mcs_base.proofs.Each.{all_get}
-use Rattle.mcs_base.proofs.Lists.{slice_get-map_at}
+use Rattle.mcs_base.proofs.Lists.{slice_get-map_at, slice_get-map_some}
 use Rattle.std.proofs.lemmas.Bool.Decides.{nat_tests}
 use Rattle.std.proofs.lemmas.List.FromFn.{map-range_with_len_more}
 
@@ -66,3 +66,21 @@ flat_map-range_more f a n j e = rw add-one (grown a n e)
     grown : (a n : ℕ) → a + n ≡ j → flat_map f (range_with_len a (suc n)) ≡ flat_map f (range_with_len a n) ++ f j
     grown a zero e = let same : a ≡ j = omega arith in append-nil (f a) ∙ ap f same
     grown a (suc n) e = ap (λ xs. f a ++ xs) (grown (a + 1) n (omega arith)) ∙ sym (append_assoc (f a) (flat_map f (range_with_len (a + 1) n)) (f j))
+
+-- ---- no image, the next one, and one image of each
+pub none_mapped : {A B : Type 0} (f : A → B) (xs : List A) → map f xs ≡ [] → xs ≡ []
+none_mapped f [] e = refl
+none_mapped f (x ∷ xs) e = absurd (let long = ap (λ (ys : List _). length ys) e in omega (arith, long))
+
+-- where an item stands next among all, its image does among all images
+pub next_image : {A B : Type 0} (f : A → B) (all before : List A) (x : A) → slice_get all (length before) ≡ Some x → slice_get (map f all) (length (map f before)) ≡ Some (f x)
+next_image f all before x at = ap (λ (k : ℕ). slice_get (map f all) k) (length-map before f) ∙ slice_get-map_some f all (length before) x at
+
+-- lists that are as long, of which one has the same image throughout
+pub copied_each : {A B C : Type 0} (f : A → C) (z : C) (xs : List A) (ys : List B) → length xs ≡ length ys → AllByRecursion (λ x. f x ≡ z) xs → map f xs ≡ map (λ y. z) ys
+copied_each f z [] [] e each = refl
+copied_each f z [] (y ∷ ys) e each = absurd (omega (arith, e))
+copied_each f z (x ∷ xs) [] e each = absurd (omega (arith, e))
+copied_each {C = C} f z (x ∷ xs) (y ∷ ys) e each =
+    let rest : map f xs ≡ map (λ y. z) ys = copied_each f z xs ys (omega (arith, e)) each.1 in
+    ap (λ (c : C). c ∷ map f xs) each.0 ∙ ap (λ (cs : List C). z ∷ cs) rest

@@ -1,10 +1,14 @@
 -- What a number's being zero chooses, counts that fall, and integers of one size.
-use Rattle.std.proofs.Common.{◌≡◌, ◌≢◌, ℕ, ◌+◌, ◌-◌, ◌*◌, ◌<◌, zero, suc, cond, nat_eq, refl, ap, subst, sym, inl, inr, ◌⊎◌, arith, ℤ, pos, negsuc, neg_ℤ, unsigned_abs, ◌≤◌, ◌^◌}
-use Rattle.std.proofs.lemmas.Bool.{cond-false}
+use Rattle.std.proofs.Common.{◌≡◌, ◌≢◌, ℕ, ◌+◌, ◌-◌, ◌*◌, ◌<◌, zero, suc, cond, nat_eq, refl, ap, subst, sym, inl, inr, ◌⊎◌, arith, ℤ, pos, negsuc, neg_ℤ, unsigned_abs, ◌≤◌, ◌^◌, true, true≢false}
+use Rattle.std.proofs.lemmas.Bool.{cond-false, cases_eq, cases_lt}
 use Rattle.std.proofs.Math.Dec.{eqb-suc-zero}
 use Rattle.mcs_base.proofs.Numbers.{cases_eq_ℤ}
 use Rattle.std.proofs.lemmas.Nat.{pow_pos}
 use Rattle.std.proofs.Math.Pow.{pow_mono}
+use Rattle.std.proofs.lemmas.Cmp.{ranked}
+use Rattle.std.specs.declared.cmp.Ordering.{Ordering}
+use Rattle.std.specs.declared.cmp.Ordering.TheVariants.{Less, Equal, Greater}
+use Rattle.std.specs.Ordering.{MatchOrdering, is_lt, nat_cmp}
 
 pub cases_zero : (n : ℕ) → (n ≡ 0) ⊎ (0 < n)
 cases_zero zero = inl refl
@@ -47,3 +51,27 @@ power_up_to_ten n few = pow_mono few
 -- what is not below is at least
 pub not_less : (a b : ℕ) → ¬ (a < b) → b ≤ a
 not_less a b not = omega (arith, not)
+
+-- ---- two numbers
+pub cases_order : (a b : ℕ) → (a ≡ b) ⊎ ((a < b) ⊎ (b < a))
+cases_order a b = elim (cases_lt a b) [
+  | inl less ↦ inr (inl less)
+  | inr most ↦ elim (cases_eq a b) [ inl same ↦ inl same | inr differ ↦ inr (inr (omega (arith, most, differ))) ]
+]
+
+-- the test of a comparison
+pub less_test : (a b : ℕ) → a < b → is_lt (nat_cmp a b) ≡ true
+less_test a b less = at (nat_cmp a b) (ranked a b _ refl)
+  where
+    at : (o : Ordering) → MatchOrdering o (a < b) (a ≡ b) (b < a) → is_lt o ≡ true
+    at Less m = refl
+    at Equal m = absurd (omega arith)
+    at Greater m = absurd (omega arith)
+
+pub test_less : (a b : ℕ) → is_lt (nat_cmp a b) ≡ true → a < b
+test_less a b h = at (nat_cmp a b) (ranked a b _ refl) h
+  where
+    at : (o : Ordering) → MatchOrdering o (a < b) (a ≡ b) (b < a) → is_lt o ≡ true → a < b
+    at Less m h = m
+    at Equal m h = absurd (true≢false (sym h))
+    at Greater m h = absurd (true≢false (sym h))

@@ -1,11 +1,11 @@
 -- Sums over lists of which one place changes, what a sum shows that is not 0, and lists that go together place by place.
-use Rattle.std.proofs.Common.{◌≡◌, ℕ, zero, suc, ◌+◌, ◌*◌, ◌≤◌, nat_eq, Bool, true, false, List, [], ◌∷◌, length, map, Some, slice_get, slice_set, refl, sym, ap, ◌∙◌, subst, inl, inr, arith}
+use Rattle.std.proofs.Common.{◌≡◌, ℕ, zero, suc, ◌+◌, ◌*◌, ◌≤◌, nat_eq, Bool, true, false, List, [], ◌∷◌, length, map, Some, slice_get, slice_set, refl, sym, ap, ◌∙◌, subst, inl, inr, arith, ◌++◌}
 use Rattle.std.proofs.lemmas.Bool.Decides.{nat_tests}
 use Rattle.std.proofs.lemmas.List.Sums.{sum_by-cons}
-use Rattle.std.proofs.lemmas.Option.{none-some, same_Some}
+use Rattle.std.proofs.lemmas.Option.{none-some, same_Some, slice_get_within}
 use Rattle.std.specs.List.{AllByRecursion, AllZip, sum_by}
 use Rattle.mcs_base.specs.Listings.{IsAmong}
-use Rattle.mcs_base.proofs.Lists.{map_slice_get, slice_get-map_some}
+use Rattle.mcs_base.proofs.Lists.{map_slice_get, slice_get-map_some, slice_get_push_at}
 use Rattle.mcs_base.proofs.NumberCases.{cases_zero}
 
 module _ {A : Type 0} (f : A → ℕ) where
@@ -121,3 +121,23 @@ eq_differs a b differ = at (nat_eq a b) refl
     at : (v : Bool) → nat_eq a b ≡ v → nat_eq a b ≡ false
     at true e = absurd (differ (sym (eq_is a b e)))
     at false e = e
+
+-- a number takes the place of nothing
+pub sum_put : (ns : List ℕ) (i n : ℕ) → slice_get ns i ≡ Some 0 → sum_by (λ k. k) (slice_set ns i n) ≡ sum_by (λ k. k) ns + n
+sum_put ns i n is =
+    let change : sum_by (λ k. k) (slice_set ns i n) + 0 ≡ sum_by (λ k. k) ns + n = sum_set (λ (k : ℕ). k) ns i 0 n is in
+    omega (arith, change)
+
+-- what stands at one place of two lists, with one more in each
+pub both_more : {A B : Type 0} (R : ℕ → A → B → Type 0) (xs : List A) (ys : List B) (x : A) (y : B) → length xs ≡ length ys → ((i : ℕ) (a : A) (b : B) → slice_get xs i ≡ Some a → slice_get ys i ≡ Some b → R i a b) → R (length xs) x y
+    → (i : ℕ) (a : A) (b : B) → slice_get (xs ++ x ∷ []) i ≡ Some a → slice_get (ys ++ y ∷ []) i ≡ Some b → R i a b
+both_more {A} {B} R xs ys x y long each here i a b at at' = elim (slice_get_push_at xs x i a at) [
+  | inl old ↦ elim (slice_get_push_at ys y i b at') [
+    | inl old' ↦ each i a b old old'
+    | inr last ↦ absurd (let within = slice_get_within xs i a old in let e = last.0 in omega (arith, within, e, long))
+  ]
+  | inr last ↦ elim (slice_get_push_at ys y i b at') [
+    | inl old' ↦ absurd (let within = slice_get_within ys i b old' in let e = last.0 in omega (arith, within, e, long))
+    | inr last' ↦ subst (λ (k : ℕ). R k a b) (sym last.0) (subst (λ (z : A). R (length xs) z b) (sym last.1) (subst (λ (z : B). R (length xs) x z) (sym last'.1) here))
+  ]
+]

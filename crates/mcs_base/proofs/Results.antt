@@ -1,7 +1,8 @@
 -- Results and options, beyond std's lemmas.
-use Rattle.std.proofs.Common.{◌≡◌, ◌↔◌, Option, Some, None, Result, Ok, Err, IfOk, refl, sym, subst}
-use Rattle.std.proofs.lemmas.Option.{none-some}
+use Rattle.std.proofs.Common.{◌≡◌, ◌↔◌, Option, Some, None, Result, Ok, Err, IfOk, refl, sym, subst, ◌⊎◌, inl, inr, IfNone, OnOk, ◌∙◌, true, true≢false}
+use Rattle.std.proofs.lemmas.Option.{none-some, same_Some}
 use Rattle.std.specs.Result.{IfErr, IsErrAnd}
+use Rattle.std.specs.Option.{is_some}
 
 pub IfOk-both : {T E : Type 0} (P Q R : T → Type 0) → ((x : T) → P x → Q x → R x) → (r : Result T E) → IfOk r P → IfOk r Q → IfOk r R
 IfOk-both P Q R f (Ok x) p q = f x p q
@@ -25,3 +26,27 @@ none_where_never (Some x) never = absurd (never x refl)
 pub err_told : {T E : Type 0} (P : E → Type 0) (e : E) (r : Result T E) → IsErrAnd r (λ f. f ≡ e) → P e → IfErr r P
 err_told P e (Ok x) is h = absurd is
 err_told P e (Err f) is h = subst P (sym is) h
+
+-- what always holds
+pub on_ok : {T E P : Type 0} (r : Result T E) → P → OnOk r P
+on_ok (Ok x) p = p
+on_ok (Err e) p = tt
+
+-- ---- options
+pub option_cases : {A : Type 0} (o : Option A) → (o ≡ None) ⊎ ((a : A) × (o ≡ Some a))
+option_cases None = inl refl
+option_cases (Some a) = inr (a, refl)
+
+pub some_same : {A : Type 0} (o : Option A) (a b : A) → o ≡ Some a → o ≡ Some b → a ≡ b
+some_same o a b is is' = same_Some a b (sym is ∙ is')
+
+pub no_none : {A : Type 0} (o : Option A) (a : A) → o ≡ None → o ≡ Some a → ⊥
+no_none o a is is' = none-some a (sym is ∙ is')
+
+pub none_weaker : {A P Q : Type 0} (o : Option A) → (P → Q) → IfNone o P → IfNone o Q
+none_weaker None f p = f p
+none_weaker (Some x) f p = tt
+
+pub some_of : {A : Type 0} (o : Option A) → is_some o ≡ true → (x : A) × (o ≡ Some x)
+some_of None e = absurd (true≢false (sym e))
+some_of (Some x) e = (x, refl)

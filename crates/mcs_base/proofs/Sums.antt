@@ -1,7 +1,7 @@
 -- Sums and counts over a list, beyond std's lemmas.
-use Rattle.std.proofs.Common.{◌≡◌, ℕ, ◌+◌, ◌≤◌, Bool, true, false, cond, List, [], ◌∷◌, ◌++◌, map, filter, length, refl, sym, ap, ◌∙◌, inl, inr, arith}
+use Rattle.std.proofs.Common.{◌≡◌, ℕ, ◌+◌, ◌≤◌, Bool, true, false, cond, List, [], ◌∷◌, ◌++◌, map, filter, length, refl, sym, ap, ◌∙◌, inl, inr, arith, zero, suc, Some, slice_get}
 use Rattle.std.proofs.lemmas.List.Folds.{fold-map}
-use Rattle.std.proofs.lemmas.List.Sums.{length-filter, sum_by-append, sum_by-cons, sum_by_push}
+use Rattle.std.proofs.lemmas.List.Sums.{length-filter, sum_by-append, sum_by-cons, sum_by_push, count_by-le-length}
 use Rattle.std.specs.List.{AllZip, count_by, flat_map, sum_by}
 use Rattle.mcs_base.specs.Listings.{IsAmong}
 use Rattle.mcs_base.proofs.Among.{among_filter, filter_none, place_among}
@@ -60,3 +60,29 @@ module _ {A B : Type 0} where
   zip_count R p q same [] (y ∷ ys) all = absurd all
   zip_count R p q same (x ∷ xs) [] all = absurd all
   zip_count R p q same (x ∷ xs) (y ∷ ys) all = let here : cond {A = ℕ} (p x) 1 0 ≡ cond (q y) 1 0 = rw (same x y all.0) refl in omega (arith, here, count_by-cons p x xs, count_by-cons q y ys, zip_count R p q same xs ys all.1)
+
+-- ---- what a test keeps, lists one after the other, two, and lists that go together
+module _ {A : Type 0} where
+  pub few_kept : (p : A → Bool) (xs : List A) → length (filter p xs) ≤ length xs
+  few_kept p xs = omega (arith, length-filter p xs, count_by-le-length p xs)
+
+  pub sum_by-flat_map : {B : Type 0} (w : B → ℕ) (f : A → List B) (xs : List A) → sum_by w (flat_map f xs) ≡ sum_by (λ (x : A). sum_by w (f x)) xs
+  sum_by-flat_map w f [] = refl
+  sum_by-flat_map w f (x ∷ xs) = omega (arith, sum_by-append w (f x) (flat_map f xs), sum_by-cons (λ (y : A). sum_by w (f y)) x xs, sum_by-flat_map w f xs)
+
+  pub sum_of_two : (w : A → ℕ) (x y : A) → sum_by w (x ∷ y ∷ []) ≡ w x + w y
+  sum_of_two w x y = omega (arith, sum_by-cons w x (y ∷ []), sum_by-cons w y [])
+
+-- lists that are each as long as two numbers together
+pub sum_both : {A : Type 0} (ns ks : List ℕ) (cs : List (List A)) → length ns ≡ length cs → length ks ≡ length cs
+    → ((i a b : ℕ) (c : List A) → slice_get ns i ≡ Some a → slice_get ks i ≡ Some b → slice_get cs i ≡ Some c → length c ≡ a + b)
+    → sum_by (λ (c : List A). length c) cs ≡ sum_by (λ n. n) ns + sum_by (λ n. n) ks
+sum_both [] [] [] la lb each = refl
+sum_both (a ∷ ns) ks [] la lb each = absurd (omega (arith, la))
+sum_both ns (b ∷ ks) [] la lb each = absurd (omega (arith, lb))
+sum_both [] ks (c ∷ cs) la lb each = absurd (omega (arith, la))
+sum_both ns [] (c ∷ cs) la lb each = absurd (omega (arith, lb))
+sum_both {A} (a ∷ ns) (b ∷ ks) (c ∷ cs) la lb each =
+    let here = each zero a b c refl refl refl in
+    let rest = sum_both ns ks cs (omega (arith, la)) (omega (arith, lb)) (λ i x y z at at' at''. each (suc i) x y z at at' at'') in
+    omega (arith, sum_by-cons (λ (n : ℕ). n) a ns, sum_by-cons (λ (n : ℕ). n) b ks, sum_by-cons (λ (l : List A). length l) c cs, here, rest)

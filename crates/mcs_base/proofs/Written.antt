@@ -4,7 +4,7 @@ use Rattle.std.proofs.lemmas.List.{append-nil, append_assoc, drop_all, take_all,
 use Rattle.std.proofs.lemmas.List.Sums.{sum_by-cons}
 use Rattle.std.specs.List.{list_all, sum_by}
 use Rattle.std.proofs.Math.Seq.{take-add}
-use Rattle.std.proofs.lemmas.Option.{slice_get_within, get_or_from_slice_get}
+use Rattle.std.proofs.lemmas.Option.{slice_get_within, get_or_from_slice_get, none-some, same_Some}
 
 module _ {A : Type 0} where
   -- ---- parts
@@ -103,3 +103,37 @@ take_front j k xs fewer = (
 
 pub append_in_middle : {A : Type 0} (a b c d : List A) → (a ++ b) ++ (c ++ d) ≡ a ++ ((b ++ c) ++ d)
 append_in_middle a b c d = append_assoc a b (c ++ d) ∙ ap (λ t. a ++ t) (sym (append_assoc b c d))
+
+-- ---- texts of three and of five parts
+pub line_of_three : {A : Type 0} (t a b c : List A) → ((t ++ a) ++ b) ++ c ≡ t ++ ((a ++ b) ++ c)
+line_of_three t a b c = simp append_assoc
+
+pub line_of_five : {A : Type 0} (t a b c d e : List A) → ((((t ++ a) ++ b) ++ c) ++ d) ++ e ≡ t ++ ((a ++ (b ++ (c ++ d))) ++ e)
+line_of_five t a b c d e = simp append_assoc
+
+-- ---- one that is written at a place
+-- the image of a list does not change where one element is replaced by another of the same image
+pub image_kept : {A B : Type 0} (f : A → B) (xs : List A) (i : ℕ) (x y : A) → slice_get xs i ≡ Some x → f y ≡ f x → map f (slice_set xs i y) ≡ map f xs
+image_kept f [] i x y is same = refl
+image_kept f (a ∷ xs) zero x y is same = let e : a ≡ x = same_Some a x is in ap (λ b. b ∷ map f xs) (same ∙ ap f (sym e))
+image_kept f (a ∷ xs) (suc i) x y is same = ap (λ bs. f a ∷ bs) (image_kept f xs i x y is same)
+
+module _ {A : Type 0} where
+  -- what was written stands there, and nothing else changed
+  pub set_there : (xs : List A) (i : ℕ) (x y : A) → slice_get xs i ≡ Some x → slice_get (slice_set xs i y) i ≡ Some y
+  set_there [] i x y is = absurd (none-some x is)
+  set_there (a ∷ xs) zero x y is = refl
+  set_there (a ∷ xs) (suc i) x y is = set_there xs i x y is
+
+  pub set_other : (xs : List A) (i j : ℕ) (x y : A) → ¬ (j ≡ i) → slice_get xs j ≡ Some x → slice_get (slice_set xs i y) j ≡ Some x
+  set_other [] i j x y differ is = is
+  set_other (a ∷ xs) zero zero x y differ is = absurd (differ refl)
+  set_other (a ∷ xs) zero (suc j) x y differ is = is
+  set_other (a ∷ xs) (suc i) zero x y differ is = is
+  set_other (a ∷ xs) (suc i) (suc j) x y differ is = set_other xs i j x y (λ e. differ (ap suc e)) is
+
+  -- what is written back changes nothing
+  pub set_back : (xs : List A) (i : ℕ) (x y : A) → slice_get xs i ≡ Some x → y ≡ x → slice_set xs i y ≡ xs
+  set_back [] i x y is same = refl
+  set_back (a ∷ xs) zero x y is same = let e : a ≡ x = same_Some a x is in ap (λ b. b ∷ xs) (same ∙ sym e)
+  set_back (a ∷ xs) (suc i) x y is same = ap (λ bs. a ∷ bs) (set_back xs i x y is same)

@@ -4,6 +4,7 @@ use Rattle.std.specs.List.{AllZip}
 use Rattle.std.proofs.lemmas.List.{length-map}
 use Rattle.mcs_base.proofs.Lists.{length_zip, zip_push}
 use Rattle.mcs_base.proofs.Mapped.{map-take_read}
+use Rattle.mcs_base.proofs.Written.{take_read}
 
 module _ {A B : Type 0} (R : A → B → Type 0) where
   -- what stands at a place of the first goes with what stands there in the second
@@ -48,3 +49,23 @@ pub zip_take_read : {A B C : Type 0} (R : B → C → Type 0) (f : A → B) (xs 
     → AllZip R (map f (take i xs)) ys → R (f x) y → AllZip R (map f (take (i + 1) xs)) ys'
 zip_take_read {A} {B} {C} R f xs i x ys ys' y less is pushed all one =
     subst (λ (zs : List B). AllZip R zs ys') (sym (map-take_read f xs i x less is)) (subst (AllZip R (map f (take i xs) ++ f x ∷ [])) (sym pushed) (zip_push R (map f (take i xs)) ys (f x) y all one))
+
+-- ---- one more, and one less
+pub zip_more : {A B : Type 0} (R : A → B → Type 0) (xs : List A) (k : ℕ) (x : A) → k < length xs → x ≡ get_or xs k x → (ys now : List B) (y : B) → AllZip R (take k xs) ys → R x y → now ≡ ys ++ y ∷ [] → AllZip R (take (k + 1) xs) now
+zip_more R xs k x less here ys now y so_far one is =
+    subst (λ zs. AllZip R zs now) (sym (take_read xs k x less here)) (subst (AllZip R (take k xs ++ x ∷ [])) (sym is) (zip_push R (take k xs) ys x y so_far one))
+
+pub zip_pop : {A B : Type 0} (R : A → B → Type 0) (xs : List A) (ys : List B) (x : A) (y : B) → AllZip R (xs ++ x ∷ []) (ys ++ y ∷ []) → AllZip R xs ys × R x y
+zip_pop R [] [] x y all = (tt, all.0)
+zip_pop R [] (z ∷ []) x y all = absurd all.1
+zip_pop R [] (z ∷ w ∷ zs) x y all = absurd all.1
+zip_pop R (v ∷ []) [] x y all = absurd all.1
+zip_pop R (v ∷ w ∷ ws) [] x y all = absurd all.1
+zip_pop R (w ∷ ws) (z ∷ zs) x y all = let rest = zip_pop R ws zs x y all.1 in ((all.0, rest.0), rest.1)
+
+-- nothing goes with a list that has one with which nothing goes
+pub not_among : {A V : Type 0} (Shown : V → A → Type 0) (front : List A) (x : A) (rest : List A) → ((v : V) → ¬ Shown v x) → (vs : List V) → ¬ AllZip Shown vs ((front ++ x ∷ []) ++ rest)
+not_among Shown [] x rest none [] h = absurd h
+not_among Shown [] x rest none (v ∷ vs) h = none v h.0
+not_among Shown (y ∷ front) x rest none [] h = absurd h
+not_among Shown (y ∷ front) x rest none (v ∷ vs) h = not_among Shown front x rest none vs h.1

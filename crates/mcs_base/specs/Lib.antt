@@ -13,3 +13,4 @@ pub mod Numbers
 pub mod Transversals
 pub mod Rows
 pub mod Groups
+pub mod OneProof

@@ -2,9 +2,11 @@
 use Rattle.std.specs.Prelude.{IsTrue, List}
 use Rattle.std.specs.List.{AllByRecursion-prop}
 use Rattle.std.specs.Coded.{Unit-prop}
+use Rattle.mcs_base.specs.OneProof.{IsTrue-prop}
 use Rattle.mcs_system.specs.Faults.{is_atom}
 use Rattle.mcs_system.specs.Plain.{Name, Formula, Kb, Classical, DefaultTheory, Program}
-use Rattle.mcs_asked.specs.OneProof.{IsTrue-prop, AreOver-prop, AreOverItems-prop, AreOverRules-prop}
+use Rattle.mcs_cnf.specs.OneProof.{AreOver-prop}
+use Rattle.mcs_asked.specs.OneProof.{AreOverItems-prop, AreOverRules-prop}
 use Rattle.mcs_asking.specs.Kinds.{IsOverKb, AreOfKind}
 
 pub IsOverKb-prop : (names : List Name) (kb : Kb) → IsProp (IsOverKb names kb)

@@ -5,7 +5,7 @@ ghost use Rattle.mcs_system.specs.Faults.{default_count};
 ghost use Rattle.mcs_system.specs.Seen.{formula_of, kb_of};
 ghost use Rattle.mcs_cnf.specs.ClauseLists.{AreOver};
 ghost use Rattle.mcs_asking.specs.Kinds.{IsOverKb, AreOfKind};
-ghost use Rattle.mcs_asked.specs.OneProof.{AreOver-prop};
+ghost use Rattle.mcs_cnf.specs.OneProof.{AreOver-prop};
 ghost use Rattle.mcs_certificate.specs.OneProof.{IsOverKb-prop, AreOfKind-prop};
 
 use mcs_asked::Asked;

@@ -1,37 +1,18 @@
 -- Finding an answer among those of ascending sets.
-use Rattle.std.proofs.Common.{◌≡◌, ℕ, zero, suc, ◌<◌, ◌≤◌, true, List, [], ◌∷◌, length, get_or, take, Vec, Global, slice_get, Some, arith, refl, sym, ap, ◌∙◌, subst, inl, inr, true≢false}
+use Rattle.std.proofs.Common.{◌≡◌, ℕ, zero, suc, ◌<◌, ◌≤◌, List, [], ◌∷◌, length, get_or, take, Vec, Global, slice_get, Some, arith, sym, ap, ◌∙◌, subst, inl, inr, true≢false}
 use Rattle.std.proofs.lemmas.Bool.{cases_lt}
-use Rattle.std.proofs.lemmas.Cmp.{ranked}
 use Rattle.std.proofs.lemmas.List.{get_or-map, length-map, get_or-take, length-take}
-use Rattle.std.specs.declared.cmp.Ordering.{Ordering}
-use Rattle.std.specs.declared.cmp.Ordering.TheVariants.{Less, Equal, Greater}
 use Rattle.std.specs.List.Sorted.{IsPartitionedBy}
-use Rattle.std.specs.Ordering.{MatchOrdering, is_lt, nat_cmp}
 use Rattle.mcs_base.specs.Listings.{IsAmong, IsListing}
 use Rattle.mcs_base.proofs.Among.{place_among, among_at}
 use Rattle.mcs_base.proofs.Ascending.{before_at}
 use Rattle.mcs_base.proofs.Each.{all_get}
 use Rattle.mcs_base.proofs.Lists.{slice_get_below}
 use Rattle.mcs_sets.specs.Orders.{StateBefore}
+use Rattle.mcs_base.proofs.NumberCases.{less_test, test_less}
 use Rattle.mcs_system.specs.Plain.{System}
 use Rattle.mcs_system.specs.Systems.{IsAcceptedPart}
 use Rattle.mcs_check.specs.Certified.{sets_of, is_set_before, AreAcceptedAnswers, AreAscendingSets, SetsEndAt, HasAnswer}
-
-less_test : (a x : ℕ) → a < x → is_lt (nat_cmp a x) ≡ true
-less_test a x less = at (nat_cmp a x) (ranked a x _ refl)
-  where
-    at : (o : Ordering) → MatchOrdering o (a < x) (a ≡ x) (x < a) → is_lt o ≡ true
-    at Less m = refl
-    at Equal m = absurd (omega arith)
-    at Greater m = absurd (omega arith)
-
-test_less : (a x : ℕ) → is_lt (nat_cmp a x) ≡ true → a < x
-test_less a x h = at (nat_cmp a x) (ranked a x _ refl) h
-  where
-    at : (o : Ordering) → MatchOrdering o (a < x) (a ≡ x) (x < a) → is_lt o ≡ true → a < x
-    at Less m h = m
-    at Equal m h = absurd (true≢false (sym h))
-    at Greater m h = absurd (true≢false (sym h))
 
 module _ {B : Type 0} (answers : List (ℕ × B)) (up : AreAscendingSets answers) where
   in_order : (i j : ℕ) (d : ℕ × B) → i < j → j < length answers → (get_or answers i d).0 < (get_or answers j d).0

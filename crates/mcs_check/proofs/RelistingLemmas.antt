@@ -9,8 +9,8 @@ use Rattle.mcs_system.specs.Systems.{IsConsistent}
 use Rattle.mcs_states.specs.Oracles.{OracleState, Lacks}
 use Rattle.mcs_states.specs.Evaluators.{EvaluatorState}
 use Rattle.mcs_mesh.specs.Rounds.{evaluator_state_of, AreFresh}
-use Rattle.mcs_mesh.proofs.General.{question_higher}
 use Rattle.mcs_ports.specs.Pieces.{Device}
+use Rattle.mcs_laws.proofs.Questions.{question_higher}
 use Rattle.mcs_report.specs.Solutions.{IsWholeListing}
 use Rattle.mcs_work.specs.Tasks.{IsRepairLevel, IsLastRepairLevel}
 use Rattle.mcs_work.specs.Work.{IsDone, HasStopped}

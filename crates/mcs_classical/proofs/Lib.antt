@@ -1,4 +1,3 @@
-pub mod AddingLemmas
 pub mod AssumptionLemmas
 pub mod ConsequenceLemmas
 pub mod RefutingLemmas

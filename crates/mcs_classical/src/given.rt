@@ -5,7 +5,7 @@ ghost use Rattle.std.specs.List.{AllByRecursion};
 ghost use Rattle.mcs_system.specs.Faults.{has_twins};
 ghost use Rattle.mcs_system.specs.Seen.{formula_of};
 ghost use Rattle.mcs_cnf.specs.ClauseLists.{AreOver};
-ghost use Rattle.mcs_asked.specs.OneProof.{AreOver-prop};
+ghost use Rattle.mcs_cnf.specs.OneProof.{AreOver-prop};
 ghost use Rattle.mcs_classical.specs.OneProof.{AreNumbers-prop};
 ghost use Rattle.mcs_classical.specs.declared.assumptions.Assumption as declared;
 

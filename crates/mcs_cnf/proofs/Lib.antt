@@ -11,3 +11,4 @@ pub mod SizeLemmas
 pub mod EntailmentLemmas
 pub mod OverLemmas
 pub mod ModelLemmas
+pub mod AddingLemmas

@@ -5,3 +5,4 @@ pub mod Meaning
 pub mod Entailments
 pub mod Classical
 pub mod Laws
+pub mod OneProof

@@ -10,21 +10,21 @@ use Rattle.mcs_base.proofs.Among.{among_either, among_range}
 use Rattle.mcs_base.proofs.Distinct.{distinct_fits}
 use Rattle.mcs_base.proofs.Each.{all_among}
 use Rattle.mcs_base.proofs.Written.{take_next}
-use Rattle.mcs_base.proofs.Lists.{drop-cons_within, drop_past, slice_get_read_as, length_same_images, map_slice_get, slice_get-map_some, slice_get_below, slice_get_kept, slice_get_push_at, slice_get_seam}
+use Rattle.mcs_base.proofs.Lists.{length_same_images, map_slice_get, slice_get-map_some, slice_get_below, slice_get_kept, slice_get_push_at, slice_get_seam}
 use Rattle.atomic_table.specs.Seated.{TableId}
 use Rattle.mcs_draw.specs.declared.account.Account.{Account}
 use Rattle.mcs_draw.specs.Budget.{after_join, after_split, split_off}
 use Rattle.mcs_draw.specs.Seats.{ClosedData, DrawData, SeatData}
 use Rattle.mcs_system.specs.Plain.{System}
 use Rattle.mcs_system.specs.Imports.{IsImportOrder, supplied}
+use Rattle.mcs_system.proofs.ContextSets.{supplied_apart}
 use Rattle.mcs_import.proofs.OrderLemmas.{import_order_exists, supplied_in_range}
-use Rattle.mcs_node.proofs.HandlingLemmas.{supplied_apart}
 use Rattle.mcs_node.specs.Letters.{LetterData}
 use Rattle.mcs_wire.specs.Ends.{AddressData, InboxData, SettledData, less_one, one_part, with_joined}
 use Rattle.mcs_crew.specs.Hubs.{AreEnds, AreJoinable, AreNewLoads, AreSettled, AreSplitOff, AreWires, Brings, CanComeBack, CanEnd, HaveComeBack, HaveEnded, IsEquipment, IsNewLoad, WasSentBy, awaited_by, joined_each, with_parts}
 use Rattle.mcs_crew.specs.Loads.{LoadData}
 use Rattle.mcs_crew.specs.Teams.{seat_room, unsent}
-use Rattle.mcs_base.proofs.Placed.{eq_differs, eq_same, same_at}
+use Rattle.mcs_base.proofs.Placed.{eq_differs, eq_same, same_at, both_more}
 
 -- ---- letters that are awaited
 -- one context more
@@ -61,20 +61,6 @@ supplied_short m i js few is =
     omega (arith, all, same, few, length-range_with_len 0 (length m.contexts))
 
 -- ---- one item more
--- what stands in a list with one item more, and in another
-both_more : {A B : Type 0} (R : ℕ → A → B → Type 0) (xs : List A) (ys : List B) (x : A) (y : B) → length xs ≡ length ys → ((i : ℕ) (a : A) (b : B) → slice_get xs i ≡ Some a → slice_get ys i ≡ Some b → R i a b) → R (length xs) x y
-    → (i : ℕ) (a : A) (b : B) → slice_get (xs ++ x ∷ []) i ≡ Some a → slice_get (ys ++ y ∷ []) i ≡ Some b → R i a b
-both_more {A} {B} R xs ys x y long each here i a b at at' = elim (slice_get_push_at xs x i a at) [
-  | inl old ↦ elim (slice_get_push_at ys y i b at') [
-    | inl old' ↦ each i a b old old'
-    | inr last ↦ absurd (let within = slice_get_within xs i a old in let e = last.0 in omega (arith, within, e, long))
-  ]
-  | inr last ↦ elim (slice_get_push_at ys y i b at') [
-    | inl old' ↦ absurd (let within = slice_get_within ys i b old' in let e = last.0 in omega (arith, within, e, long))
-    | inr last' ↦ subst (λ (k : ℕ). R k a b) (sym last.0) (subst (λ (z : A). R (length xs) z b) (sym last.1) (subst (λ (z : B). R (length xs) x z) (sym last'.1) here))
-  ]
-]
-
 pub wires_none : (m : System) (groups : ℕ) → AreWires m groups 0 [] []
 wires_none m groups = record { addresses_are = refl; inboxes_are = refl; each = λ g a i at at'. absurd (none-some a at) }
 
@@ -288,10 +274,6 @@ come_back_none asked word ps s all can = record {
   top = λ bound low all. (let top = ap (λ (a : Account). a.top) can.account in omega (arith, top, low));
 }
 
--- where an item stands next among all, its image does among all images
-pub next_image : {A B : Type 0} (f : A → B) (all before : List A) (x : A) → slice_get all (length before) ≡ Some x → slice_get (map f all) (length (map f before)) ≡ Some (f x)
-next_image f all before x at = ap (λ (k : ℕ). slice_get (map f all) k) (length-map before f) ∙ slice_get-map_some f all (length before) x at
-
 -- the next of all loads comes back
 module _ (asked : ℕ) (word : TableId) (wires ps : List AddressData) (first s : SeatData) (all ls : List LoadData) (l : LoadData) (can : CanComeBack asked word wires first all) (next : slice_get all (length ls) ≡ Some l) (back : HaveComeBack asked wires ls ps s) where
   brings : Brings word wires l
@@ -422,12 +404,6 @@ module _ (asked : ℕ) (draw : DrawData) (ps : List AddressData) (s : SeatData) 
   }
 
 -- ---- wires that are settled
--- what is dropped next
-pub next_dropped : {A : Type 0} (n : ℕ) (xs : List A) (x : A) (rest : List A) → drop n xs ≡ x ∷ rest → (slice_get xs n ≡ Some x) × (rest ≡ drop (n + 1) xs)
-next_dropped n xs x rest is =
-    let within = drop-cons_within n xs x x rest is in
-    (slice_get_read_as xs xs n x refl within.0 (sym within.1), sym (drop_past n xs (x ∷ []) rest is))
-
 pub settled_none : (ps : List AddressData) (is : List InboxData) → AreSettled [] is []
 settled_none ps is = record { many = refl; plan = λ g a s at at'. absurd (none-some a at); sent = λ g a s at at'. absurd (none-some a at); got = λ g i s at at'. absurd (none-some s at') }
 

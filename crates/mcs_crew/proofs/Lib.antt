@@ -7,6 +7,5 @@ pub mod Threads
 pub mod HubLemmas
 pub mod RoundLemmas
 pub mod PlayLemmas
-pub mod BagLemmas
 pub mod ToldLemmas
 pub mod PartLemmas

@@ -10,11 +10,11 @@ use Rattle.mcs_base.proofs.Placed.{sum_images}
 use Rattle.mcs_base.proofs.Sums.{sum_by-ones}
 use Rattle.mcs_system.specs.Plain.{System}
 use Rattle.mcs_system.specs.Imports.{IsImportOrder, supplied}
+use Rattle.mcs_system.proofs.ContextSets.{supplied_apart}
 use Rattle.mcs_import.proofs.OrderLemmas.{import_order_exists}
 use Rattle.mcs_node.specs.Rounds.{Finishes, IsSupplyTo, Round, Stamp, stamp}
 use Rattle.mcs_node.specs.Letters.{LetterData, stamp_of}
 use Rattle.mcs_node.specs.Nodes.{NodeData}
-use Rattle.mcs_node.proofs.HandlingLemmas.{supplied_apart}
 use Rattle.mcs_node.proofs.SupplyLemmas.{supplied_by}
 use Rattle.mcs_mesh.specs.Players.{as_new}
 use Rattle.mcs_wire.specs.Ends.{InboxData, with_taken}

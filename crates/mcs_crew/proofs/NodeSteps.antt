@@ -6,6 +6,7 @@ use Rattle.std.proofs.lemmas.Option.{none-some, same_Some}
 use Rattle.std.specs.List.{sum_by}
 use Rattle.mcs_base.specs.Listings.{IsAmong, IsListing}
 use Rattle.mcs_base.proofs.Among.{among_left, map_among}
+use Rattle.mcs_base.proofs.Results.{option_cases}
 use Rattle.mcs_system.specs.Plain.{System}
 use Rattle.mcs_states.specs.Oracles.{IsLacking, Lacks, OracleState, with_journal}
 use Rattle.mcs_states.specs.declared.halt.Halt.{Halt}
@@ -15,7 +16,6 @@ use Rattle.mcs_node.specs.Steps.{IsNeedOf}
 use Rattle.mcs_node.specs.Letters.{ContentData, LetterData, Stop, Supply, is_stop, stamp_of}
 use Rattle.mcs_node.specs.Known.{Knowledge}
 use Rattle.mcs_node.specs.Nodes.{HasTaken, IsAwaited, IsGranted, IsGrantHalt, IsNeed, NodeData, letters_to, round_at, stamps_to, stopped_with, with_content, with_had}
-use Rattle.mcs_node.proofs.ExistenceLemmas.{option_cases}
 use Rattle.mcs_node.proofs.WorkedLemmas.{need_one}
 use Rattle.mcs_draw.specs.declared.account.Account.{Account}
 use Rattle.mcs_draw.specs.Budget.{after_draw}

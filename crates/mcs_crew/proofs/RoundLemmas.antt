@@ -29,14 +29,14 @@ use Rattle.mcs_node.specs.Letters.{LetterData, stamp_of}
 use Rattle.mcs_node.specs.Known.{HasAsked, IsKnownAt}
 use Rattle.mcs_node.specs.Nodes.{IsAbove, IsNodeData, NodeData, begun_at, done_level, round_at}
 use Rattle.mcs_node.specs.Replay.{IsLowestHalt}
-use Rattle.mcs_node.proofs.ExistenceLemmas.{option_cases, own_halt}
+use Rattle.mcs_node.proofs.ExistenceLemmas.{own_halt}
 use Rattle.mcs_node.proofs.RuleLemmas.{done_finishes}
 use Rattle.mcs_node.proofs.TotalLemmas.{totals_count_questions}
 use Rattle.mcs_draw.specs.declared.account.Account.{Account}
 use Rattle.mcs_draw.specs.Seats.{ClosedData}
 use Rattle.mcs_wire.specs.Ends.{AddressData, SettledData}
 use Rattle.mcs_mesh.specs.Players.{HasReached, HasRoundCause, HaveFinished, HaveReached, IsReadyRound, as_new, oracles_of}
-use Rattle.mcs_mesh.proofs.NodeLemmas.{oracles_rest, still_nodes, two_at}
+use Rattle.mcs_mesh.proofs.NodeLemmas.{oracles_rest, still_nodes}
 use Rattle.mcs_base.specs.Groups.{grouped, members}
 use Rattle.mcs_crew.specs.Hubs.{HaveEnded, awaited_by, with_parts}
 use Rattle.mcs_crew.specs.Loads.{IsAtWork, LoadData, Worked, all_awaited, emptied}
@@ -48,6 +48,7 @@ use Rattle.mcs_crew.specs.Weights.{by_stamp, granted_need, had_weight, put_out_w
 use Rattle.mcs_crew.proofs.Counting.{few_needs}
 use Rattle.mcs_base.proofs.GroupLemmas.{grouped_back, grouped_from, grouped_has, grouped_long, grouped_map, grouped_short, grouped_sum, member_sum}
 use Rattle.mcs_base.proofs.Placed.{eq_is, eq_same, sum_among, sum_map, sum_some, zip_back}
+use Rattle.mcs_base.proofs.Results.{option_cases, some_same}
 use Rattle.mcs_crew.proofs.LoadSteps.{none_is_ignored}
 use Rattle.mcs_crew.proofs.TeamSteps.{needs_chosen}
 
@@ -348,7 +349,7 @@ module _ (m : System) (level budget asked w : ℕ) (first : List NodeData) (read
     added = λ i s n at at'. (
         let (d, there, is) = map_slice_get (λ (d : NodeData). d.state) after i s at in
         let (e, there', is') = map_slice_get (granted_need need) after i n at' in
-        let same : e ≡ d = two_at (slice_get after i) e d there' there in
+        let same : e ≡ d = some_same (slice_get after i) e d there' there in
         let context = context_back i d there in
         let low : i < length m.contexts = subst (λ (k : ℕ). k < length m.contexts) context (play_back i d there).in_range in
         subst (λ (k : ℕ). Adds r i s.granted k) (ap (λ (k : ℕ). cond (is_some d.state.granted) (need k) 0) (sym context) ∙ ap (granted_need need) (sym same) ∙ is')
@@ -520,7 +521,7 @@ module _ (m : System) (level budget asked w : ℕ) (first nodes : List NodeData)
   own_cause i d halt at (waits s) own is = absurd (true≢false (sym own ∙ s.by_itself))
   own_cause i d halt at (finishes s) own is = absurd (true≢false (sym own ∙ s.by_itself))
   own_cause i d halt at (is_stopped s) own is = absurd (true≢false (sym own ∙ s.by_itself))
-  own_cause i d halt at (stops s) own is = subst (λ (h : Halt). IsOwnHalt q i d.state.granted h) (two_at d.state.halt s.cause halt s.halt is) s.own
+  own_cause i d halt at (stops s) own is = subst (λ (h : Halt). IsOwnHalt q i d.state.granted h) (some_same d.state.halt s.cause halt s.halt is) s.own
 
   lacks_before : (i : ℕ) (d : NodeData) (x : ℕ) → slice_get nodes i ≡ Some d → Lacks d.oracle x → (o : OracleState) × (slice_get (oracles_of first) i ≡ Some o) × Lacks o x
   lacks_before i d x at lacks =

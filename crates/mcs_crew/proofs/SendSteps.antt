@@ -7,11 +7,11 @@ use Rattle.mcs_base.proofs.Among.{among_get, among_left, among_push}
 use Rattle.mcs_base.proofs.Sums.{sum_by-ones}
 use Rattle.mcs_node.specs.Letters.{LetterData}
 use Rattle.mcs_node.specs.Nodes.{HandsOut, NodeData}
-use Rattle.mcs_mesh.proofs.NodeLemmas.{image_kept}
 use Rattle.mcs_wire.specs.Ends.{AddressData, with_sent}
 use Rattle.mcs_crew.specs.Teams.{AreNamed, HaveSent, unsent}
 use Rattle.mcs_crew.specs.Weights.{sent_weight}
 use Rattle.mcs_base.proofs.Placed.{same_at, sum_among, sum_set}
+use Rattle.mcs_base.proofs.Written.{image_kept}
 
 -- some of the letters were handed out and sent
 pub record IsSending (first node : NodeData) (before now : List AddressData) : Type 0 where

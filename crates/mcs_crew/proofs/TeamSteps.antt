@@ -3,12 +3,12 @@ use Rattle.std.proofs.Common.{◌≡◌, ℕ, ◌+◌, ◌^◌, ◌<◌, ◌≤�
 use Rattle.std.proofs.lemmas.Bool.{cases_eq}
 use Rattle.std.proofs.lemmas.List.{length-map}
 use Rattle.std.proofs.lemmas.List.Sums.{sum_by-append, sum_by-cons}
-use Rattle.std.proofs.lemmas.Option.{get_or_from_slice_get, none-some}
+use Rattle.std.proofs.lemmas.Option.{get_or_from_slice_get, none-some, slice_get-get_or}
 use Rattle.std.specs.List.{sum_by}
 use Rattle.mcs_base.proofs.Among.{among_get, get_among}
 use Rattle.mcs_base.proofs.Lists.{length_same_images, slice_get_below}
 use Rattle.mcs_base.proofs.Sums.{sum_by-ones}
-use Rattle.mcs_base.proofs.Written.{length-slice_set, slice_get-slice_set}
+use Rattle.mcs_base.proofs.Written.{length-slice_set, slice_get-slice_set, image_kept, set_there, set_other}
 use Rattle.mcs_system.specs.Plain.{Context}
 use Rattle.mcs_node.specs.Rounds.{NodeState, Round, Stamp}
 use Rattle.mcs_node.specs.Configurations.{new_node}
@@ -21,11 +21,11 @@ use Rattle.mcs_node.specs.declared.handled.Handled.TheVariants.{Ignored, Took}
 use Rattle.atomic_table.specs.Seated.{TableId}
 use Rattle.mcs_draw.specs.declared.account.Account.{Account}
 use Rattle.mcs_mesh.specs.Players.{as_new}
-use Rattle.mcs_mesh.proofs.NodeLemmas.{image_kept, read_at, set_other, set_there, two_at}
 use Rattle.mcs_wire.specs.Ends.{AddressData}
 use Rattle.mcs_crew.specs.Teams.{AreNamed, CameOf, GoesOn, HasDrawn, HasGrant, HasHadNone, HasHadOne, HaveSent, IsAtPlay, IsServed, IsTeam, TeamData, is_granted, unsent, waits_not}
 use Rattle.mcs_crew.specs.Weights.{by_stamp, granted_need, had_weight, sent_weight}
 use Rattle.mcs_base.proofs.Placed.{same_at, sum_among, sum_but, sum_set, sum_short}
+use Rattle.mcs_base.proofs.Results.{some_same}
 use Rattle.mcs_crew.proofs.NodeSteps.{came_same, drawn_none, drawn_one, granted_came, need_of, taken_came, ungranted}
 
 -- ---- needs
@@ -103,7 +103,7 @@ module _ (r : Round) (asked : ℕ) (t : TeamData) (team : IsTeam r asked t) (p :
   grant_kept : (total : ℕ) → HasGrant t.nodes total → HasGrant (slice_set t.nodes p now) total
   grant_kept total (q, x, there, is) = elim (cases_eq q p) [
     | inl same ↦
-        let x_is : x ≡ d = two_at (slice_get t.nodes p) x d (subst (λ (k : ℕ). slice_get t.nodes k ≡ Some x) same there) at in
+        let x_is : x ≡ d = some_same (slice_get t.nodes p) x d (subst (λ (k : ℕ). slice_get t.nodes k ≡ Some x) same there) at in
         (p, now, set_there t.nodes p d now at, draws.kept total (sym (ap (λ (z : NodeData). z.state.granted) x_is) ∙ is))
     | inr differ ↦ (q, x, set_other t.nodes p q x now differ there, is)
   ]
@@ -186,7 +186,7 @@ module _ (t : TeamData) (p : ℕ) (d e : NodeData) (at : slice_get t.nodes p ≡
 -- ---- what the code makes of a team
 -- what is read at a place stands there
 pub stands_at : (nodes : List NodeData) (p : ℕ) (d x : NodeData) → p < length nodes → d ≡ get_or nodes p x → slice_get nodes p ≡ Some d
-stands_at nodes p d x less is = read_at nodes p x less ∙ ap (λ (z : NodeData). Some z) (sym is)
+stands_at nodes p d x less is = slice_get-get_or nodes p x less ∙ ap (λ (z : NodeData). Some z) (sym is)
 
 -- one node was written, and of the seat only the account has changed
 pub team_made : (t u : TeamData) (p : ℕ) (n e : NodeData) (addresses : List AddressData) → u.nodes ≡ slice_set t.nodes p n → n ≡ record e { outbox = [] } → u.addresses ≡ addresses → u.seat.word ≡ t.seat.word

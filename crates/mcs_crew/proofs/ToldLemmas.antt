@@ -1,11 +1,15 @@
 -- What the trail of a round tells of its system.
-use Rattle.std.proofs.Common.{◌≡◌, ℕ, ◌+◌, ◌<◌, ◌≤◌, ◌%◌, Bool, true, false, true≢false, List, [], ◌∷◌, map, length, Option, Some, None, Result, Ok, Err, slice_get, refl, sym, ap, ◌∙◌, subst, inl, inr, ◌⊎◌, ◌↔◌, arith}
+use Rattle.std.proofs.Common.{◌≡◌, ℕ, ◌+◌, ◌<◌, ◌≤◌, ◌%◌, false, List, map, length, Option, Some, None, Result, Ok, Err, slice_get, refl, sym, ap, ◌∙◌, subst, inl, inr, ◌⊎◌, ◌↔◌, arith}
 use Rattle.std.proofs.lemmas.Bool.{cases_eq}
 use Rattle.std.proofs.lemmas.Option.{same_Some}
 use Rattle.std.specs.List.{flat_map}
 use Rattle.mcs_base.specs.Groups.{members}
 use Rattle.mcs_base.specs.Listings.{IsInventory}
 use Rattle.mcs_base.proofs.Placed.{sum_map}
+use Rattle.mcs_base.proofs.Mapped.{none_mapped}
+use Rattle.mcs_base.proofs.Booleans.{cases_same}
+use Rattle.mcs_base.proofs.Bags.{IsOfGroup, inventory_by_weight, inventory_none, inventory_one, inventory_same, members_listed}
+use Rattle.mcs_base.proofs.Sums.{sum_by-flat_map}
 use Rattle.mcs_system.specs.Plain.{System}
 use Rattle.mcs_system.specs.Levels.{IsCount}
 use Rattle.mcs_import.proofs.CountLemmas.{count_is_one, counts_agree}
@@ -17,6 +21,7 @@ use Rattle.mcs_node.specs.Rounds.{Stamp, Supplies, stamp}
 use Rattle.mcs_node.specs.Letters.{stamp_of}
 use Rattle.mcs_node.specs.Nodes.{NodeData}
 use Rattle.mcs_node.proofs.ExampleLemmas.{example_needs_one_each}
+use Rattle.mcs_node.proofs.ExistenceLemmas.{stamp_same}
 use Rattle.mcs_mesh.specs.Players.{AreNodesOf, HaveFinished, IsPlayed}
 use Rattle.mcs_mesh.specs.Rounds.{HasShown}
 use Rattle.mcs_draw.specs.Seats.{ClosedData}
@@ -25,7 +30,6 @@ use Rattle.mcs_crew.specs.Told.{HasEnded, IsDueAt, ShowsDone, ShowsSpent}
 use Rattle.mcs_crew.specs.Trails.{IsMemory, IsNoTrail, IsTrail, IsWireOf, TrailData, alone, group_count, shared, trail_of}
 use Rattle.mcs_crew.specs.declared.trail.Trail as code
 use Rattle.mcs_crew.specs.Laws.{OneFactIsSpent, OneFactIsTold, OneLetterIsDue}
-use Rattle.mcs_crew.proofs.BagLemmas.{IsOfGroup, inventory_by_weight, inventory_none, inventory_one, inventory_same, members_listed, sum_by-flat_map}
 
 -- ---- how a round ended
 pub has_ended : (m : System) (level budget : ℕ) (before after : List NodeData) (total : Result ℕ Halt) → IsPlayed m level budget before after total → HasEnded m level after total
@@ -33,19 +37,6 @@ has_ended m level budget before after (Ok total) played = (played.ends.0.count, 
 has_ended m level budget before after (Err halt) played = tt
 
 -- ---- stamps
-stamp_same : (x y : Stamp) → x.level ≡ y.level → x.from ≡ y.from → x.to ≡ y.to → x.stop ≡ y.stop → x ≡ y
-stamp_same x y level from to stop =
-    ap (λ (v : ℕ). record x { level = v }) level
-    ∙ ap (λ (v : ℕ). record x { level = y.level; from = v }) from
-    ∙ ap (λ (v : ℕ). record x { level = y.level; from = y.from; to = v }) to
-    ∙ ap (λ (v : Bool). record y { stop = v }) stop
-
-stop_cases : (a b : Bool) → (a ≡ b) ⊎ (¬ (a ≡ b))
-stop_cases true true = inl refl
-stop_cases true false = inr true≢false
-stop_cases false true = inr (λ e. true≢false (sym e))
-stop_cases false false = inl refl
-
 stamp_cases : (x y : Stamp) → (x ≡ y) ⊎ (¬ (x ≡ y))
 stamp_cases x y = elim (cases_eq x.level y.level) [
   | inr differ ↦ inr (λ e. differ (ap (λ (z : Stamp). z.level) e))
@@ -53,7 +44,7 @@ stamp_cases x y = elim (cases_eq x.level y.level) [
     | inr differ ↦ inr (λ e. differ (ap (λ (z : Stamp). z.from) e))
     | inl from ↦ elim (cases_eq x.to y.to) [
       | inr differ ↦ inr (λ e. differ (ap (λ (z : Stamp). z.to) e))
-      | inl to ↦ elim (stop_cases x.stop y.stop) [
+      | inl to ↦ elim (cases_same x.stop y.stop) [
         | inr differ ↦ inr (λ e. differ (ap (λ (z : Stamp). z.stop) e))
         | inl stop ↦ inl (stamp_same x y level from to stop)
       ]
@@ -129,10 +120,6 @@ shows_no_memory m level workers nodes t (shared some (inl empty)) = empty.1
 shows_no_memory m level workers nodes t (shared some (inr shown)) = absurd (shown.no_memory tt)
 
 -- ---- two contexts
-none_mapped : {A B : Type 0} (f : A → B) (xs : List A) → map f xs ≡ [] → xs ≡ []
-none_mapped f [] e = refl
-none_mapped f (x ∷ xs) e = absurd (let long = ap (λ (ys : List _). length ys) e in omega (arith, long))
-
 pub one_letter_is_due : OneLetterIsDue
 one_letter_is_due m level supplies only t shows s = (
   λ at. none_mapped stamp_of s.got (inventory_none (IsDueAt m level 2 0) (map stamp_of s.got) (λ x due. (

@@ -18,9 +18,10 @@ use Rattle.mcs_cnf.specs.Entailments.{Entailment, entailment_of, says_yes, IsAcc
 use Rattle.mcs_evidence.specs.Defaults.{Absence, absence_of, defaults_at, negated_justs, IsDenied, AreDenied}
 use Rattle.mcs_evidence.specs.Theories.{all_of}
 use Rattle.mcs_evidence.proofs.TheoryLemmas.{others, has-others}
+use Rattle.mcs_evidence.proofs.Picked.{picked_in, picked_out}
 use Rattle.mcs_default.specs.declared.asking.Justs as justs
 use Rattle.mcs_default.specs.Told.{IsBlockedBy, IsToldOfJusts, IsAbsentOf, IsAbsentAt, AreAbsentOutside, prerequisites}
-use Rattle.mcs_default.proofs.General.{formula_at, picked_in, picked_out, negated_push}
+use Rattle.mcs_default.proofs.General.{formula_at, negated_push}
 
 -- ---- lists that are shown not to follow
 pub denied_same : (names : List Name) (fs gs hs : List Formula) (es es' : List Entailment) → gs ≡ hs → es ≡ es' → AreDenied names fs gs es → AreDenied names fs hs es'

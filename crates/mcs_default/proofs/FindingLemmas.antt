@@ -6,7 +6,7 @@ use Rattle.std.specs.List.{AllByRecursion}
 use Rattle.mcs_sets.specs.Sets.{has, single, such_that}
 use Rattle.mcs_sets.proofs.SetLemmas.{has-such_that}
 use Rattle.mcs_sets.proofs.Lattice.{no_member_of_none, only_member}
-use Rattle.mcs_base.proofs.Each.{all_left, all_push, all_weaker}
+use Rattle.mcs_base.proofs.Each.{all_left, all_weaker, all_pushed}
 use Rattle.mcs_system.specs.Plain.{Name, Formula, Not, Default, Item}
 use Rattle.mcs_system.specs.Logic.{holds, holds_all, true_names, Entails}
 use Rattle.mcs_trace.specs.Clauses.{ClauseList}
@@ -85,11 +85,6 @@ some_denies names items ds known set places g parts told =
     (λ follows. (let refuted = told (facts_of items) parts.1 in true≢false (sym (follows (true_names 0 names places) refuted.model.formulas) ∙ refuted.goal)))
 
 -- ---- what was found before stays right
--- one more is right, if there is memory for it
-all_pushed : {A : Type 0} (P : A → Type 0) (b : Bool) (xs : List A) (x : A) → AllByRecursion P xs → P x → AllByRecursion P (if b then xs ++ x ∷ [] else xs)
-all_pushed P true xs x all is = all_push P xs x all is
-all_pushed P false xs x all is = all
-
 module _ (names : List Name) (ds : List Default) (f f' : findings.Findings) (ready : CanBeAsked names ds f) (kept : f'.facts ≡ f.facts) where
   parts_before : (items : List Item) → AreParts names items ds f'.facts → AreParts names items ds f.facts
   parts_before items parts = subst (AreParts names items ds) kept parts

@@ -1,6 +1,6 @@
 -- Of lists, clause lists and the defaults of a set.
-use Rattle.std.proofs.Common.{◌≡◌, ℕ, ◌+◌, ◌<◌, ◌≤◌, suc, Bool, true, false, cond, List, [], ◌∷◌, ◌++◌, map, length, get_or, take, arith, sym, ap, ◌∙◌, slice_get}
-use Rattle.std.proofs.lemmas.List.{map_more, map_push, take_all, append-nil, length-map, length-take-le}
+use Rattle.std.proofs.Common.{◌≡◌, ℕ, ◌+◌, ◌<◌, ◌≤◌, suc, true, false, List, [], ◌∷◌, ◌++◌, map, length, get_or, take, arith, sym, ap, ◌∙◌, slice_get}
+use Rattle.std.proofs.lemmas.List.{map_push, append-nil}
 use Rattle.mcs_sets.specs.Sets.{has}
 use Rattle.mcs_base.proofs.Each.{all_append}
 use Rattle.mcs_base.proofs.Lists.{flat_map_push}
@@ -13,39 +13,10 @@ use Rattle.mcs_evidence.specs.Defaults.{defaults_at, defaults_of, negated_justs,
 use Rattle.mcs_evidence.proofs.TheoryLemmas.{consequents_over}
 use Rattle.mcs_default.specs.Theories.{AreClausesOf, consequents}
 use Rattle.mcs_evidence.specs.Theories.{AreOverDefaults}
+use Rattle.mcs_evidence.proofs.Picked.{picked_in, picked_out, picked_all}
 
 -- ---- the defaults of a set, one after the other
-at_push : (j : ℕ) (ds : List Default) (d : Default) (set : ℕ) → defaults_at j (ds ++ d ∷ []) set ≡ defaults_at j ds set ++ cond (has set (j + length ds)) (d ∷ []) []
-at_push j [] d set = let e : j + 0 ≡ j = omega arith in ap (λ n. cond (has set n) (d ∷ []) []) (sym e)
-at_push j (x ∷ xs) d set =
-    let e : j + 1 + length xs ≡ j + length (x ∷ xs) = omega arith in
-    at (has set j) (cond (has set (j + length (x ∷ xs))) (d ∷ []) []) (at_push (j + 1) xs d set ∙ ap (λ n. defaults_at (j + 1) xs set ++ cond (has set n) (d ∷ []) []) e)
-  where
-    at : (b : Bool) (last : List Default) → defaults_at (j + 1) (xs ++ d ∷ []) set ≡ defaults_at (j + 1) xs set ++ last
-        → cond b (x ∷ defaults_at (j + 1) (xs ++ d ∷ []) set) (defaults_at (j + 1) (xs ++ d ∷ []) set) ≡ cond b (x ∷ defaults_at (j + 1) xs set) (defaults_at (j + 1) xs set) ++ last
-    at true last e = ap (λ ys. x ∷ ys) e
-    at false last e = e
-
 module _ {A : Type 0} (view : A → Default) where
-  picked : (xs : List A) (set i : ℕ) (x : A) (b : Bool) → i < length xs → x ≡ get_or xs i x → has set i ≡ b
-      → defaults_at 0 (map view (take (i + 1) xs)) set ≡ defaults_at 0 (map view (take i xs)) set ++ cond b (view x ∷ []) []
-  picked xs set i x b less is member =
-      let len : 0 + length (map view (take i xs)) ≡ i = omega (arith, length-map (take i xs) view, length-take-le i xs (omega arith)) in
-      ap (λ ds. defaults_at 0 ds set) (map_more view xs i x less ∙ ap (λ (y : A). map view (take i xs) ++ view y ∷ []) (sym is))
-      ∙ at_push 0 (map view (take i xs)) (view x) set
-      ∙ ap (λ c. defaults_at 0 (map view (take i xs)) set ++ cond c (view x ∷ []) []) (ap (has set) len ∙ member)
-
-  pub picked_in : (xs : List A) (set i : ℕ) (x : A) → i < length xs → x ≡ get_or xs i x → has set i ≡ true
-      → defaults_at 0 (map view (take (i + 1) xs)) set ≡ defaults_at 0 (map view (take i xs)) set ++ view x ∷ []
-  picked_in xs set i x less is member = picked xs set i x true less is member
-
-  pub picked_out : (xs : List A) (set i : ℕ) (x : A) → i < length xs → x ≡ get_or xs i x → has set i ≡ false
-      → defaults_at 0 (map view (take (i + 1) xs)) set ≡ defaults_at 0 (map view (take i xs)) set
-  picked_out xs set i x less is member = picked xs set i x false less is member ∙ append-nil (defaults_at 0 (map view (take i xs)) set)
-
-  pub picked_all : (xs : List A) (set i : ℕ) → length xs ≤ i → defaults_at 0 (map view (take i xs)) set ≡ defaults_at 0 (map view xs) set
-  picked_all xs set i past = ap (λ (ys : List A). defaults_at 0 (map view ys) set) (take_all i xs past)
-
   -- ---- the code's loop over the consequents
   pub consequents_in : (names : List Name) (xs : List A) (set i : ℕ) (x : A) (c0 c c' : ClauseList) → i < length xs → x ≡ get_or xs i x → has set i ≡ true
       → c ≡ with_formulas names c0 (consequents (map view (take i xs)) set) → c' ≡ with_formulas names c ((view x).conclusion ∷ [])
@@ -53,17 +24,17 @@ module _ {A : Type 0} (view : A → Default) where
   consequents_in names xs set i x c0 c c' less is member before pushed =
       pushed ∙ ap (λ (y : ClauseList). with_formulas names y ((view x).conclusion ∷ [])) before
       ∙ with_append names c0 (consequents (map view (take i xs)) set) ((view x).conclusion ∷ [])
-      ∙ ap (with_formulas names c0) (sym (ap (map (λ (d : Default). d.conclusion)) (picked_in xs set i x less is member) ∙ map_push (λ (d : Default). d.conclusion) (defaults_at 0 (map view (take i xs)) set) (view x)))
+      ∙ ap (with_formulas names c0) (sym (ap (map (λ (d : Default). d.conclusion)) (picked_in view xs set i x less is member) ∙ map_push (λ (d : Default). d.conclusion) (defaults_at 0 (map view (take i xs)) set) (view x)))
 
   pub consequents_out : (names : List Name) (xs : List A) (set i : ℕ) (x : A) (c0 c : ClauseList) → i < length xs → x ≡ get_or xs i x → has set i ≡ false
       → c ≡ with_formulas names c0 (consequents (map view (take i xs)) set) → c ≡ with_formulas names c0 (consequents (map view (take (i + 1) xs)) set)
   consequents_out names xs set i x c0 c less is member before =
-      before ∙ ap (λ (ds : List Default). with_formulas names c0 (map (λ (d : Default). d.conclusion) ds)) (sym (picked_out xs set i x less is member))
+      before ∙ ap (λ (ds : List Default). with_formulas names c0 (map (λ (d : Default). d.conclusion) ds)) (sym (picked_out view xs set i x less is member))
 
   pub consequents_all : (names : List Name) (xs : List A) (set i : ℕ) (c0 c : ClauseList) → length xs ≤ i
       → c ≡ with_formulas names c0 (consequents (map view (take i xs)) set) → c ≡ with_formulas names c0 (consequents (map view xs) set)
   consequents_all names xs set i c0 c past before =
-      before ∙ ap (λ (ds : List Default). with_formulas names c0 (map (λ (d : Default). d.conclusion) ds)) (picked_all xs set i past)
+      before ∙ ap (λ (ds : List Default). with_formulas names c0 (map (λ (d : Default). d.conclusion) ds)) (picked_all view xs set i past)
 
 pub negated_push : (ds : List Default) (d : Default) → negated_justs (ds ++ d ∷ []) ≡ negated_justs ds ++ map Not d.justs
 negated_push ds d = flat_map_push (λ (d : Default). map Not d.justs) ds d

@@ -1,13 +1,12 @@
 -- What is known of a set of defaults, finding by finding, and what that tells of a node of the search.
-use Rattle.std.proofs.Common.{◌≡◌, ℕ, ◌<◌, Bool, true, false, ◌&&◌, ltb, List, [], ◌∷◌, length, map, get_or, Some, slice_get, arith, refl, sym, ap, ◌∙◌, subst, inl, inr, true≢false}
+use Rattle.std.proofs.Common.{◌≡◌, ℕ, Bool, true, false, ◌&&◌, ltb, List, [], ◌∷◌, length, map, Some, slice_get, arith, sym, ap, ◌∙◌, subst, inl, inr, true≢false}
 use Rattle.std.proofs.lemmas.Bool.Decides.{nat_tests}
-use Rattle.std.proofs.lemmas.Option.{slice_get_read, slice_get_within}
+use Rattle.std.proofs.lemmas.Option.{slice_get_within}
 use Rattle.std.specs.Bool.{◌==◌}
 use Rattle.std.specs.List.{AllByRecursion}
 use Rattle.mcs_sets.specs.Sets.{has, union, common, minus, Within}
 use Rattle.mcs_sets.proofs.SetLemmas.{has-such_that}
 use Rattle.mcs_sets.proofs.Lattice.{in_union, in_common, in_minus, no_member_of_none}
-use Rattle.mcs_base.proofs.Each.{all_get}
 use Rattle.mcs_system.specs.Plain.{Name, Formula, Falsity, Not, Default, Item}
 use Rattle.mcs_system.specs.Logic.{Entails}
 use Rattle.mcs_evidence.specs.Defaults.{defaults_of, generated}
@@ -19,10 +18,6 @@ use Rattle.mcs_default.specs.declared.findings.Upper as upper
 use Rattle.mcs_default.specs.declared.known.Known as known
 use Rattle.mcs_default.proofs.FindingLemmas.{others_unsupported, these_allowed}
 use Rattle.mcs_default.proofs.SearchLemmas.{follows_more, allowed_less, open_undecided}
-
--- an item that is read from a list
-pub read_each : {A : Type 0} (P : A → Type 0) (xs : List A) (i : ℕ) (x : A) → i < length xs → x ≡ get_or xs i x → AllByRecursion P xs → P x
-read_each P xs i x less is all = all_get P xs i x all (slice_get_read xs (length xs) i x refl less is)
 
 pub known_nothing : (items : List Item) (e : known.Known) → e.supported ≡ 0 → e.unsupported ≡ 0 → e.allowed ≡ 0 → e.blocked ≡ 0 → IsKnown items e
 known_nothing items e supported unsupported allowed blocked = record {

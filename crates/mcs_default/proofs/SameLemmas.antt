@@ -1,5 +1,5 @@
 -- A theory that is searched stays the same.
-use Rattle.std.proofs.Common.{◌≡◌, ◌∙◌, ℕ, List, Result, Ok, Err, OnOk, sym, subst}
+use Rattle.std.proofs.Common.{◌≡◌, ◌∙◌, ℕ, List, sym, subst}
 use Rattle.std.specs.Borrow.{Bor}
 use Rattle.mcs_sets.specs.Sets.{Within}
 use Rattle.mcs_system.specs.Plain.{Formula, Item}
@@ -25,8 +25,3 @@ module _ {t t' : Bor theory.Theory} {k k' : ClauseList} where
 
   pub inside_kept : (t' ≡ t) × (k' ≡ k) → (set : ℕ) → Within set (all_of (theory_defaults t.now)) → Within set (all_of (theory_defaults t'.now))
   inside_kept same set inside = subst (λ (b : Bor theory.Theory). Within set (all_of (theory_defaults b.now))) (sym same.0) inside
-
--- what always holds
-pub on_ok : {T E P : Type 0} (r : Result T E) → P → OnOk r P
-on_ok (Ok x) p = p
-on_ok (Err e) p = tt

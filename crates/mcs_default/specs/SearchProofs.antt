@@ -2,7 +2,7 @@
 use Rattle.std.specs.Prelude.{List}
 use Rattle.std.specs.List.{AllByRecursion-prop}
 use Rattle.std.specs.Coded.{Π_prop, le_prop, Coded-set, coded_ℕ}
-use Rattle.mcs_asked.specs.OneProof.{IsTrue-prop}
+use Rattle.mcs_base.specs.OneProof.{IsTrue-prop}
 use Rattle.mcs_system.specs.Plain.{Name, Formula, Falsity, Default, Item}
 use Rattle.mcs_system.specs.Logic.{Entails, holds, holds_all, true_names}
 use Rattle.mcs_evidence.specs.Defaults.{facts_of, defaults_of, generated}

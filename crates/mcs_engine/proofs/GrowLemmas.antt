@@ -1,5 +1,5 @@
 -- Literals that follow on a trail.
-use Rattle.std.proofs.Common.{◌≡◌, ℕ, suc, ◌+◌, ◌^◌, ◌<◌, ◌≤◌, List, [], ◌∷◌, ◌++◌, ◌⊎◌, inl, inr, sym, ap, ◌∙◌, subst, arith, ℤ, neg_ℤ, unsigned_abs, length, length-append, Some, slice_get, append-nil, append_assoc, w64, to_z, of_z, to_z-of_z}
+use Rattle.std.proofs.Common.{◌≡◌, ℕ, suc, ◌+◌, ◌^◌, ◌<◌, ◌≤◌, List, [], ◌∷◌, ◌++◌, ◌⊎◌, inl, inr, sym, ap, ◌∙◌, subst, arith, ℤ, neg_ℤ, unsigned_abs, length, length-append, Some, slice_get, append-nil, append_assoc}
 use Rattle.std.specs.List.{AllByRecursion}
 use Rattle.std.proofs.lemmas.Bool.{cases_lt}
 use Rattle.std.proofs.lemmas.List.{length_push}
@@ -8,7 +8,6 @@ use Rattle.mcs_base.proofs.Each.{all_among, all_append, all_get}
 use Rattle.mcs_base.proofs.Numbers.{unsigned_abs-neg_ℤ}
 use Rattle.mcs_trace.specs.Clauses.{IsClause, IsLiteral}
 use Rattle.mcs_trace.specs.Traces.{numbered_clause}
-use Rattle.mcs_trace.proofs.OrderLemmas.{fits_literal}
 use Rattle.mcs_engine.specs.declared.trail.Entry.{Entry}
 use Rattle.mcs_engine.specs.declared.trail.Trail.{Trail}
 use Rattle.mcs_engine.specs.Trails.{AreCovered, AreExplained, ArePlaced, GrowsOnLevel, IsOn, IsClauseSatisfied, IsTrail}
@@ -37,9 +36,6 @@ pub entry-grown : (level : ℕ) (es es' : List Entry) (i : ℕ) → GrowsOnLevel
 entry-grown level es es' i (more, e, all) less = ap (λ (xs : List Entry). entry_at xs i) e ∙ entry-old es more i less
 
 -- ---- what a clause of the trail has
-pub read_literal : (l : ℤ) → IsLiteral l → to_z w64 (of_z w64 l) ≡ l
-read_literal l is = to_z-of_z (fits_literal l is)
-
 pub neg_literal : (l : ℤ) → IsLiteral l → IsLiteral (neg_ℤ l)
 neg_literal l is = subst (λ (n : ℕ). (0 < n) × (n < 2 ^ 63)) (sym (unsigned_abs-neg_ℤ l)) is
 

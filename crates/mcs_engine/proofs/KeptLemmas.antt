@@ -5,6 +5,7 @@ use Rattle.std.proofs.lemmas.Option.{slice_get_within}
 use Rattle.mcs_base.proofs.Lists.{slice_get_push_at, slice_get_take}
 use Rattle.mcs_base.proofs.Numbers.{unsigned_abs-neg_ℤ}
 use Rattle.mcs_trace.specs.Clauses.{IsLiteral}
+use Rattle.mcs_trace.proofs.OrderLemmas.{read_literal}
 use Rattle.mcs_engine.specs.declared.state.Kept.{Kept}
 use Rattle.mcs_engine.specs.declared.state.Reach.{Reach}
 use Rattle.mcs_engine.specs.declared.trail.Entry.{Entry}
@@ -13,7 +14,7 @@ use Rattle.mcs_engine.specs.declared.watches.Watches.{Watches}
 use Rattle.mcs_engine.specs.Pairs.{no_pair}
 use Rattle.mcs_engine.specs.Trails.{ArePlaced, GrowsOnLevel, IsOn, IsOnBelow, StandsAt, StandsNowhere, literal_at}
 use Rattle.mcs_engine.specs.Watching.{AreMoved, AreSpared, AreUnwatched, IsFreshPair, AreVisitsKept, IsLong, IsOf, IsReached}
-use Rattle.mcs_engine.proofs.GrowLemmas.{entry-grown, neg_literal, on-grown, read_literal}
+use Rattle.mcs_engine.proofs.GrowLemmas.{entry-grown, neg_literal, on-grown}
 use Rattle.mcs_engine.proofs.TrailLemmas.{entry-back, entry-old, on_below, same_place}
 use Rattle.mcs_engine.proofs.WatchLemmas.{below_end}
 

@@ -2,7 +2,7 @@
 use Rattle.std.proofs.Common.{◌≡◌, ℕ, zero, suc, ◌+◌, ◌<◌, ◌^◌, Bool, true, false, List, [], ◌∷◌, ◌++◌, map, length, Some, None, slice_get, IsTrue, refl, sym, ap, ◌∙◌, subst, inl, inr, arith, true≢false}
 use Rattle.std.specs.List.{AllByRecursion}
 use Rattle.std.specs.Cmp.{both_ways}
-use Rattle.std.proofs.lemmas.Bool.Decides.{nat_tests}
+use Rattle.std.proofs.lemmas.Bool.Decides.{nat_tests, same_from_decides}
 use Rattle.std.proofs.lemmas.Option.{slice_get_within}
 use Rattle.mcs_sets.specs.Sets.{has, minus, members}
 use Rattle.mcs_sets.proofs.SetLemmas.{same_set, has-minus, has-such_that, members_below}
@@ -181,3 +181,18 @@ defaults_sound names items beliefs outputs verdicts over over_beliefs accepted =
   where
     small : (set : ℕ) (v : Verdict) → slice_get verdicts set ≡ Some v → set < 2 ^ length (defaults_of items)
     small set v is = subst (λ (n : ℕ). set < n) accepted.one_each (slice_get_within verdicts set v is)
+
+-- ---- what one verdict shows
+-- no two views
+pub shows_once : (names : List Name) (items : List Item) (beliefs : List Formula) (set : ℕ) (v : Verdict) (p q : ℕ) → ShowsView names items beliefs set v p → ShowsView names items beliefs set v q → p ≡ q
+shows_once names items beliefs set (Fails a) p q h h' = absurd h
+shows_once names items beliefs set (Applied n pre justs) p q h h' = absurd h
+shows_once names items beliefs set (Ungrounded closed pres) p q h h' = absurd h
+shows_once names items beliefs set (Extension order pres justs outside outputs) p q h h' = same_set p q (λ k. same_from_decides {P = has q k ≡ true} (has p k) (has q k)
+    (λ is. (h'.shown.exactly k).1 ((h.shown.exactly k).0 is), λ is. (h.shown.exactly k).1 ((h'.shown.exactly k).0 is)) (λ is. is, λ is. is))
+
+pub shows_accepted : (names : List Name) (items : List Item) (beliefs : List Formula) (set : ℕ) (v : Verdict) (p : ℕ) → ShowsView names items beliefs set v p → IsAcceptedVerdict names items beliefs set v
+shows_accepted names items beliefs set (Fails a) p h = absurd h
+shows_accepted names items beliefs set (Applied n pre justs) p h = absurd h
+shows_accepted names items beliefs set (Ungrounded closed pres) p h = absurd h
+shows_accepted names items beliefs set (Extension order pres justs outside outputs) p h = (p, h)

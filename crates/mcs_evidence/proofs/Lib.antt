@@ -12,3 +12,4 @@ pub mod TheorySizes
 pub mod Extensions
 pub mod DefaultCertificates
 pub mod DefaultListing
+pub mod Picked

@@ -1,10 +1,10 @@
 -- How large the formulas of a program are, where its rules are small and few.
 use Rattle.std.proofs.Common.{◌≡◌, ℕ, ◌+◌, ◌*◌, ◌≤◌, Bool, true, false, cond, not, List, [], ◌∷◌, ◌++◌, map, filter, length, subst, arith}
 use Rattle.std.proofs.lemmas.List.{length-map}
-use Rattle.std.proofs.lemmas.List.Sums.{length-filter, count_by-le-length}
 use Rattle.std.specs.List.{AllByRecursion, filter_map, list_any}
 use Rattle.mcs_sets.specs.Sets.{has}
 use Rattle.mcs_base.proofs.Each.{all_filter, all_map, all_from_among}
+use Rattle.mcs_base.proofs.Sums.{few_kept}
 use Rattle.mcs_system.specs.Plain.{Name, Formula, Atom, Not, And, Or, ProgramRule}
 use Rattle.mcs_system.specs.Seen.{formula_size}
 use Rattle.mcs_system.specs.Logic.{is_in, true_names, without_negation, reduct, fact_of}
@@ -77,9 +77,6 @@ images_size : (f : ProgramRule → Formula) (most : ℕ) → ((r : ProgramRule) 
 images_size f most each rules small =
     let all = all_map f IsSmallRule (λ (g : Formula). formula_size g ≤ most) each rules small in
     subst (λ (n : ℕ). sizes (map f rules) ≤ n * most) (length-map rules f) (sizes_up_to most (map f rules) all)
-
-few_kept : {A : Type 0} (p : A → Bool) (xs : List A) → length (filter p xs) ≤ length xs
-few_kept p xs = omega (arith, length-filter p xs, count_by-le-length p xs)
 
 -- the rules of added heads
 pub added_rules : (fs : List Formula) → AllByRecursion IsSmallRule (filter_map fact_of fs) × (length (filter_map fact_of fs) ≤ length fs)

@@ -12,7 +12,7 @@ use Rattle.mcs_evidence.specs.Defaults.{facts_of, defaults_of, defaults_at, defa
 use Rattle.mcs_evidence.proofs.DefaultLemmas.{by_kind, generated_each}
 
 -- ---- the defaults of a set
-as_many_at : (k : ℕ) (ds : List Default) (set : ℕ) → length (defaults_at k ds set) ≡ length (members_from k (length ds) set)
+pub as_many_at : (k : ℕ) (ds : List Default) (set : ℕ) → length (defaults_at k ds set) ≡ length (members_from k (length ds) set)
 unfolding members_from
 as_many_at k [] set = refl
 as_many_at k (d ∷ ds) set = at (has set k) (as_many_at (k + 1) ds set)

@@ -1,32 +1,15 @@
 -- Verdicts on sets of defaults, one after the other.
-use Rattle.std.proofs.Common.{◌≡◌, ℕ, ◌^◌, true, List, [], ◌∷◌, ◌++◌, length, sym, ◌∙◌, subst, ◌⊎◌, ◌↔◌, inl, inr, Some, slice_get}
-use Rattle.std.proofs.lemmas.Bool.Decides.{same_from_decides}
+use Rattle.std.proofs.Common.{◌≡◌, ℕ, ◌^◌, List, [], ◌∷◌, ◌++◌, length, sym, ◌∙◌, subst, ◌⊎◌, ◌↔◌, inl, inr, Some, slice_get}
 use Rattle.std.proofs.lemmas.Option.{none-some}
-use Rattle.mcs_sets.specs.Sets.{has}
 use Rattle.mcs_sets.specs.Orders.{StateBefore}
-use Rattle.mcs_sets.proofs.SetLemmas.{same_set}
 use Rattle.mcs_base.specs.Listings.{IsAmong, IsListing}
 use Rattle.mcs_base.proofs.Among.{among_push}
 use Rattle.mcs_base.proofs.Lists.{slice_get_kept, slice_get_push_at, slice_get_seam}
 use Rattle.mcs_system.specs.Plain.{Name, Formula, Item}
-use Rattle.mcs_evidence.specs.Defaults.{Verdict, Fails, Applied, Ungrounded, Extension, defaults_of, IsAcceptedVerdict, ShowsView, IsAcceptedDefault}
+use Rattle.mcs_evidence.specs.Defaults.{Verdict, defaults_of, IsAcceptedVerdict, ShowsView, IsAcceptedDefault}
+use Rattle.mcs_evidence.proofs.DefaultCertificates.{shows_once, shows_accepted}
 use Rattle.mcs_extensions.specs.Checks.{IsVerdictJudged}
 use Rattle.mcs_extensions.specs.declared.verdict.Judged.TheVariants as variants
-
--- a verdict shows no two views
-pub shows_once : (names : List Name) (items : List Item) (beliefs : List Formula) (set : ℕ) (v : Verdict) (p q : ℕ) → ShowsView names items beliefs set v p → ShowsView names items beliefs set v q → p ≡ q
-shows_once names items beliefs set (Fails a) p q h h' = absurd h
-shows_once names items beliefs set (Applied n pre justs) p q h h' = absurd h
-shows_once names items beliefs set (Ungrounded closed pres) p q h h' = absurd h
-shows_once names items beliefs set (Extension order pres justs outside outputs) p q h h' = same_set p q (λ k. same_from_decides {P = has q k ≡ true} (has p k) (has q k)
-    (λ is. (h'.shown.exactly k).1 ((h.shown.exactly k).0 is), λ is. (h.shown.exactly k).1 ((h'.shown.exactly k).0 is)) (λ is. is, λ is. is))
-
--- a verdict that shows a view is accepted
-pub shows_accepted : (names : List Name) (items : List Item) (beliefs : List Formula) (set : ℕ) (v : Verdict) (p : ℕ) → ShowsView names items beliefs set v p → IsAcceptedVerdict names items beliefs set v
-shows_accepted names items beliefs set (Fails a) p h = absurd h
-shows_accepted names items beliefs set (Applied n pre justs) p h = absurd h
-shows_accepted names items beliefs set (Ungrounded closed pres) p h = absurd h
-shows_accepted names items beliefs set (Extension order pres justs outside outputs) p h = (p, h)
 
 -- ---- so far
 module _ (names : List Name) (items : List Item) (beliefs : List Formula) where

@@ -1,6 +1,5 @@
 -- How many questions there are.
-use Rattle.std.proofs.Common.{◌≡◌, ℕ, ◌+◌, ◌<◌, ◌^◌, ◌≤◌, List, [], ◌∷◌, length, map, Some, slice_get, sym, ap, ◌∙◌, subst, inl, inr, ◌⊎◌, arith}
-use Rattle.std.proofs.lemmas.Bool.{cases_eq, cases_lt}
+use Rattle.std.proofs.Common.{◌≡◌, ℕ, ◌+◌, ◌<◌, ◌^◌, ◌≤◌, List, [], ◌∷◌, length, map, Some, slice_get, sym, ap, ◌∙◌, subst, inl, inr, arith}
 use Rattle.std.proofs.lemmas.List.{length-map}
 use Rattle.std.specs.List.{range_with_len, sum_by}
 use Rattle.mcs_sets.specs.Sets.{size, single, union, members, Within}
@@ -10,7 +9,7 @@ use Rattle.mcs_system.specs.Imports.{rules_into, IsQuestionAfter, IsPossibleFrom
 use Rattle.mcs_system.specs.Levels.{IsQuestionAt, AreQuestions, AreSomeQuestions, HasQuestions, rule_set_count}
 use Rattle.mcs_base.proofs.Among.{among_left, among_right}
 use Rattle.mcs_base.proofs.Distinct.{distinct_fits, ascending_distinct}
-use Rattle.mcs_base.proofs.ListingLemmas.{listing_with_one, IsListing-same}
+use Rattle.mcs_base.proofs.ListingLemmas.{IsListing-same, listing_of_numbers}
 use Rattle.mcs_base.proofs.Lists.{map_slice_get}
 use Rattle.mcs_base.proofs.Numbered.{with_some, length-with_some, sum_by_bounded, sum_by_smaller}
 use Rattle.mcs_sets.proofs.Lattice.{none-union}
@@ -83,24 +82,16 @@ count_is_one m level n k a b =
     let down : k ≤ n = (counts_agree m level n k a).0 ((counts_agree m level k k b).1 (omega arith)) in
     omega (arith, up, down)
 
--- a list in order
-in_order : (xs : List ℕ) → (ys : List ℕ) × IsListing (λ x. IsAmong x xs) (λ a b. a < b) ys
-in_order [] = ([], record { exactly = λ x. (λ h. h, λ h. h); ascending = tt })
-in_order (x ∷ xs) = let (ys, listing) = in_order xs in listing_with_one (λ (a b : ℕ). a < b) (λ a b c h k. omega (arith, h, k)) total (λ z. IsAmong z xs) x ys listing
-  where
-    total : (a b : ℕ) → (a ≡ b) ⊎ ((a < b) ⊎ (b < a))
-    total a b = elim (cases_lt a b) [ inl less ↦ inr (inl less) | inr most ↦ elim (cases_eq a b) [ inl same ↦ inl same | inr differ ↦ inr (inr (omega (arith, most, differ))) ] ]
-
 abbrev all_in_order : List (List ℕ) → List (List ℕ)
-all_in_order journals = map (λ (xs : List ℕ). (in_order xs).0) journals
+all_in_order journals = map (λ (xs : List ℕ). (listing_of_numbers xs).0) journals
 
 questions_in_order : (m : System) (level : ℕ) (journals : List (List ℕ)) → length journals ≡ length m.contexts
     → ((i : ℕ) (xs : List ℕ) → slice_get journals i ≡ Some xs → IsInventory (IsQuestionAt m level i) xs) → AreQuestions m level (all_in_order journals)
 questions_in_order m level journals one_each asked = record {
-  one_each = length-map journals (λ (xs : List ℕ). (in_order xs).0) ∙ one_each;
+  one_each = length-map journals (λ (xs : List ℕ). (listing_of_numbers xs).0) ∙ one_each;
   listed = λ i ys is.
-      let (xs, at, same) = map_slice_get (λ (xs : List ℕ). (in_order xs).0) journals i ys is in
-      subst (IsListing (IsQuestionAt m level i) (λ a b. a < b)) same (IsListing-same (λ (a b : ℕ). a < b) (λ x. IsAmong x xs) (IsQuestionAt m level i) (in_order xs).0 (asked i xs at).exactly (in_order xs).1);
+      let (xs, at, same) = map_slice_get (λ (xs : List ℕ). (listing_of_numbers xs).0) journals i ys is in
+      subst (IsListing (IsQuestionAt m level i) (λ a b. a < b)) same (IsListing-same (λ (a b : ℕ). a < b) (λ x. IsAmong x xs) (IsQuestionAt m level i) (listing_of_numbers xs).0 (asked i xs at).exactly (listing_of_numbers xs).1);
 }
 
 pub journals_counted : JournalsAreCounted

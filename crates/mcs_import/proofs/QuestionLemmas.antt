@@ -12,17 +12,16 @@ use Rattle.mcs_base.proofs.ListingLemmas.{IsListing-same}
 use Rattle.mcs_system.specs.Plain.{Read, Bridge, System}
 use Rattle.mcs_system.specs.Systems.{is_of_context, variables, variables_of, all_variables, all_rules, applicable, applies_among, believed_among, IsAcceptedPart}
 use Rattle.mcs_system.specs.Rows.{inputs_of, is_read_into}
-use Rattle.mcs_system.specs.Imports.{imports, before_in, supplied, rules_into, marks_at, FollowsOrder, IsImportOrder, IsQuestionAfter, IsPossibleFrom, IsQuestion, IsPossible}
+use Rattle.mcs_system.specs.Imports.{imports, before_in, supplied, rules_into, marks_at, IsImportOrder, IsQuestionAfter, IsPossibleFrom, IsQuestion, IsPossible}
 use Rattle.mcs_system.specs.Levels.{IsQuestionAt, MaySupply}
 use Rattle.mcs_system.specs.Repairs.{marks_of, allowed_marks}
 use Rattle.mcs_system.proofs.MarkParts.{marks_within}
 use Rattle.mcs_system.proofs.MarkLemmas.{size-marks_of}
 use Rattle.mcs_base.proofs.Among.{among_left, among_right, filter_among, among_filter, among_reverse, among_map, map_among, all_same}
 use Rattle.mcs_base.proofs.Lists.{reverse-append_middle}
-use Rattle.mcs_base.proofs.Distinct.{distinct_filter}
 use Rattle.mcs_base.proofs.Each.{all_from_among}
 use Rattle.std.specs.List.{AllByRecursion}
-use Rattle.mcs_system.proofs.ContextSets.{before_among, rule_there, rules_into_known, variable_there, same_believed}
+use Rattle.mcs_system.proofs.ContextSets.{rule_there, rules_into_known, variable_there, same_believed, follows_apart, before_apart, supplied_apart}
 use Rattle.mcs_system.proofs.VariableLemmas.{has-applicable, has-inputs_of, has-variables_of}
 use Rattle.mcs_import.specs.Plans.{variables_of_all, guessed, AreSupplies}
 use Rattle.mcs_import.specs.States.{Joins, SomeJoins, SomeGrows, IsAskedInState}
@@ -31,26 +30,6 @@ use Rattle.mcs_import.proofs.OrderLemmas.{import_order_is_one}
 use Rattle.mcs_import.proofs.StateLemmas.{states_found}
 
 -- ---- the order has each context once
-
-follows_untaken : (m : System) (taken xs : List ℕ) → FollowsOrder m taken xs → (k : ℕ) → IsAmong k xs → ¬ IsAmong k taken
-follows_untaken m taken [] h k among t = among
-follows_untaken m taken (x ∷ xs) h k (inl e) t = h.0.ready.untaken (subst (λ (z : ℕ). IsAmong z taken) e t)
-follows_untaken m taken (x ∷ xs) h k (inr later) t = follows_untaken m (taken ++ x ∷ []) xs h.1 k later (among_left k taken (x ∷ []) t)
-
-follows_apart : (m : System) (taken xs : List ℕ) → FollowsOrder m taken xs → AreApart xs
-follows_apart m taken [] h = tt
-follows_apart m taken (x ∷ xs) h = (λ later. follows_untaken m (taken ++ x ∷ []) xs h.1 x later (among_right x taken (x ∷ []) (inl refl)), follows_apart m (taken ++ x ∷ []) xs h.1)
-
-before_apart : (xs : List ℕ) (i : ℕ) → AreApart xs → AreApart (before_in xs i)
-before_apart [] i h = tt
-before_apart (x ∷ xs) i h = at (eqb x i) (before_apart xs i h.1)
-  where
-    at : (v : Bool) → AreApart (before_in xs i) → AreApart (cond v [] (x ∷ before_in xs i))
-    at true rest = tt
-    at false rest = (λ among. h.0 (before_among x i xs among), rest)
-
-supplied_apart : (m : System) (order : List ℕ) (i : ℕ) → IsImportOrder m order → AreApart (supplied m order i)
-supplied_apart m order i h = distinct_filter (imports m i) (before_in order i) (before_apart order i (follows_apart m [] order h))
 
 split_before : (xs : List ℕ) (i j : ℕ) → IsAmong j (before_in xs i) → (later : List ℕ) × (before_in xs i ≡ before_in xs j ++ j ∷ later)
 split_before [] i j among = absurd among

@@ -3,8 +3,7 @@ use Rattle.std.proofs.Common.{◌≡◌, ℕ, Bool, true, false, cond, true≢fa
 use Rattle.std.proofs.lemmas.Bool.{false_from_ne_true}
 use Rattle.std.specs.List.{AllByRecursion, AllZip}
 use Rattle.mcs_sets.specs.Sets.{has, single}
-use Rattle.mcs_sets.proofs.SetLemmas.{has-empty}
-use Rattle.mcs_sets.proofs.Lattice.{has-single_itself, only_member}
+use Rattle.mcs_sets.proofs.Lattice.{has-single_itself, only_member, has-single_if}
 use Rattle.mcs_base.specs.Listings.{IsAmong}
 use Rattle.mcs_base.specs.Partials.{PartialState, Fits}
 use Rattle.mcs_base.proofs.Among.{among_at, place_among}
@@ -54,11 +53,6 @@ module _ (s : PartialState) where
   pub narrowed_apart : (ts us : List TableData) → AllZip (IsNarrowed s) ts us → EachApart ts → EachApart us
   narrowed_apart ts us all = apart_fewer ts us (zip_weaker (IsNarrowed s) (λ (t u : TableData). (p : Row) → IsAmong p u.rows → IsAmong p t.rows) (narrowed_among s) ts us all)
 
--- what has a value in the state that gives one variable a value
-valued_at : (v : ℕ) (b : Bool) → has (cond b (single v) 0) v ≡ b
-valued_at v true = has-single_itself v
-valued_at v false = has-empty v
-
 module _ (level : ℕ) (ts us : List TableData) (are : AllByRecursion IsTable ts) (v : ℕ) (in_scope : has (union_of (λ (t : TableData). t.scope) ts) v ≡ true) (b : Bool) (all : AllZip (IsNarrowed (valued v b)) ts us) where
   -- some part of a joint row speaks of the variable
   speaks : (r : Row) (joint : IsJointRow level ts r) → (p : Row) × IsAmong p joint.parts × (has p.state.mask v ≡ true)
@@ -75,7 +69,7 @@ module _ (level : ℕ) (ts us : List TableData) (are : AllByRecursion IsTable ts
       let (of, fit) = parts_from (valued v b) ts us all joint.parts joint.of_tables in
       let before : IsJointRow level ts r = record { parts = joint.parts; of_tables = of; fit = joint.fit; is = joint.is; few = joint.few } in
       let (p, among, is) = speaks r before in
-      (before, sym (part_same level ts are r before p among v is) ∙ (all_among (λ (q : Row). Fits q.state (valued v b)) joint.parts p fit among v is (has-single_itself v) ∙ valued_at v b))
+      (before, sym (part_same level ts are r before p among v is) ∙ (all_among (λ (q : Row). Fits q.state (valued v b)) joint.parts p fit among v is (has-single_itself v) ∙ has-single_if v b))
 
   to_narrowed : (r : Row) → IsJointRow level ts r → has r.state.values v ≡ b → IsJointRow level us r
   to_narrowed r joint is = record {
@@ -89,7 +83,7 @@ module _ (level : ℕ) (ts us : List TableData) (are : AllByRecursion IsTable ts
       fits : (p : Row) → IsAmong p joint.parts → Fits p.state (valued v b)
       fits p among w in_mask in_single =
           let same : w ≡ v = only_member (single v) v refl w in_single in
-          part_same level ts are r joint p among w in_mask ∙ (ap (has r.state.values) same ∙ (is ∙ (sym (valued_at v b) ∙ ap (has (cond b (single v) 0)) (sym same))))
+          part_same level ts are r joint p among w in_mask ∙ (ap (has r.state.values) same ∙ (is ∙ (sym (has-single_if v b) ∙ ap (has (cond b (single v) 0)) (sym same))))
 
   pub narrowed_joint : (r : Row) → IsJointRow level us r ↔ (IsJointRow level ts r × (has r.state.values v ≡ b))
   narrowed_joint r = (from_narrowed r, λ h. to_narrowed r h.0 h.1)

@@ -1,12 +1,10 @@
 -- How many there are of the defaults of a set and of their justifications, and places as sets.
-use Rattle.std.proofs.Common.{◌≡◌, ℕ, ◌+◌, ◌-◌, ◌<◌, ◌≤◌, ◌^◌, zero, suc, Bool, true, false, nat_lt, nat_eq, ltb, List, [], ◌∷◌, ◌++◌, map, length, slice_index, Some, refl, sym, ap, ◌∙◌, subst, arith}
-use Rattle.std.proofs.lemmas.Bool.Decides.{nat_tests}
+use Rattle.std.proofs.Common.{◌≡◌, ℕ, ◌+◌, ◌-◌, ◌<◌, ◌^◌, zero, suc, List, [], ◌∷◌, ◌++◌, map, length, slice_index, Some, sym, ap, ◌∙◌, subst, arith}
 use Rattle.std.proofs.lemmas.List.{length-map, length-append}
-use Rattle.std.proofs.lemmas.Nat.Bits.{bit_at_ones, bit_at_ones_above}
 use Rattle.std.proofs.lemmas.Option.{none-some}
 use Rattle.std.specs.List.{AllByRecursion}
-use Rattle.mcs_sets.specs.Sets.{has, members, size, such_that}
-use Rattle.mcs_sets.proofs.SetLemmas.{members_below, has-such_that, same_set}
+use Rattle.mcs_sets.specs.Sets.{members, size}
+use Rattle.mcs_sets.proofs.SetLemmas.{members_below}
 use Rattle.mcs_base.proofs.Each.{all_from_among}
 use Rattle.mcs_system.specs.Plain.{Formula, Default, Item, Not}
 use Rattle.mcs_system.specs.Seen.{default_of}
@@ -48,23 +46,6 @@ as_many_goals f xs items justs s goals are small =
 -- and as many justifications as are counted
 pub as_many_justs : (xs : List Default) (items : List Item) (justs : List ℕ) (s : ℕ) → xs ≡ defaults_in items s → justs ≡ map justs_in (defaults_of items) → s < 2 ^ length justs → length (negated_justs xs) ≡ just_total justs (members s)
 as_many_justs xs items justs s are counts small = ap (λ (ds : List Default). length (negated_justs ds)) are ∙ total_justs (defaults_of items) justs counts s small
-
--- ---- all places
-pub all_places_are : (n : ℕ) → 2 ^ n - 1 ≡ such_that n (λ k. true)
-unfolding has
-all_places_are n = same_set (2 ^ n - 1) (such_that n (λ k. true)) (λ k. by k (nat_lt k n) refl)
-  where
-    by : (k : ℕ) (b : Bool) → nat_lt k n ≡ b → has (2 ^ n - 1) k ≡ has (such_that n (λ j. true)) k
-    by k true e =
-        let less : k < n = grind (arith, nat_tests) in
-        let test : ltb k n ≡ true = grind (arith, nat_tests) in
-        let inside : has (such_that n (λ j. true)) k ≡ true = has-such_that n (λ j. true) k ∙ rw test refl in
-        ap (λ (v : ℕ). nat_eq v 1) (bit_at_ones n k less) ∙ sym inside
-    by k false e =
-        let past : n ≤ k = grind (arith, nat_tests) in
-        let test : ltb k n ≡ false = grind (arith, nat_tests) in
-        let outside : has (such_that n (λ j. true)) k ≡ false = has-such_that n (λ j. true) k ∙ rw test refl in
-        ap (λ (v : ℕ). nat_eq v 1) (bit_at_ones_above n k past) ∙ sym outside
 
 -- ---- the numbers of a set's members are those of defaults
 pub numbers_within : (set : ℕ) (justs ns : List ℕ) → set < 2 ^ length justs → AreNumbersOf set ns → AllByRecursion (IsNumberOf justs) ns

@@ -6,6 +6,7 @@ use Rattle.std.specs.declared.alloc.Global.{Global}
 use Rattle.mcs_sets.specs.Orders.{StateBefore}
 use Rattle.mcs_base.specs.Listings.{IsAscending}
 use Rattle.mcs_base.proofs.Lists.{zip_push}
+use Rattle.mcs_base.proofs.Zipped.{not_among}
 use Rattle.mcs_system.specs.Plain.{Name, Formula, ProgramRule}
 use Rattle.mcs_system.specs.Logic.{holds_all, true_names, Atoms}
 use Rattle.mcs_system.specs.Views.{Shows}
@@ -118,13 +119,6 @@ pub record AreShownSoFar {A V : Type 0} (p : At → Reading A) (Shown : V → A 
 pub none_shown : {A V : Type 0} (p : At → Reading A) (Shown : V → A → Type 0) (count : ℕ) (start : At) (vs : List V) → vs ≡ [] → AreShownSoFar p Shown count count start start vs
 unfolding none_so_far
 none_shown p Shown count start vs e = record { so_far = none_so_far p count start; shown = subst (λ ws. AllZip Shown ws []) (sym e) tt }
-
--- one that shows nothing is among them
-not_among : {A V : Type 0} (Shown : V → A → Type 0) (front : List A) (x : A) (rest : List A) → ((v : V) → ¬ Shown v x) → (vs : List V) → ¬ AllZip Shown vs ((front ++ x ∷ []) ++ rest)
-not_among Shown [] x rest none [] h = absurd h
-not_among Shown [] x rest none (v ∷ vs) h = none v h.0
-not_among Shown (y ∷ front) x rest none [] h = absurd h
-not_among Shown (y ∷ front) x rest none (v ∷ vs) h = not_among Shown front x rest none vs h.1
 
 module _ {A : Type 0} (p : At → Reading A) (count left : ℕ) (start at : At) (h : AreReadSoFar p count left start at) where
   pub read_all : left ≤ 0 → many_at p count start ≡ Ok (h.values, at)

@@ -6,6 +6,7 @@ use Rattle.mcs_sets.specs.Sets.{has, single, union}
 use Rattle.mcs_sets.proofs.Lattice.{in_with}
 use Rattle.mcs_base.proofs.Lists.{slice_get_kept, slice_get_push_at, slice_get_seam, zip_push}
 use Rattle.mcs_base.proofs.Mapped.{map-take_read}
+use Rattle.mcs_base.proofs.Zipped.{zip_pop}
 use Rattle.mcs_system.specs.Plain.{Name, Formula}
 use Rattle.mcs_cnf.specs.Entailments.{Entailment, says_yes, IsAcceptedEntailment, IsModelAt}
 use Rattle.mcs_cnf.specs.Classical.{HasYes}
@@ -18,16 +19,6 @@ use Rattle.mcs_steps.specs.Judging.{IsJudged}
 use Rattle.mcs_judging.specs.Judging.{IsTold, ArePlacesShown, with_yes, IsToldOn}
 use Rattle.mcs_judging.specs.declared.entailments.Told as code
 use Rattle.mcs_judging.proofs.Readings.{yes_says, no_says}
-
--- ---- lists that go together, without their last items
-module _ {A B : Type 0} (R : A → B → Type 0) where
-  pub zip_pop : (xs : List A) (ys : List B) (x : A) (y : B) → AllZip R (xs ++ x ∷ []) (ys ++ y ∷ []) → AllZip R xs ys × R x y
-  zip_pop [] [] x y all = (tt, all.0)
-  zip_pop [] (z ∷ []) x y all = absurd all.1
-  zip_pop [] (z ∷ w ∷ zs) x y all = absurd all.1
-  zip_pop (v ∷ []) [] x y all = absurd all.1
-  zip_pop (v ∷ w ∷ ws) [] x y all = absurd all.1
-  zip_pop (w ∷ ws) (z ∷ zs) x y all = let rest = zip_pop ws zs x y all.1 in ((all.0, rest.0), rest.1)
 
 -- ---- so many that were read, one for each of the first items, and whether each is right
 pub record AreJudgedSoFar {X : Type 0} (p : At → Reading Entailment) (R : Formula → Entailment → Type 0) (f : X → Formula) (xs : List X) (start at : At) (i : ℕ) (told : Bool) : Type 0 where

@@ -1,5 +1,5 @@
 -- Questions of growing levels, and the questions that a choice asks.
-use Rattle.std.proofs.Common.{◌≡◌, ℕ, ◌+◌, ◌*◌, ◌<◌, ◌≤◌, Bool, true, false, ◌&&◌, eqb, ltb, suc, List, [], ◌∷◌, length, reverse, Some, refl, sym, ap, ◌∙◌, subst, inl, inr, ◌⊎◌, arith, slice_get}
+use Rattle.std.proofs.Common.{◌≡◌, ℕ, ◌+◌, ◌*◌, ◌<◌, ◌≤◌, Bool, true, false, ◌&&◌, eqb, ltb, suc, List, [], ◌∷◌, length, reverse, Some, refl, sym, ap, ◌∙◌, subst, inl, inr, ◌⊎◌, arith, slice_get, zero, ◌-◌}
 use Rattle.std.proofs.lemmas.Bool.{and_parts}
 use Rattle.std.proofs.lemmas.Bool.Decides.{nat_tests}
 use mathlib.Core.List.{reverse_aux}
@@ -12,13 +12,14 @@ use Rattle.mcs_system.specs.Logic.{Accepts, with_heads}
 use Rattle.mcs_system.specs.Systems.{all_rules, variables_of, applicable, heads_from, heads_into, IsAcceptedPart}
 use Rattle.mcs_system.specs.Faults.{IsValid}
 use Rattle.mcs_system.specs.Repairs.{mark_of, IsChoice, choice_marks}
-use Rattle.mcs_system.specs.Imports.{before_in, rules_into, marks_at, IsQuestionAfter, IsPossibleFrom}
+use Rattle.mcs_system.specs.Imports.{before_in, rules_into, marks_at, IsQuestionAfter, IsPossibleFrom, IsQuestion}
 use Rattle.mcs_system.proofs.MarkLemmas.{has-all_rules, has-marks_of, mark-even, mark-odd, by_parity, marks_small, marks_known}
 use Rattle.mcs_base.proofs.Lists.{slice_get_below}
 use Rattle.mcs_system.proofs.ValidLemmas.{target_in_range}
 use Rattle.mcs_system.proofs.VariableLemmas.{has-rules_into}
 use Rattle.mcs_laws.specs.Laws.{QuestionsGrow, ChoicesAskQuestions, ChoicesHaveRows, MarksAreUnited, MarksAreApart}
 use Rattle.mcs_system.proofs.ContextSets.{before_among}
+use Rattle.mcs_system.specs.Levels.{IsQuestionAt}
 
 question_grows : (m : System) (level : ℕ) (cs : List ℕ) (P Q : ℕ → ℕ → Type 0) (i x : ℕ) → ((j τ : ℕ) → P j τ → Q j τ) → IsQuestionAfter m level cs P i x → IsQuestionAfter m (level + 1) cs Q i x
 question_grows m level cs P Q i x grows h = record { of_rules = h.of_rules; state = h.state; of_variables = h.of_variables; supplies = λ j among imported. grows j _ (h.supplies j among imported); allowed = h.allowed; near = (let n = h.near in omega arith) }
@@ -30,6 +31,17 @@ possible_grows m level (c ∷ cs) j τ (inr (other, h)) = inr (other, possible_g
 
 pub questions_grow : QuestionsGrow
 questions_grow m order level i x h = question_grows m level (reverse (before_in order i)) _ _ i x (possible_grows m level (reverse (before_in order i))) h
+
+pub question_after : (m : System) (order : List ℕ) (level n i x : ℕ) → IsQuestion m order level i x → IsQuestion m order (level + n) i x
+question_after m order level zero i x q = let e : level + 0 ≡ level = omega arith in subst (λ k. IsQuestion m order k i x) (sym e) q
+question_after m order level (suc n) i x q =
+    let e : level + n + 1 ≡ level + suc n = omega arith in
+    subst (λ k. IsQuestion m order k i x) e (questions_grow m order (level + n) i x (question_after m order level n i x q))
+
+pub question_higher : (m : System) (level higher i x : ℕ) → level ≤ higher → IsQuestionAt m level i x → IsQuestionAt m higher i x
+question_higher m level higher i x less (order, ordered, q) =
+    let e : level + (higher - level) ≡ higher = omega (arith, less) in
+    (order, ordered, subst (λ k. IsQuestion m order k i x) e (question_after m order level (higher - level) i x q))
 
 -- ---- the heads into a context come from the rules into it
 heads-alike : (k : ℕ) (bs : List Bridge) (i x y : ℕ) → ((j : ℕ) (b : Bridge) → slice_get bs j ≡ Some b → (has x (k + j) && eqb b.target i) ≡ (has y (k + j) && eqb b.target i)) → heads_from k bs i x ≡ heads_from k bs i y

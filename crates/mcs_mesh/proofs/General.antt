@@ -1,12 +1,10 @@
 -- What holds of lists, import orders, levels and oracles, whatever a mesh is.
-use Rattle.std.proofs.Common.{◌≡◌, ℕ, ◌+◌, ◌-◌, ◌<◌, ◌≤◌, zero, suc, nat_eq, Bool, true, false, cond, List, [], ◌∷◌, ◌++◌, take, length, get_or, sym, subst, inl, inr, arith}
+use Rattle.std.proofs.Common.{◌≡◌, ℕ, ◌<◌, zero, suc, nat_eq, Bool, true, false, cond, List, [], ◌∷◌, ◌++◌, take, length, get_or, sym, subst, inl, inr, arith}
 use Rattle.std.proofs.lemmas.Bool.Decides.{nat_tests}
 use Rattle.std.proofs.lemmas.List.{append_assoc, append-nil}
 use Rattle.mcs_base.specs.Listings.{IsAmong}
 use Rattle.mcs_system.specs.Plain.{System}
-use Rattle.mcs_system.specs.Imports.{FollowsOrder, IsQuestion, before_in}
-use Rattle.mcs_system.specs.Levels.{IsQuestionAt}
-use Rattle.mcs_laws.proofs.Questions.{questions_grow as question_grows}
+use Rattle.mcs_system.specs.Imports.{FollowsOrder, before_in}
 
 -- ---- the import order
 pub follows_apart : (m : System) (taken order : List ℕ) (k d : ℕ) → FollowsOrder m taken order → k < length order → ¬ IsAmong (get_or order k d) (taken ++ take k order)
@@ -29,13 +27,3 @@ before_taken (x ∷ rest) (suc k) d j less h = at (nat_eq x (get_or rest k d)) h
     at true none later = absurd none
     at false (inl e) later = inl e
     at false (inr h) later = inr (later h)
-
--- ---- levels grow
-pub question_after : (m : System) (order : List ℕ) (level n i x : ℕ) → IsQuestion m order level i x → IsQuestion m order (level + n) i x
-question_after m order level zero i x q = let e : level + 0 ≡ level = omega arith in subst (λ k. IsQuestion m order k i x) (sym e) q
-question_after m order level (suc n) i x q = let e : level + n + 1 ≡ level + suc n = omega arith in subst (λ k. IsQuestion m order k i x) e (question_grows m order (level + n) i x (question_after m order level n i x q))
-
-pub question_higher : (m : System) (level higher i x : ℕ) → level ≤ higher → IsQuestionAt m level i x → IsQuestionAt m higher i x
-question_higher m level higher i x less (order, ordered, q) =
-    let e : level + (higher - level) ≡ higher = omega (arith, less) in
-    (order, ordered, subst (λ k. IsQuestion m order k i x) e (question_after m order level (higher - level) i x q))

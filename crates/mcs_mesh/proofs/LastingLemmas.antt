@@ -26,7 +26,7 @@ use Rattle.mcs_table.specs.RowOrder.{RowBefore}
 use Rattle.mcs_table.specs.Tables.{TableData}
 use Rattle.mcs_node.specs.Known.{IsKnown, Knowledge}
 use Rattle.mcs_mesh.specs.Rounds.{changeable, HasFewRules}
-use Rattle.mcs_mesh.proofs.General.{question_after}
+use Rattle.mcs_laws.proofs.Questions.{question_after}
 
 -- a set of rules into a context with allowed marks has no more marks than there are rules into it that may be changed
 marks_small : (m : System) (i σ x : ℕ) → Within x (rules_into m i) → Within (marks_at m i σ x) (allowed_marks m) → size (marks_at m i σ x) ≤ size (common (rules_into m i) (changeable m))

@@ -6,7 +6,8 @@ use Rattle.mcs_base.specs.Listings.{IsAmong, AreApart, IsInventory, IsListing}
 use Rattle.mcs_base.proofs.Among.{among_push, cases_among}
 use Rattle.mcs_base.proofs.Distinct.{distinct_push}
 use Rattle.mcs_base.proofs.Lists.{map_slice_get, slice_get-map_some, slice_get_below}
-use Rattle.mcs_base.proofs.Written.{slice_get-slice_set, length-slice_set}
+use Rattle.mcs_base.proofs.Written.{slice_get-slice_set, length-slice_set, set_there}
+use Rattle.mcs_base.proofs.Results.{some_same}
 use Rattle.mcs_system.specs.Plain.{System}
 use Rattle.mcs_system.specs.Imports.{IsImportOrder}
 use Rattle.mcs_states.specs.declared.halt.Halt.{Halt}
@@ -20,10 +21,11 @@ use Rattle.mcs_node.specs.Nodes.{HasFailed, HasFinished, HasTaken, IsAbove, IsGr
 use Rattle.mcs_node.specs.Playing.{HasState, HaveStates, has_begun, has_not}
 use Rattle.mcs_node.proofs.DoneLemmas.{sound_as_listed}
 use Rattle.mcs_node.proofs.SupplyLemmas.{supplier_below}
+use Rattle.mcs_node.proofs.RuleLemmas.{sent_to}
 use Rattle.mcs_mesh.specs.Players.{AreExpected, AreNodesOf, AreSomeDelivered, FinishesOn, HasStoppedOn, HaveBegunSome, IsAmidDelivery, IsNodeOf, IsReadyRound, as_new, has_taken, is_sending, waits_on}
 use Rattle.mcs_mesh.specs.Rounds.{IsSoundRound, round_of}
-use Rattle.mcs_mesh.proofs.NodeLemmas.{set_there, still_nodes, two_at}
-use Rattle.mcs_mesh.proofs.PlayLemmas.{IsFinished, IsInPlay, IsWaiting, here_finished, letter_is, letters_expected, is_own, not_seen, now_seen, round, round_is, sent_to, states_of, supplier_seen, waits}
+use Rattle.mcs_mesh.proofs.NodeLemmas.{still_nodes}
+use Rattle.mcs_mesh.proofs.PlayLemmas.{IsFinished, IsInPlay, IsWaiting, here_finished, letter_is, letters_expected, is_own, not_seen, now_seen, round, round_is, states_of, supplier_seen, waits}
 use Rattle.mcs_mesh.proofs.TurnLemmas.{content_kept}
 
 -- ---- nodes that have begun a round
@@ -60,7 +62,7 @@ module _ (m : System) (level budget : ℕ) (before : Option ℕ) (nodes : List N
         let h = (all i d at).in_round in
         let one = own.each i d at in
         has_begun (round_is d.plan m level level d.budget budget d.before before one.plan refl one.budget_is h.before_is) h.level_is h.begun
-        (two_at (slice_get (states_of nodes) i) s d.state at' (slice_get-map_some (λ (z : NodeData). z.state) nodes i d at))
+        (some_same (slice_get (states_of nodes) i) s d.state at' (slice_get-map_some (λ (z : NodeData). z.state) nodes i d at))
 
     sound_node : (i : ℕ) (d : NodeData) → slice_get nodes i ≡ Some d → IsSoundNode (round_of m level budget before) (listed_by_node (states_of nodes)) i d.state
     sound_node i d at =
@@ -181,12 +183,12 @@ begun_moved r nodes after all long moved j z at =
 begun_set : (r : Round) (nodes : List NodeData) → HaveBegun r nodes → (i : ℕ) (d e : NodeData) → slice_get nodes i ≡ Some d → ((x : Stamp) → IsAmong x d.state.put_out → IsAmong x e.state.put_out) → HasBegun r nodes i e → HaveBegun r (slice_set nodes i e)
 begun_set r nodes all i d e at more here = begun_moved r nodes (slice_set nodes i e) all (length-slice_set nodes i e) (λ j n z there at'. elim (slice_get-slice_set nodes i j e z at') [
   | inl same ↦
-      let n_is : n ≡ d = two_at (slice_get nodes i) n d (subst (λ c. slice_get nodes c ≡ Some n) same.0 there) at in (
+      let n_is : n ≡ d = some_same (slice_get nodes i) n d (subst (λ c. slice_get nodes c ≡ Some n) same.0 there) at in (
         λ x h. subst (λ (y : NodeData). IsAmong x y.state.put_out) (sym same.1) (more x (subst (λ (y : NodeData). IsAmong x y.state.put_out) n_is h)),
         subst (λ c. HasBegun r nodes c z) (sym same.0) (subst (λ (y : NodeData). HasBegun r nodes i y) (sym same.1) here),
       )
   | inr other ↦
-      let z_is : n ≡ z = two_at (slice_get nodes j) n z there other.1 in
+      let z_is : n ≡ z = some_same (slice_get nodes j) n z there other.1 in
       (λ x h. subst (λ (y : NodeData). IsAmong x y.state.put_out) z_is h, all j z other.1)
 ])
 
@@ -240,7 +242,7 @@ module _ (m : System) (level budget : ℕ) (before : Option ℕ) (nodes : List N
   -- an addressee has had its letter
   module _ (l : LetterData) (among : IsAmong l x.sender.outbox) (j : ℕ) (to : l.to ≡ j) (n : NodeData) (at : slice_get nodes j ≡ Some n) where
     n_is : (x.each l among).node ≡ n
-    n_is = two_at (slice_get nodes j) (x.each l among).node n (subst (λ c. slice_get nodes c ≡ Some (x.each l among).node) to (x.each l among).is_its) at
+    n_is = some_same (slice_get nodes j) (x.each l among).node n (subst (λ c. slice_get nodes c ≡ Some (x.each l among).node) to (x.each l among).is_its) at
 
     waits_there : Waits n.state
     waits_there = subst (λ (z : NodeData). Waits z.state) n_is (wait l among)
@@ -249,7 +251,7 @@ module _ (m : System) (level budget : ℕ) (before : Option ℕ) (nodes : List N
     one = own_nodes.each j n at
 
     level_same : l.level ≡ level
-    level_same = two_at n.level l.level level (subst (λ (z : NodeData). z.level ≡ Some l.level) n_is (x.each l among).awaited.level) (all j n at).in_round.level_is
+    level_same = some_same n.level l.level level (subst (λ (z : NodeData). z.level ≡ Some l.level) n_is (x.each l among).awaited.level) (all j n at).in_round.level_is
 
     stamp_is : stamp_of l ≡ stamp level l.from j false
     stamp_is = ap (λ b. stamp b l.from l.to (is_stop l.content)) level_same ∙ ap (λ c. stamp level l.from c (is_stop l.content)) to ∙ ap (λ b. stamp level l.from j b) (x.each l among).supply
@@ -307,7 +309,7 @@ module _ (m : System) (level budget : ℕ) (before : Option ℕ) (nodes : List N
 
     some_delivered_begun : HaveBegun (round_of m level budget before) after
     some_delivered_begun = begun_moved (round_of m level budget before) nodes after all some.one_each (λ j n z at at'.
-        let sender_is : some.sender ≡ x.sender = two_at (slice_get nodes i) some.sender x.sender some.is_its x.is_its in
+        let sender_is : some.sender ≡ x.sender = some_same (slice_get nodes i) some.sender x.sender some.is_its x.is_its in
         moved_by j n z at (subst (λ (d : NodeData). IsAmidDelivery i d.outbox j n z) sender_is (some.each j n z at at')))
 
 -- ---- a round in turn
@@ -393,7 +395,7 @@ module _ (m : System) (level budget asked : ℕ) (first : List NodeData) (ready 
     stops_on e h =
         let (l, is, which) = h.granted in
         begun_set r nodes all_begun here d e at (λ x a. absurd (none_yet x a))
-        (stopped_on m level budget ready.before nodes here d e its_own (waiting_begun here d is_waiting).in_round h.total (waits_rule here d is_waiting).halt h.halt h.told l (two_at d.level l level is is_waiting.level_is) which)
+        (stopped_on m level budget ready.before nodes here d e its_own (waiting_begun here d is_waiting).in_round h.total (waits_rule here d is_waiting).halt h.halt h.told l (some_same d.level l level is is_waiting.level_is) which)
 
     pub grant_sound : (e : NodeData) → as_new e ≡ as_new d → (e ≡ d) ⊎ HasStoppedOn d e → map as_new (slice_set nodes here e) ≡ map as_new first → IsSoundRound m level budget (slice_set nodes here e)
     grant_sound e kept (inl is) same = sound_begun m level budget ready.before (slice_set nodes here e) (still_nodes (slice_set nodes here e) first same m budget ready.own)
@@ -436,7 +438,7 @@ module _ (m : System) (level budget asked : ℕ) (first : List NodeData) (ready 
       letter_of : (l : LetterData) → IsAmong l expected.sender.outbox → (j : ℕ) × Supplies m here j × (stamp_of l ≡ stamp level here j false) × (l.to ≡ j)
       letter_of l among =
           let (j, supplies, is) = letter_is m level budget asked first ready order ordered k more nodes total s d at granted e f kept l
-          (subst (λ (z : NodeData). IsAmong l z.outbox) (two_at (slice_get now here) expected.sender e expected.is_its e_there) among) in
+          (subst (λ (z : NodeData). IsAmong l z.outbox) (some_same (slice_get now here) expected.sender e expected.is_its e_there) among) in
           (j, supplies, ap stamp_of is, ap (λ (y : LetterData). y.to) is)
 
       put_out_here : (l : LetterData) → IsAmong l expected.sender.outbox → WasPutOut now (stamp_of l)

@@ -7,11 +7,11 @@ use Rattle.mcs_base.specs.Listings.{IsAmong, AreApart}
 use Rattle.mcs_base.proofs.Among.{among_left, among_map, among_push, among_right}
 use Rattle.mcs_base.proofs.Distinct.{distinct_parts}
 use Rattle.mcs_base.proofs.Lists.{slice_get_below}
-use Rattle.mcs_base.proofs.Written.{slice_get-slice_set, length-slice_set}
+use Rattle.mcs_base.proofs.Written.{slice_get-slice_set, length-slice_set, image_kept, set_there, set_other}
+use Rattle.mcs_base.proofs.Results.{some_same}
 use Rattle.mcs_node.specs.Letters.{LetterData}
 use Rattle.mcs_node.specs.Nodes.{HandsOut, HasTaken, NodeData, with_had}
 use Rattle.mcs_mesh.specs.Players.{AreDelivered, AreExpected, AreSomeDelivered, IsAmidDelivery, IsDelivered, IsExpected, IsTakenIn, addressees, as_new, has_had, has_taken, is_sending, sends, stays, waits_on}
-use Rattle.mcs_mesh.proofs.NodeLemmas.{image_kept, set_other, set_there, two_at}
 use Rattle.mcs_mesh.proofs.TurnLemmas.{content_kept}
 
 -- what has become of the node of context j, which has had its letter if that was handed out
@@ -38,7 +38,7 @@ handing_begun i nodes x = record {
   parts = sym (append-nil x.sender.outbox);
   now = x.is_its;
   one_each = refl;
-  each = λ j d e differ at at'. inr (λ h. h, two_at (slice_get nodes j) e d at' at);
+  each = λ j d e differ at at'. inr (λ h. h, some_same (slice_get nodes j) e d at' at);
 }
 
 -- the context has a node
@@ -55,10 +55,10 @@ letters_of (Some d) = d.outbox
 
 module _ (i : ℕ) (before nodes : List NodeData) (x : AreExpected i before) (s : IsHandingOut i before nodes) (d : NodeData) (at : slice_get nodes i ≡ Some d) where
   d_is : d ≡ record s.sender { outbox = s.left }
-  d_is = two_at (slice_get nodes i) d (record s.sender { outbox = s.left }) at s.now
+  d_is = some_same (slice_get nodes i) d (record s.sender { outbox = s.left }) at s.now
 
   sender_is : s.sender ≡ x.sender
-  sender_is = two_at (slice_get before i) s.sender x.sender s.is_its x.is_its
+  sender_is = some_same (slice_get before i) s.sender x.sender s.is_its x.is_its
 
   -- ---- the next letter is handed out
   module _ (e : NodeData) (l : LetterData) (out : HandsOut d e l) where
@@ -108,7 +108,7 @@ module _ (i : ℕ) (before nodes : List NodeData) (x : AreExpected i before) (s 
       taken_by : (d' z : NodeData) → slice_get before l.to ≡ Some d' → z ≡ sent.now → HasTaken l d' z
       taken_by d' z was is =
           let node_is : sent.node ≡ d' =
-          two_at (slice_get (slice_set nodes i e) l.to) sent.node expected_before.node sent.is_its addressee_there ∙ two_at (slice_get before l.to) expected_before.node d' expected_before.is_its was in
+          some_same (slice_get (slice_set nodes i e) l.to) sent.node expected_before.node sent.is_its addressee_there ∙ some_same (slice_get before l.to) expected_before.node d' expected_before.is_its was in
           subst (λ (n : NodeData). HasTaken l n z) node_is (subst (λ (n : NodeData). HasTaken l sent.node n) (sym is) sent.taken)
 
       -- one that has had its letter before
@@ -125,7 +125,7 @@ module _ (i : ℕ) (before nodes : List NodeData) (x : AreExpected i before) (s 
             (taken_by d' z (subst (λ c. slice_get before c ≡ Some d') here.0 was) here.1)
         | inr other ↦ elim (slice_get-slice_set nodes i j e z other.1) [
           | inl here ↦
-              let first : s.sender ≡ d' = two_at (slice_get before i) s.sender d' s.is_its (subst (λ c. slice_get before c ≡ Some d') here.0 was) in
+              let first : s.sender ≡ d' = some_same (slice_get before i) s.sender d' s.is_its (subst (λ c. slice_get before c ≡ Some d') here.0 was) in
               is_sending here.0 (here.1 ∙ e_is ∙ ap (λ ls. record s.sender { outbox = ls }) (sym (ap (λ (n : NodeData). n.outbox) here.1)) ∙ ap (λ (n : NodeData). record n { outbox = z.outbox }) first)
           | inr other' ↦ had_before j d' z other'.0 (s.each j d' z other'.0 was other'.1)
         ]
@@ -142,7 +142,7 @@ module _ (i : ℕ) (before nodes : List NodeData) (x : AreExpected i before) (s 
     -- ---- and delivered
     module _ (after : List NodeData) (sent : IsDelivered l (slice_set nodes i e) after) where
       node_is : sent.node ≡ expected_before.node
-      node_is = two_at (slice_get (slice_set nodes i e) l.to) sent.node expected_before.node sent.is_its addressee_there
+      node_is = some_same (slice_get (slice_set nodes i e) l.to) sent.node expected_before.node sent.is_its addressee_there
 
       sender_now : slice_get after i ≡ Some e
       sender_now = subst (λ (ns : List NodeData). slice_get ns i ≡ Some e) (sym sent.after_is)
@@ -155,7 +155,7 @@ module _ (i : ℕ) (before nodes : List NodeData) (x : AreExpected i before) (s 
       each_now : (j : ℕ) (d' z : NodeData) → ¬ (j ≡ i) → slice_get before j ≡ Some d' → slice_get after j ≡ Some z → HasHad (l ∷ s.handed) j d' z
       each_now j d' z differ was there = elim (slice_get-slice_set (slice_set nodes i e) l.to j (with_had l sent.node) z (subst (λ (ns : List NodeData). slice_get ns j ≡ Some z) sent.after_is there)) [
         | inl here ↦
-            let same : expected_before.node ≡ d' = two_at (slice_get before j) expected_before.node d' (subst (λ c. slice_get before c ≡ Some expected_before.node) (sym here.0) expected_before.is_its) was in
+            let same : expected_before.node ≡ d' = some_same (slice_get before j) expected_before.node d' (subst (λ c. slice_get before c ≡ Some expected_before.node) (sym here.0) expected_before.is_its) was in
             inl (l, inl refl, sym here.0, here.1 ∙ ap (λ n. with_had l n) (node_is ∙ same))
         | inr other ↦ elim (slice_get-slice_set nodes i j e z other.1) [
           | inl here ↦ absurd (differ here.0)
@@ -190,8 +190,8 @@ module _ (i : ℕ) (before nodes : List NodeData) (x : AreExpected i before) (s 
       one_each = s.one_each;
       each = λ j d' z was there. elim (cases_eq j i) [
         | inl same ↦
-            let first : s.sender ≡ d' = two_at (slice_get before i) s.sender d' s.is_its (subst (λ c. slice_get before c ≡ Some d') same was) in
-            let last : z ≡ d = two_at (slice_get nodes i) z d (subst (λ c. slice_get nodes c ≡ Some z) same there) at in
+            let first : s.sender ≡ d' = some_same (slice_get before i) s.sender d' s.is_its (subst (λ c. slice_get before c ≡ Some d') same was) in
+            let last : z ≡ d = some_same (slice_get nodes i) z d (subst (λ c. slice_get nodes c ≡ Some z) same there) at in
             sends same (last ∙ d_is ∙ ap (λ ls. record s.sender { outbox = ls }) (sym (ap (λ (y : NodeData). y.outbox) d_is) ∙ none) ∙ ap (λ (y : NodeData). record y { outbox = [] }) first)
         | inr differ ↦ elim (s.each j d' z differ was there) [
           | inl had ↦ let (y, among, to, is) = had in has_had y differ (subst (λ ls. IsAmong y ls) (sym all_handed) among) to is

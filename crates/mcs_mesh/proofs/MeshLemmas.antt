@@ -25,9 +25,9 @@ use Rattle.mcs_node.specs.Playing.{HasState, has_begun, has_not}
 use Rattle.mcs_node.proofs.DoneLemmas.{done_rounds_are_quiet}
 use Rattle.mcs_mesh.specs.Players.{AreNodesOf, HasRoundCause, HaveFinished, HaveReached, IsPlayed, IsReadyRound, as_new, known_to, oracles_of}
 use Rattle.mcs_mesh.specs.Rounds.{AreFresh, AreKnown, AreNew, CanGoOn, EvaluationData, HasFewRules, HaveFinishedLast, IsEvaluation, HasEndedBy, HasLastRound, HasShown, IsHaltOfRound, IsLastRound, IsLastRoundOf, IsSoundRound, evaluation_of, evaluator_state_of, round_of}
-use Rattle.mcs_mesh.proofs.General.{question_higher}
 use Rattle.mcs_mesh.proofs.LastingLemmas.{count_higher, known_higher}
 use Rattle.mcs_mesh.proofs.NodeLemmas.{oracles_rest, still_nodes}
+use Rattle.mcs_laws.proofs.Questions.{question_higher}
 
 -- ---- levels that differ in nothing
 module _ (m : System) (last level : ℕ) (low : last ≤ level) (alike : last < level → HasFewRules m last) where

@@ -1,56 +1,14 @@
 -- The nodes of all contexts: what a change of one of them leaves as it was.
-use Rattle.std.proofs.Common.{◌≡◌, ℕ, ◌<◌, zero, suc, List, [], ◌∷◌, map, length, Some, get_or, slice_get, slice_set, Option, refl, sym, ap, ◌∙◌, subst}
+use Rattle.std.proofs.Common.{◌≡◌, ℕ, ◌<◌, List, [], ◌∷◌, map, length, Some, slice_get, refl, sym, ap, ◌∙◌, subst}
 use Rattle.std.proofs.lemmas.List.{length-map}
-use Rattle.std.proofs.lemmas.Option.{get_or_from_slice_get, none-some, same_Some}
-use Rattle.std.specs.List.{AllByRecursion}
 use Rattle.mcs_base.specs.Listings.{IsListing}
-use Rattle.mcs_base.proofs.Among.{get_among}
-use Rattle.mcs_base.proofs.Each.{all_from_among}
-use Rattle.mcs_base.proofs.Lists.{map_slice_get, slice_get-map_some, slice_get_below}
+use Rattle.mcs_base.proofs.Lists.{map_slice_get, slice_get-map_some}
 use Rattle.mcs_system.specs.Plain.{System}
 use Rattle.mcs_states.specs.Oracles.{with_journal}
 use Rattle.mcs_states.specs.Evaluators.{unasked}
 use Rattle.mcs_node.specs.Rounds.{Supplies}
 use Rattle.mcs_node.specs.Nodes.{NodeData}
 use Rattle.mcs_mesh.specs.Players.{AreNodesOf, as_new, oracles_of}
-
--- ---- lists
--- what holds at each place holds of each
-pub all_places : {A : Type 0} (P : A → Type 0) (xs : List A) → ((i : ℕ) (x : A) → slice_get xs i ≡ Some x → P x) → AllByRecursion P xs
-all_places {A} P xs each = all_from_among P xs (λ x h. let (i, at) = get_among x xs h in each i x at)
-
--- the image of a list does not change where one element is replaced by another of the same image
-pub image_kept : {A B : Type 0} (f : A → B) (xs : List A) (i : ℕ) (x y : A) → slice_get xs i ≡ Some x → f y ≡ f x → map f (slice_set xs i y) ≡ map f xs
-image_kept f [] i x y is same = refl
-image_kept f (a ∷ xs) zero x y is same = let e : a ≡ x = same_Some a x is in ap (λ b. b ∷ map f xs) (same ∙ ap f (sym e))
-image_kept f (a ∷ xs) (suc i) x y is same = ap (λ bs. f a ∷ bs) (image_kept f xs i x y is same)
-
--- what stands at one place is one
-pub two_at : {A : Type 0} (o : Option A) (a b : A) → o ≡ Some a → o ≡ Some b → a ≡ b
-two_at o a b is is' = same_Some a b (sym is ∙ is')
-
--- what is read within a list stands there
-pub read_at : {A : Type 0} (xs : List A) (i : ℕ) (d : A) → i < length xs → slice_get xs i ≡ Some (get_or xs i d)
-read_at xs i d less = let (x, at) = slice_get_below xs i less in at ∙ ap (λ z. Some z) (sym (get_or_from_slice_get xs i x d at))
-
--- what was written stands there, and nothing else changed
-pub set_there : {A : Type 0} (xs : List A) (i : ℕ) (x y : A) → slice_get xs i ≡ Some x → slice_get (slice_set xs i y) i ≡ Some y
-set_there [] i x y is = absurd (none-some x is)
-set_there (a ∷ xs) zero x y is = refl
-set_there (a ∷ xs) (suc i) x y is = set_there xs i x y is
-
--- what is written back changes nothing
-pub set_back : {A : Type 0} (xs : List A) (i : ℕ) (x y : A) → slice_get xs i ≡ Some x → y ≡ x → slice_set xs i y ≡ xs
-set_back [] i x y is same = refl
-set_back (a ∷ xs) zero x y is same = let e : a ≡ x = same_Some a x is in ap (λ b. b ∷ xs) (same ∙ sym e)
-set_back (a ∷ xs) (suc i) x y is same = ap (λ bs. a ∷ bs) (set_back xs i x y is same)
-
-pub set_other : {A : Type 0} (xs : List A) (i j : ℕ) (x y : A) → ¬ (j ≡ i) → slice_get xs j ≡ Some x → slice_get (slice_set xs i y) j ≡ Some x
-set_other [] i j x y differ is = is
-set_other (a ∷ xs) zero zero x y differ is = absurd (differ refl)
-set_other (a ∷ xs) zero (suc j) x y differ is = is
-set_other (a ∷ xs) (suc i) zero x y differ is = is
-set_other (a ∷ xs) (suc i) (suc j) x y differ is = set_other xs i j x y (λ e. differ (ap suc e)) is
 
 -- ---- what no round changes
 module _ (xs ys : List NodeData) (same : map as_new xs ≡ map as_new ys) where

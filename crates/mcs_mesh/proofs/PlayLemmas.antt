@@ -1,15 +1,18 @@
 -- A round that is played in turn: the contexts seen have finished, the others wait.
-use Rattle.std.proofs.Common.{◌≡◌, ℕ, ◌+◌, ◌<◌, ◌≤◌, zero, suc, Bool, true, false, cond, List, [], ◌∷◌, ◌++◌, map, take, length, get_or, slice_get, slice_set, Option, Some, None, Ok, Err, is_some, refl, sym, ap, ◌∙◌, subst, inl, inr, ◌⊎◌, arith}
+use Rattle.std.proofs.Common.{◌≡◌, ℕ, ◌+◌, ◌<◌, ◌≤◌, true, false, cond, List, [], ◌∷◌, ◌++◌, map, take, length, get_or, slice_get, slice_set, Option, Some, None, Ok, Err, is_some, refl, sym, ap, ◌∙◌, subst, inl, inr, ◌⊎◌, arith}
 use Rattle.std.proofs.lemmas.List.{length-map, take_more, take_all}
 use Rattle.std.proofs.lemmas.List.Sums.{sum_by-cons}
-use Rattle.std.proofs.lemmas.Option.{get_or_from_slice_get, none-some, same_Some, slice_get_within}
+use Rattle.std.proofs.lemmas.Option.{get_or_from_slice_get, slice_get_within}
 use Rattle.std.specs.List.{AllByRecursion, sum_by}
 use Rattle.mcs_base.specs.Listings.{IsAmong, AreApart, IsInventory, IsListing}
-use Rattle.mcs_base.proofs.Among.{among_at, among_left, among_map, among_push, filter_among, get_among, map_among}
-use Rattle.mcs_base.proofs.Distinct.{ascending_distinct, distinct_map, distinct_push}
+use Rattle.mcs_base.proofs.Among.{among_at, among_map, among_push, filter_among, get_among, map_among, among_take_longer}
+use Rattle.mcs_base.proofs.Distinct.{ascending_distinct, distinct_push}
 use Rattle.mcs_base.proofs.Each.{all_among}
 use Rattle.mcs_base.proofs.Lists.{map_slice_get, slice_get-map_some, slice_get_below, slice_get_take}
-use Rattle.mcs_base.proofs.Written.{slice_get-slice_set, length-slice_set, map-slice_set, take_front}
+use Rattle.mcs_base.proofs.Written.{slice_get-slice_set, length-slice_set, map-slice_set, image_kept, set_there, set_other}
+use Rattle.mcs_base.proofs.Placed.{sum_put}
+use Rattle.mcs_base.proofs.Deciding.{all_from_get}
+use Rattle.mcs_base.proofs.Results.{some_same}
 use Rattle.mcs_system.specs.Plain.{System}
 use Rattle.mcs_system.specs.Imports.{IsImportOrder, before_in, imports}
 use Rattle.mcs_system.specs.Levels.{IsQuestionAt}
@@ -26,9 +29,10 @@ use Rattle.mcs_node.specs.Known.{HasAsked, IsKnown, IsKnownAt}
 use Rattle.mcs_node.specs.Nodes.{IsAbove, IsNeed, NodeData, WaitsForGrant, begun_at, begun_node, letters_to, round_at, stamps_to, with_had}
 use Rattle.mcs_node.proofs.SupplyLemmas.{supplied_by}
 use Rattle.mcs_node.proofs.TotalLemmas.{totals_count_questions}
+use Rattle.mcs_node.proofs.RuleLemmas.{sent_to}
 use Rattle.mcs_mesh.specs.Players.{AreDelivered, AreExpected, AreNodesOf, CanBegin, FinishesOn, HasGrantCause, HasRoundCause, HaveFinished, HaveReached, IsAfterDelivery, IsExpected, IsNodeOf, IsPlayed, IsReadyRound, addressees, as_new, has_had, oracles_of, sends, stays}
 use Rattle.mcs_mesh.proofs.General.{before_taken, follows_all, follows_apart}
-use Rattle.mcs_mesh.proofs.NodeLemmas.{all_places, image_kept, oracles_rest, set_other, set_there, still_nodes, two_at}
+use Rattle.mcs_mesh.proofs.NodeLemmas.{oracles_rest, still_nodes}
 
 -- ---- what is said of the nodes on the way
 -- the node of context i has begun the round and waits; it has had the supplies of just those of these contexts that supply it
@@ -61,12 +65,6 @@ pub record IsInPlay (r : Round) (first : List NodeData) (seen : List ℕ) (nodes
   pub within : total ≤ r.budget
 
 -- ---- totals
--- the sum with one number more, where there was none
-sum_put : (ns : List ℕ) (i n : ℕ) → slice_get ns i ≡ Some 0 → sum_by (λ k. k) (slice_set ns i n) ≡ sum_by (λ k. k) ns + n
-sum_put [] i n is = absurd (none-some 0 is)
-sum_put (a ∷ ns) zero n is = let e : a ≡ 0 = same_Some a 0 is in omega (arith, e, sum_by-cons (λ (k : ℕ). k) a ns, sum_by-cons (λ (k : ℕ). k) n ns)
-sum_put (a ∷ ns) (suc i) n is = let rest = sum_put ns i n is in omega (arith, rest, sum_by-cons (λ (k : ℕ). k) a ns, sum_by-cons (λ (k : ℕ). k) a (slice_set ns i n))
-
 no_needs : (ss : List NodeState) → sum_by (λ k. k) (map (λ (s : NodeState). 0) ss) ≡ 0
 no_needs [] = refl
 no_needs (s ∷ ss) = let rest = no_needs ss in omega (arith, rest, sum_by-cons (λ (k : ℕ). k) 0 (map (λ (s : NodeState). 0) ss))
@@ -129,16 +127,6 @@ finishes_as : (m : System) (level budget : ℕ) (before before' : Option ℕ) (i
     → Finishes (record { system = m; level = level; budget = budget; before = before }) i s → Finishes (record { system = m; level = level; budget = budget; before = before' }) i s
 finishes_as m level budget before before' i s f = record { granted = f.granted; had = f.had; put_out = f.put_out; done = f.done; halt = f.halt; by_itself = f.by_itself }
 
--- the stamps of the letters that a node puts out
-pub sent_to : (r : Round) (i : ℕ) (stop : Bool) (receivers : List ℕ) → IsListing (Supplies r.system i) (λ a b. a < b) receivers → IsInventory (IsSentBy r i stop) (stamps_to r.level i stop receivers)
-sent_to r i stop receivers listed = record {
-  exactly = λ x. (
-    λ h. let (j, among, is) = map_among (λ j. stamp r.level i j stop) x receivers h in (j, (listed.exactly j).0 among, is),
-    λ (j, supplies, is). subst (λ y. IsAmong y (stamps_to r.level i stop receivers)) (sym is) (among_map (λ j. stamp r.level i j stop) j receivers ((listed.exactly j).1 supplies)),
-  );
-  apart = distinct_map (λ j. stamp r.level i j stop) receivers (λ x y a b same. ap (λ (z : Stamp). z.to) same) (ascending_distinct receivers listed.ascending);
-}
-
 addressees-letters_to : (m : System) (level i : ℕ) (supplies : List ℕ) (js : List ℕ) → addressees (letters_to m level i (Supply supplies) js) ≡ js
 addressees-letters_to m level i supplies [] = refl
 addressees-letters_to m level i supplies (j ∷ js) = ap (λ ks. j ∷ ks) (addressees-letters_to m level i supplies js)
@@ -153,17 +141,14 @@ supplier_before m order ordered k i j among supplies =
     let reads : get_or order n 0 ≡ i = get_or_from_slice_get order n i 0 there in
     (n, low, before_taken order n 0 j (slice_get_within order n i there) (subst (λ c. IsAmong j (before_in order c)) (sym reads) before))
 
-taken_more : (order : List ℕ) (n k j : ℕ) → n ≤ k → IsAmong j (take n order) → IsAmong j (take k order)
-taken_more order n k j fewer h = let (rest, is) = take_front n k order fewer in subst (λ xs. IsAmong j xs) (sym is) (among_left j (take n order) rest h)
-
 pub supplier_seen : (m : System) (order : List ℕ) → IsImportOrder m order → (k i j : ℕ) → IsAmong i (take k order) → Supplies m j i → IsAmong j (take k order)
-supplier_seen m order ordered k i j among supplies = let (n, low, taken) = supplier_before m order ordered k i j among supplies in taken_more order n k j (omega (arith, low)) taken
+supplier_seen m order ordered k i j among supplies = let (n, low, taken) = supplier_before m order ordered k i j among supplies in among_take_longer order n k j (omega (arith, low)) taken
 
 -- a context that the k-th supplies comes after it
 supplied_later : (m : System) (order : List ℕ) → IsImportOrder m order → (k : ℕ) → k < length order → (j : ℕ) → Supplies m (get_or order k 0) j → ¬ IsAmong j (take (k + 1) order)
 supplied_later m order ordered k more j supplies among =
     let (n, low, taken) = supplier_before m order ordered (k + 1) j (get_or order k 0) among supplies in
-    follows_apart m [] order k 0 ordered more (taken_more order n k (get_or order k 0) (omega (arith, low)) taken)
+    follows_apart m [] order k 0 ordered more (among_take_longer order n k (get_or order k 0) (omega (arith, low)) taken)
 
 -- ---- a round that can be played
 pub round_is : (a b : System) (c d e f : ℕ) (x y : Option ℕ) → a ≡ b → c ≡ d → e ≡ f → x ≡ y
@@ -182,7 +167,7 @@ module _ (m : System) (level budget asked : ℕ) (first : List NodeData) (ready 
   onward done is = let above : done < level = subst (λ (o : Option ℕ). IsAbove o level) is ready.above in omega (arith, above)
 
   pub can_begin : AllByRecursion (CanBegin level) first
-  can_begin = all_places (CanBegin level) first (λ i d at. let one = ready.reached.each i d at in
+  can_begin = all_from_get (CanBegin level) first (λ i d at. let one = ready.reached.each i d at in
       record { going = one.going; above = subst (λ (o : Option ℕ). IsAbove o level) (sym one.level) ready.above })
 
   -- ---- the begin
@@ -299,7 +284,7 @@ module _ (m : System) (level budget asked : ℕ) (first : List NodeData) (ready 
       need_here : (n : ℕ) → IsNeed d n → IsNeedOf round here n
       need_here n h =
           let (l, is, awaits) = h.waits in
-          let one : round_at d l ≡ round = round_is d.plan m l level d.budget budget d.before ready.before is_own.plan (two_at d.level l level is waits.level_is) is_own.budget_is waits.before_is in (
+          let one : round_at d l ≡ round = round_is d.plan m l level d.budget budget d.before ready.before is_own.plan (some_same d.level l level is waits.level_is) is_own.budget_is waits.before_is in (
             h.new,
             subst (λ (c : ℕ). IsListing (IsNewQuestion round c) (λ a b. a < b) h.new) is_own.context (subst (λ (r : Round). IsListing (IsNewQuestion r d.context) (λ a b. a < b) h.new) one h.listed),
             h.count,
@@ -316,7 +301,7 @@ module _ (m : System) (level budget asked : ℕ) (first : List NodeData) (ready 
           let t : NodeState = record d.state { granted = Some drawn } in
           let counted : IsTotal round (slice_set (states_of nodes) here t) drawn =
           total_more round (states_of nodes) total s.counted here d.state t state_at (ap (λ (z : NodeState). z.granted) waits.state_is) drawn need refl (need_here need is_need) drawn adds in (
-            two_at d.level l level is waits.level_is,
+            some_same d.level l level is waits.level_is,
             subst (λ b. b < drawn) is_own.budget_is over,
             (totals_count_questions round (slice_set (states_of nodes) here t) drawn onward (length-slice_set (states_of nodes) here t ∙ states_each) counted).0,
           )
@@ -324,7 +309,7 @@ module _ (m : System) (level budget asked : ℕ) (first : List NodeData) (ready 
           let (o, there, holds) = same_oracle (oracles_of nodes) (oracles_of first) (oracles_rest nodes first s.same) here d.oracle (slice_get-map_some (λ (z : NodeData). z.oracle) nodes here d at) in
           let c_is : c ≡ here = context_is ∙ is_own.context in
           let asked_here : IsQuestionAt m level here x =
-          subst (λ (n : System). IsQuestionAt n level here x) is_own.plan (subst (λ (b : ℕ). IsQuestionAt d.plan b here x) (two_at d.level l level is waits.level_is) (subst (λ (i : ℕ). IsQuestionAt d.plan l i x) is_own.context question)) in (
+          subst (λ (n : System). IsQuestionAt n level here x) is_own.plan (subst (λ (b : ℕ). IsQuestionAt d.plan b here x) (some_same d.level l level is waits.level_is) (subst (λ (i : ℕ). IsQuestionAt d.plan l i x) is_own.context question)) in (
             o,
             subst (λ (i : ℕ). slice_get (oracles_of first) i ≡ Some o) (sym c_is) there,
             subst (λ (h : Option (List ℕ)). IsLacking h x) holds lacks,
@@ -335,7 +320,7 @@ module _ (m : System) (level budget asked : ℕ) (first : List NodeData) (ready 
       -- ---- it was granted its need
       module _ (granted : ℕ) (e : NodeData) (f : FinishesOn total granted d e) (kept : as_new e ≡ as_new d) where
         same_level : f.level ≡ level
-        same_level = two_at d.level f.level level f.level_is waits.level_is
+        same_level = some_same d.level f.level level f.level_is waits.level_is
 
         supplies_had : IsInventory (IsSupplyTo round here) d.state.had
         supplies_had = record {
@@ -435,7 +420,7 @@ module _ (m : System) (level budget asked : ℕ) (first : List NodeData) (ready 
         -- ---- they were delivered
         module _ (after : List NodeData) (sent : AreDelivered here (slice_set nodes here e) after) (same : map as_new after ≡ map as_new (slice_set nodes here e)) where
           sender_is : sent.sender ≡ e
-          sender_is = two_at (slice_get (slice_set nodes here e) here) sent.sender e sent.is_its there_now
+          sender_is = some_same (slice_get (slice_set nodes here e) here) sent.sender e sent.is_its there_now
 
           -- the node before the delivery, and what became of it
           came_of : (j : ℕ) (z : NodeData) → slice_get after j ≡ Some z → (n : NodeData) × (slice_get (slice_set nodes here e) j ≡ Some n) × IsAfterDelivery here e.outbox j n z
@@ -456,7 +441,7 @@ module _ (m : System) (level budget asked : ℕ) (first : List NodeData) (ready 
               absurd (not_seen j (supplies_each j (subst (λ c. IsAmong c (addressees e.outbox)) to (among_map (λ (y : LetterData). y.to) l e.outbox among))) (subst (λ xs. IsAmong j xs) (sym now_seen) ((among_push j (take k order) here).1 (inl seen))))
           finished_by j n z (inl seen) there (stays differ none is) = subst (λ (x : NodeData). IsFinished round j x) (sym is) (s.finished j n seen (stood_there j n there differ))
           finished_by j n z (inr at_here) there (sends same' is) =
-              let n_is : n ≡ e = two_at (slice_get (slice_set nodes here e) here) n e (subst (λ c. slice_get (slice_set nodes here e) c ≡ Some n) at_here there) there_now in
+              let n_is : n ≡ e = some_same (slice_get (slice_set nodes here e) here) n e (subst (λ c. slice_get (slice_set nodes here e) c ≡ Some n) at_here there) there_now in
               subst (λ (c : ℕ). IsFinished round c z) (sym at_here) (sender_finished z (is ∙ ap (λ (x : NodeData). record x { outbox = [] }) n_is))
           finished_by j n z (inr at_here) there (has_had l differ among to is) = absurd (differ at_here)
           finished_by j n z (inr at_here) there (stays differ none is) = absurd (differ at_here)
@@ -536,7 +521,7 @@ module _ (m : System) (level budget asked : ℕ) (first : List NodeData) (ready 
               let (z, there, z_is) = map_slice_get (λ (z : NodeData). z.state) after j t at_t in
               let (n, there', n_is) = map_slice_get (λ (z : NodeData). z.state) (slice_set nodes here e) j u at_u in
               let (n', there'', came) = came_of j z there in
-              let one : n' ≡ n = two_at (slice_get (slice_set nodes here e) j) n' n there'' there' in
+              let one : n' ≡ n = some_same (slice_get (slice_set nodes here e) j) n' n there'' there' in
               sym (ap (λ (x : NodeState). x.granted) z_is) ∙ granted_by j n' z came ∙ ap (λ (x : NodeData). x.state.granted) one ∙ ap (λ (x : NodeState). x.granted) n_is)
 
           pub kept_since : map as_new after ≡ map as_new first

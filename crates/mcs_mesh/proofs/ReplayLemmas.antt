@@ -5,7 +5,8 @@ use Rattle.std.proofs.lemmas.List.{length-map, reverse-append}
 use Rattle.std.proofs.lemmas.Option.{none-some, same_Some, slice_get_within}
 use Rattle.mcs_base.proofs.Lists.{slice_get_below}
 use Rattle.mcs_base.proofs.Sums.{count_by_push}
-use Rattle.mcs_base.proofs.Written.{slice_get-slice_set, written_back}
+use Rattle.mcs_base.proofs.Written.{slice_get-slice_set, written_back, set_back}
+use Rattle.mcs_base.proofs.Results.{some_same}
 use Rattle.mcs_system.specs.Plain.{System}
 use Rattle.mcs_states.specs.Evaluators.{KeepsRest, unasked}
 use Rattle.mcs_states.specs.Oracles.{OracleState}
@@ -30,7 +31,7 @@ use Rattle.mcs_mesh.specs.declared.replay.Replay as code
 use Rattle.mcs_mesh.specs.Players.{as_new, oracles_of}
 use Rattle.mcs_mesh.specs.Rounds.{AreNew, EvaluationData, IsEvaluation, IsSoundRound, evaluation_of}
 use Rattle.mcs_mesh.specs.Replays.{AreAllDone, AreOfRound, AreToldOf, Begins, Course, GoesOn, Grants, IsHandedOut, IsOfRound, IsStepOf, IsUntouched, LeavesReplay, Receives, TellsLowest, course, lowest, no_node, only_round, outcome_of}
-use Rattle.mcs_mesh.proofs.NodeLemmas.{oracles_rest, same_length, set_back, still_nodes, two_at}
+use Rattle.mcs_mesh.proofs.NodeLemmas.{oracles_rest, same_length, still_nodes}
 
 -- ---- what a node has put out
 -- the letters that were handed out are gathered, the last one first
@@ -117,7 +118,7 @@ play_as r c nodes nodes' letters letters' total total' a b e play =
 module _ (level : ℕ) (nodes : List NodeData) (i : ℕ) (d e : NodeData) (at : slice_get nodes i ≡ Some d) where
   -- the node that stands there is this one
   at_this : (P : NodeData → Type 0) → P d → (z : NodeData) → slice_get nodes i ≡ Some z → P z
-  at_this P here z there = subst P (two_at (slice_get nodes i) d z at there) here
+  at_this P here z there = subst P (some_same (slice_get nodes i) d z at there) here
 
   pub goes_begun : (letters : List LetterData) (total : ℕ) (o : Outcome) → Begins level d e o → GoesOn level (Begin i) o (course nodes letters total) (course (slice_set nodes i e) letters total)
   goes_begun letters total Skipped (is, same) are =
@@ -303,7 +304,7 @@ module _ (m : System) (level budget : ℕ) where
 pub one_place_more : (P : NodeData → Type 0) (nodes : List NodeData) (k : ℕ) (d : NodeData) → slice_get nodes k ≡ Some d → P d → ((i : ℕ) (z : NodeData) → i < k → slice_get nodes i ≡ Some z → P z)
     → (i : ℕ) (z : NodeData) → i < k + 1 → slice_get nodes i ≡ Some z → P z
 one_place_more P nodes k d at here each i z less there = elim (cases_eq i k) [
-  | inl same ↦ subst P (two_at (slice_get nodes k) d z at (subst (λ (j : ℕ). slice_get nodes j ≡ Some z) same there)) here
+  | inl same ↦ subst P (some_same (slice_get nodes k) d z at (subst (λ (j : ℕ). slice_get nodes j ≡ Some z) same there)) here
   | inr differ ↦ each i z (omega (arith, less, differ)) there
 ]
 

@@ -7,7 +7,7 @@ use Rattle.mcs_states.specs.declared.halt.Halt.TheVariants.{Spent, Missing, Memo
 use Rattle.mcs_node.specs.Letters.{ContentData, LetterData, Stop, Supply, is_stop}
 use Rattle.mcs_node.specs.Nodes.{HasFailed, HasFinished, HasTaken, IsGranted, IsGrantHalt, IsNeed, NodeData, begun_at, stopped_with, with_content, with_grant, with_had}
 use Rattle.mcs_mesh.specs.Players.{FinishesOn, HasGrantCause, as_new}
-use Rattle.mcs_mesh.proofs.NodeLemmas.{two_at}
+use Rattle.mcs_base.proofs.Results.{some_same}
 
 -- ---- the begin
 -- one node more has begun
@@ -41,10 +41,10 @@ module _ (asked need total level : ℕ) (d e : NodeData) (is_need : IsNeed d nee
 
   pub stopped_by_grant : (halt : Halt) → ((d.budget < total) × (e ≡ stopped_with level (Spent level total) true (with_grant total d))) ⊎ (HasFinished total level d e ⊎ HasFailed total level d e) → e.state.halt ≡ Some halt → HasGrantCause asked d halt
   stopped_by_grant halt (inl (over, is)) told =
-      let same : Spent level total ≡ halt = two_at e.state.halt (Spent level total) halt (ap (λ (z : NodeData). z.state.halt) is) told in
+      let same : Spent level total ≡ halt = some_same e.state.halt (Spent level total) halt (ap (λ (z : NodeData). z.state.halt) is) told in
       subst (λ h. HasGrantCause asked d h) same (at, over, need, is_need, adds)
   stopped_by_grant halt (inr (inl f)) told = absurd (none-some halt (sym (finished_going f) ∙ told))
-  stopped_by_grant halt (inr (inr f)) told = subst (λ h. HasGrantCause asked d h) (two_at e.state.halt f.halt halt (failed_halt f) told) (cause_of f.halt f.cause)
+  stopped_by_grant halt (inr (inr f)) told = subst (λ h. HasGrantCause asked d h) (some_same e.state.halt f.halt halt (failed_halt f) told) (cause_of f.halt f.cause)
 
   pub finished_by_grant : ((d.budget < total) × (e ≡ stopped_with level (Spent level total) true (with_grant total d))) ⊎ (HasFinished total level d e ⊎ HasFailed total level d e) → e.state.halt ≡ None → FinishesOn asked total d e
   finished_by_grant (inl (over, is)) none = absurd (none-some (Spent level total) (sym none ∙ ap (λ (z : NodeData). z.state.halt) is))
@@ -70,7 +70,7 @@ module _ (l : LetterData) (d e : NodeData) (supply : is_stop l.content ≡ false
 
   pub want_of_memory : HasTaken l d e → (halt : Halt) → e.state.halt ≡ Some halt → halt ≡ Memory
   want_of_memory (inl is) halt told = absurd (none-some halt (sym (ap (λ (z : NodeData). z.state.halt) (is ∙ content_kept l l.content d.state.halt d supply) ∙ going) ∙ told))
-  want_of_memory (inr (states, content, was, is)) halt told = two_at e.state.halt halt Memory told (ap (λ (z : NodeData). z.state.halt) is)
+  want_of_memory (inr (states, content, was, is)) halt told = some_same e.state.halt halt Memory told (ap (λ (z : NodeData). z.state.halt) is)
 
   pub taken_same : HasTaken l d e → as_new e ≡ as_new d
   taken_same (inl is) = ap as_new (is ∙ content_kept l l.content d.state.halt d supply)

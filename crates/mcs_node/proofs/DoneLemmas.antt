@@ -5,11 +5,12 @@ use Rattle.mcs_base.specs.Listings.{IsAmong, AreApart}
 use Rattle.mcs_base.proofs.Among.{among_get, get_among, among_flat_map, flat_map_among}
 use Rattle.mcs_base.proofs.Distinct.{distinct_append}
 use Rattle.mcs_base.proofs.Lists.{slice_get_below}
+use Rattle.mcs_base.proofs.Results.{no_none}
 use Rattle.mcs_node.specs.Rounds.{Stamp, Round, NodeState, finishes}
 use Rattle.mcs_node.specs.Configurations.{HasNode, IsPutOut, IsFromSender, WasHad, IsSoundNode, IsSound, IsQuiet}
 use Rattle.mcs_node.specs.Laws.{AreFinished, listed_by_node, DoneRoundsAreQuiet}
 use Rattle.mcs_node.proofs.SupplyLemmas.{supplier_below}
-use Rattle.mcs_node.proofs.RuleLemmas.{no_none, put_out_apart, put_out_from}
+use Rattle.mcs_node.proofs.RuleLemmas.{put_out_apart, put_out_from}
 
 -- ---- letters listed node by node
 -- letters of nodes whose numbers begin at k: each goes from its node

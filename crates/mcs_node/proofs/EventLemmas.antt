@@ -2,6 +2,7 @@
 use Rattle.std.proofs.Common.{◌≡◌, ℕ, ◌<◌, ◌≤◌, Bool, true, false, true≢false, List, [], ◌∷◌, ◌++◌, Option, Some, None, slice_get, is_some, append-nil, refl, sym, ap, ap₂, ◌∙◌, subst, arith}
 use Rattle.std.proofs.lemmas.Option.{slice_get_within}
 use Rattle.mcs_base.specs.Listings.{IsAmong, IsInventory}
+use Rattle.mcs_base.proofs.Results.{some_same, no_none}
 use Rattle.mcs_states.specs.declared.halt.Halt.{Halt}
 use Rattle.mcs_states.specs.declared.halt.Halt.TheVariants.{Spent, Missing, Memory}
 use Rattle.mcs_node.specs.declared.event.Event.{Event}
@@ -10,7 +11,6 @@ use Rattle.mcs_node.specs.Rounds.{Stamp, Round, NodeState, HasNoStop, IsSupplyTo
 use Rattle.mcs_node.specs.Configurations.{Configuration, HasNode, IsHaltOfSender, IsSound, AwaitsGrant}
 use Rattle.mcs_node.specs.Steps.{Takes, IsPossible, IsIgnored, Reacts, TakesPlace, Outcome, Skipped, Ignored, Taken, Step, Runs}
 use Rattle.mcs_node.specs.Worked.{IsCalm, AreCalm, LeadTo}
-use Rattle.mcs_node.proofs.RuleLemmas.{some_same, no_none}
 use Rattle.mcs_node.proofs.StepLemmas.{later, steps_keep_soundness}
 
 -- ---- outcomes
@@ -121,6 +121,9 @@ pub record IsOpen (t : NodeState) : Type 0 where
   pub done : t.done ≡ false
   pub halt : t.halt ≡ None
   pub by_itself : t.by_itself ≡ false
+
+pub granted_open : (s : NodeState) → IsOpen s → (n : ℕ) → IsOpen (record s { granted = Some n })
+granted_open s is_open n = record { put_out = is_open.put_out; done = is_open.done; halt = is_open.halt; by_itself = is_open.by_itself }
 
 module _ (r : Round) (c : Configuration) (i : ℕ) (t : NodeState) (is_open : IsOpen t) where
   -- ---- what it may do

@@ -1,9 +1,10 @@
 -- The round of a system in which the second context reads a fact of the first.
 use Rattle.std.proofs.Common.{◌≡◌, ℕ, ◌+◌, ◌<◌, zero, suc, true≢false, List, [], ◌∷◌, length, slice_get, refl, sym, ap, ◌∙◌, subst, inl, inr, arith}
 use Rattle.std.proofs.lemmas.Bool.{cases_lt}
-use Rattle.std.proofs.lemmas.List.Sums.{sum_by-cons}
 use Rattle.std.specs.List.{sum_by}
 use Rattle.mcs_base.specs.Listings.{IsAmong, IsListing}
+use Rattle.mcs_base.proofs.Lists.{two_of}
+use Rattle.mcs_base.proofs.Sums.{sum_of_two}
 use Rattle.mcs_sets.proofs.SetLemmas.{Within-le, such_that-lt}
 use Rattle.mcs_system.specs.Imports.{imports, Reaches, directly, through, IsReadyContext, IsImportOrder, supplied, goes_into, rules_into}
 use Rattle.mcs_system.specs.Levels.{IsQuestionAt, IsCount}
@@ -58,15 +59,6 @@ supplies : Supplies one_reads_fact 0 1
 supplies = (0 ∷ 1 ∷ [], in_order, omega arith, inl refl)
 
 -- ---- needs
-two_of : (xs : List (List ℕ)) → length xs ≡ 2 → (x : List ℕ) × (y : List ℕ) × (xs ≡ x ∷ y ∷ [])
-two_of [] e = absurd (omega (arith, e))
-two_of (x ∷ []) e = absurd (omega (arith, e))
-two_of (x ∷ y ∷ []) e = (x, y, refl)
-two_of (x ∷ y ∷ z ∷ xs) e = absurd (omega (arith, e))
-
-sum_of_two : (x y : List ℕ) → sum_by (λ (l : List ℕ). length l) (x ∷ y ∷ []) ≡ length x + length y
-sum_of_two x y = omega (arith, sum_by-cons (λ (l : List ℕ). length l) x (y ∷ []), sum_by-cons (λ (l : List ℕ). length l) y [])
-
 -- where nothing was asked before, all questions are new
 all_new : (budget i : ℕ) (xs : List ℕ) → IsListing (IsQuestionAt one_reads_fact 0 i) (λ a b. a < b) xs → IsNeedOf (first_round budget) i (length xs)
 all_new budget i xs listing = (xs, record { exactly = (λ x. ((λ h. ((listing.exactly x).0 h, λ none. none)), λ new. (listing.exactly x).1 new.0)); ascending = listing.ascending }, refl)
@@ -80,7 +72,7 @@ first_is_of_two budget (lists, listings, is) =
     let (x, y, split) = two_of lists listings.one_each in (
       length x,
       length y,
-      omega (arith, is, ap (λ (ls : List (List ℕ)). sum_by (λ (l : List ℕ). length l) ls) split, sum_of_two x y),
+      omega (arith, is, ap (λ (ls : List (List ℕ)). sum_by (λ (l : List ℕ). length l) ls) split, sum_of_two (λ (l : List ℕ). length l) x y),
       record {
         two = refl;
         supplies = supplies;

@@ -1,15 +1,17 @@
 -- In a sound configuration each event has a step.
-use Rattle.std.proofs.Common.{◌≡◌, ℕ, ◌+◌, ◌<◌, ◌≤◌, zero, suc, Bool, true, false, true≢false, List, [], ◌∷◌, ◌++◌, filter, map, length, Option, Some, None, IsTrue, slice_get, slice_set, is_some, append-nil, refl, sym, ap, ap₂, ◌∙◌, subst, inl, inr, ◌⊎◌, ◌↔◌, arith}
+use Rattle.std.proofs.Common.{◌≡◌, ℕ, ◌+◌, ◌<◌, ◌≤◌, Bool, true, false, true≢false, List, [], ◌∷◌, ◌++◌, filter, map, length, Option, Some, None, IsTrue, slice_get, slice_set, is_some, append-nil, refl, sym, ap, ◌∙◌, subst, inl, inr, ◌⊎◌, ◌↔◌, arith}
 use Rattle.std.proofs.lemmas.Bool.{cases_Bool, cases_eq, cases_lt}
 use Rattle.std.proofs.lemmas.Option.{slice_get_within}
 use Rattle.std.specs.List.{sum_by}
 use Rattle.mcs_base.specs.Listings.{IsAmong, IsListing, IsInventory}
 use Rattle.mcs_base.proofs.Among.{among_left, among_right, among_map, map_among, among_push, among_get, cases_among}
-use Rattle.mcs_base.proofs.Booleans.{test_of, test_of-tells, cases_all_below}
+use Rattle.mcs_base.proofs.Booleans.{test_of, test_of-tells, cases_all_below, cases_same}
 use Rattle.mcs_base.proofs.Deciding.{cases_not, cases_implies}
 use Rattle.mcs_base.proofs.ListingLemmas.{listing_below, IsListing-same, IsListing-filter}
-use Rattle.mcs_base.proofs.Lists.{slice_get_below, choose_below}
+use Rattle.mcs_base.proofs.Lists.{slice_get_below, choose_below, place_cases, same_lists}
 use Rattle.mcs_base.proofs.Written.{slice_get-slice_set, slice_get-set_other, slice_get-set_same, length-slice_set}
+use Rattle.mcs_base.proofs.Results.{some_same, no_none, option_cases}
+use Rattle.mcs_base.proofs.NumberCases.{cases_order}
 use Rattle.mcs_system.specs.Plain.{System}
 use Rattle.mcs_system.specs.Imports.{supplied}
 use Rattle.mcs_system.specs.Levels.{IsQuestionAt}
@@ -27,10 +29,10 @@ use Rattle.mcs_node.specs.Steps.{WereAsked, IsNeedOf, Adds, IsTotal, Takes, IsPo
 use Rattle.mcs_node.specs.Worked.{IsCalm, AreCalm, begun_node}
 use Rattle.mcs_node.specs.Existence.{TotalsExist, TotalsAreOne, StepsHaveTheirOutcome, OutcomesExclude, StepsHaveOneOutcome, NothingFails, EventsHaveSteps, OutcomesHaveSteps, EventsHaveRuns}
 use Rattle.mcs_node.proofs.SupplyLemmas.{supplied_by, supplier_below}
-use Rattle.mcs_node.proofs.RuleLemmas.{some_same, no_none, sent_to, put_out_sent, letter_from_sender, letter_supplies}
+use Rattle.mcs_node.proofs.RuleLemmas.{sent_to, put_out_sent, letter_from_sender, letter_supplies}
 use Rattle.mcs_node.proofs.StepLemmas.{later, steps_keep_soundness}
 use Rattle.mcs_node.proofs.TotalLemmas.{total_alike}
-use Rattle.mcs_node.proofs.EventLemmas.{ignored_possible, taken_possible, ignored_untaken, IsOpen, may_wait, may_finish, may_stop, may_be_stopped}
+use Rattle.mcs_node.proofs.EventLemmas.{ignored_possible, taken_possible, ignored_untaken, IsOpen, may_wait, may_finish, may_stop, may_be_stopped, granted_open}
 use Rattle.mcs_node.proofs.WorkedLemmas.{left_by, takes_place, need_one, asked_one}
 
 -- ---- outcomes
@@ -53,30 +55,13 @@ outcomes_exclude r c e Taken Taken a b = refl
 pub steps_have_one_outcome : StepsHaveOneOutcome
 steps_have_one_outcome r c d b e o p step other = outcomes_exclude r c e o p (steps_have_their_outcome r c d e o step) (steps_have_their_outcome r c b e p other)
 
--- ---- what can be told of lists
-place_cases : {A : Type 0} (xs : List A) (i : ℕ) → ((x : A) × (slice_get xs i ≡ Some x)) ⊎ (length xs ≤ i)
-place_cases xs i = elim (cases_lt i (length xs)) [ inl less ↦ inl (slice_get_below xs i less) | inr past ↦ inr past ]
-
-pub option_cases : {A : Type 0} (o : Option A) → (o ≡ None) ⊎ ((a : A) × (o ≡ Some a))
-option_cases None = inl refl
-option_cases (Some a) = inr (a, refl)
-
-pub number_cases : (x y : ℕ) → (x ≡ y) ⊎ ((x < y) ⊎ (y < x))
-number_cases x y = elim (cases_lt x y) [ inl less ↦ inr (inl less) | inr most ↦ elim (cases_eq x y) [ inl same ↦ inl same | inr differ ↦ inr (inr (omega (arith, most, differ))) ] ]
-
 -- ---- stamps
-stamp_same : (x y : Stamp) → x.level ≡ y.level → x.from ≡ y.from → x.to ≡ y.to → x.stop ≡ y.stop → x ≡ y
+pub stamp_same : (x y : Stamp) → x.level ≡ y.level → x.from ≡ y.from → x.to ≡ y.to → x.stop ≡ y.stop → x ≡ y
 stamp_same x y level from to stop =
     ap (λ (v : ℕ). record x { level = v }) level
     ∙ ap (λ (v : ℕ). record x { level = y.level; from = v }) from
     ∙ ap (λ (v : ℕ). record x { level = y.level; from = y.from; to = v }) to
     ∙ ap (λ (v : Bool). record y { stop = v }) stop
-
-stop_cases : (a b : Bool) → (a ≡ b) ⊎ (¬ (a ≡ b))
-stop_cases true true = inl refl
-stop_cases true false = inr true≢false
-stop_cases false true = inr (λ e. true≢false (sym e))
-stop_cases false false = inl refl
 
 stamp_cases : (x y : Stamp) → (x ≡ y) ⊎ (¬ (x ≡ y))
 stamp_cases x y = elim (cases_eq x.level y.level) [
@@ -85,7 +70,7 @@ stamp_cases x y = elim (cases_eq x.level y.level) [
     | inr differ ↦ inr (λ e. differ (ap (λ (z : Stamp). z.from) e))
     | inl from ↦ elim (cases_eq x.to y.to) [
       | inr differ ↦ inr (λ e. differ (ap (λ (z : Stamp). z.to) e))
-      | inl to ↦ elim (stop_cases x.stop y.stop) [
+      | inl to ↦ elim (cases_same x.stop y.stop) [
         | inr differ ↦ inr (λ e. differ (ap (λ (z : Stamp). z.stop) e))
         | inl stop ↦ inl (stamp_same x y level from to stop)
       ]
@@ -112,7 +97,7 @@ module _ (m : System) (i : ℕ) where
 
   receivers_listed : (js : List ℕ) × IsListing (Supplies m i) (λ a b. a < b) js
   receivers_listed =
-      let (js, listing) = listing_below (λ a b. a < b) (λ x y z h k. omega (arith, h, k)) number_cases (λ j. test_of (supplies_cases j)) (length m.contexts) in (
+      let (js, listing) = listing_below (λ a b. a < b) (λ x y z h k. omega (arith, h, k)) cases_order (λ j. test_of (supplies_cases j)) (length m.contexts) in (
         js,
         IsListing-same (λ (a b : ℕ). a < b) (λ j. (j < length m.contexts) × IsTrue (test_of (supplies_cases j))) (Supplies m i) js
             (λ j. ((λ h. (test_of-tells (supplies_cases j)).0 h.1), (λ s. (s.2, (test_of-tells (supplies_cases j)).1 s)))) listing,
@@ -175,13 +160,6 @@ totals_exist r nodes long =
 adds_one : (r : Round) (i : ℕ) (granted : Option ℕ) (n k : ℕ) → Adds r i granted n → Adds r i granted k → n ≡ k
 adds_one r i None n k a b = a ∙ sym b
 adds_one r i (Some total) n k a b = need_one r i n k a b
-
-same_lists : (xs ys : List ℕ) → length xs ≡ length ys → ((i x y : ℕ) → slice_get xs i ≡ Some x → slice_get ys i ≡ Some y → x ≡ y) → xs ≡ ys
-same_lists [] [] long each = refl
-same_lists [] (y ∷ ys) long each = absurd (omega (arith, long))
-same_lists (x ∷ xs) [] long each = absurd (omega (arith, long))
-same_lists (x ∷ xs) (y ∷ ys) long each =
-    ap₂ (λ (z : ℕ) (zs : List ℕ). z ∷ zs) (each zero x y refl refl) (same_lists xs ys (omega (arith, long)) (λ i v w at there. each (suc i) v w at there))
 
 pub totals_are_one : TotalsAreOne
 totals_are_one r nodes total other a b =
@@ -311,21 +289,18 @@ module _ (r : Round) (c : Configuration) (sound : IsSound r c) (i : ℕ) (s : No
       let (total, counted) = totals_exist r (slice_set c.nodes i (record s { granted = Some 0 })) (length-slice_set c.nodes i (record s { granted = Some 0 }) ∙ sound.one_each) in
       (total, granted_alike r c.nodes i s 0 total total (slice_get_within c.nodes i s at) counted)
 
-  granted_open : (total : ℕ) → IsOpen (record s { granted = Some total })
-  granted_open total = record { put_out = is_open.put_out; done = is_open.done; halt = is_open.halt; by_itself = is_open.by_itself }
-
   granted_within : (total : ℕ) → IsTotal r (slice_set c.nodes i (record s { granted = Some total })) total → total ≤ r.budget → HasStep r c (Grant i)
   granted_within total counted within =
       let (new, sent) = sent_exists r i false in
       step_taken r c (Grant i) i s (record s { granted = Some total }) (record s { granted = Some total; put_out = new; done = true }) new at (refl, awaits, total, counted, refl)
-      (may_finish r c i (record s { granted = Some total }) (granted_open total) new (total, refl, within) (supplies_had r c sound i s at awaits no_stop) sent)
+      (may_finish r c i (record s { granted = Some total }) (granted_open s is_open total) new (total, refl, within) (supplies_had r c sound i s at awaits no_stop) sent)
       (goes_on s (record s { granted = Some total; put_out = new; done = true }) refl)
 
   granted_over : (total : ℕ) → IsTotal r (slice_set c.nodes i (record s { granted = Some total })) total → r.budget < total → HasStep r c (Grant i)
   granted_over total counted over =
       let (new, sent) = sent_exists r i true in
       step_taken r c (Grant i) i s (record s { granted = Some total }) (record s { granted = Some total; put_out = new; halt = Some (Spent r.level total); by_itself = true }) new at (refl, awaits, total, counted, refl)
-      (may_stop r c i (record s { granted = Some total }) (granted_open total) new (Spent r.level total) (refl, refl, over) sent) (λ unstopped own. (r.level, total, refl))
+      (may_stop r c i (record s { granted = Some total }) (granted_open s is_open total) new (Spent r.level total) (refl, refl, over) sent) (λ unstopped own. (r.level, total, refl))
 
   is_granted : HasStep r c (Grant i)
   is_granted = let (total, counted) = granted_total in elim (cases_lt r.budget total) [ inl over ↦ granted_over total counted over | inr within ↦ granted_within total counted within ]

@@ -1,5 +1,5 @@
 -- A node that waits for its grant, and what it is asked.
-use Rattle.std.proofs.Common.{◌≡◌, ℕ, ◌+◌, ◌-◌, ◌<◌, ◌≤◌, false, List, length, Option, Some, None, zero, suc, refl, sym, ap, ◌∙◌, subst, arith}
+use Rattle.std.proofs.Common.{◌≡◌, ℕ, ◌-◌, ◌<◌, ◌≤◌, false, List, length, Option, Some, None, refl, sym, ap, ◌∙◌, subst, arith}
 use Rattle.std.proofs.lemmas.List.{length-map}
 use Rattle.std.specs.List.{AllByRecursion}
 use Rattle.mcs_base.specs.Listings.{IsAmong, IsListing}
@@ -8,9 +8,10 @@ use Rattle.mcs_base.proofs.Distinct.{distinct_fits}
 use Rattle.mcs_base.proofs.Each.{all_from_among}
 use Rattle.mcs_sets.specs.Sets.{Within}
 use Rattle.mcs_system.specs.Plain.{System}
-use Rattle.mcs_system.specs.Imports.{IsQuestion, rules_into, supplied}
+use Rattle.mcs_system.specs.Imports.{rules_into, supplied}
 use Rattle.mcs_system.specs.Levels.{IsQuestionAt}
-use Rattle.mcs_laws.proofs.Questions.{questions_grow as question_grows}
+use Rattle.mcs_system.proofs.ContextSets.{supplied_apart}
+use Rattle.mcs_laws.proofs.Questions.{question_higher}
 use Rattle.mcs_import.proofs.OrderLemmas.{import_order_exists}
 use Rattle.mcs_states.specs.Oracles.{OracleState}
 use Rattle.mcs_states.specs.Evaluators.{IsJournalQuestion}
@@ -24,18 +25,8 @@ use Rattle.mcs_node.specs.declared.round.Stage as stage_code
 use Rattle.mcs_node.specs.declared.round.Stage.TheVariants.{Waits, Done, Stopped}
 use Rattle.mcs_node.specs.declared.round.InRound as code
 use Rattle.mcs_node.proofs.AnswerLemmas.{new_count, new_is_new}
-use Rattle.mcs_node.proofs.HandlingLemmas.{heard, in_order, supplied_apart}
+use Rattle.mcs_node.proofs.HandlingLemmas.{heard, in_order}
 use Rattle.mcs_node.proofs.BeginLemmas.{node_in}
-
--- ---- levels grow
-question_after : (m : System) (order : List ℕ) (level n i x : ℕ) → IsQuestion m order level i x → IsQuestion m order (level + n) i x
-question_after m order level zero i x q = let e : level + 0 ≡ level = omega arith in subst (λ k. IsQuestion m order k i x) (sym e) q
-question_after m order level (suc n) i x q = let e : level + n + 1 ≡ level + suc n = omega arith in subst (λ k. IsQuestion m order k i x) e (question_grows m order (level + n) i x (question_after m order level n i x q))
-
-question_higher : (m : System) (level higher i x : ℕ) → level ≤ higher → IsQuestionAt m level i x → IsQuestionAt m higher i x
-question_higher m level higher i x less (order, ordered, q) =
-    let e : level + (higher - level) ≡ higher = omega (arith, less) in
-    (order, ordered, subst (λ k. IsQuestion m order k i x) e (question_after m order level (higher - level) i x q))
 
 -- ---- the new questions
 module _ (m : System) (level i : ℕ) (asked : List ℕ) (listed : IsListing (IsQuestionAt m level i) (λ a b. a < b) asked) where

@@ -1,9 +1,10 @@
 -- A node that was granted its total.
-use Rattle.std.proofs.Common.{Vec, Global, ◌≡◌, ℕ, ◌<◌, ◌≤◌, ◌++◌, ◌⊎◌, Bool, true, false, List, [], ◌∷◌, map, take, length, Option, Some, None, is_some, Result, Ok, Err, IfOk, IfErr, refl, sym, ap, ◌∙◌, subst, inl, inr, arith}
+use Rattle.std.proofs.Common.{Vec, Global, ◌≡◌, ℕ, ◌<◌, ◌≤◌, ◌++◌, ◌⊎◌, Bool, true, false, List, [], take, length, Option, Some, None, is_some, Result, Ok, Err, IfOk, IfErr, refl, sym, ap, ◌∙◌, subst, inl, inr, arith}
 use Rattle.std.proofs.lemmas.List.{take_all}
 use Rattle.std.specs.List.{AllByRecursion}
 use Rattle.std.specs.declared.sync.Arc.{Arc}
 use Rattle.mcs_base.specs.Listings.{IsListing}
+use Rattle.mcs_base.proofs.Mapped.{copied_each}
 use Rattle.mcs_sets.specs.Sets.{Within}
 use Rattle.mcs_system.specs.Plain.{System}
 use Rattle.mcs_system.specs.Imports.{rules_into}
@@ -23,16 +24,6 @@ use Rattle.mcs_node.specs.declared.round.InRound as code
 use Rattle.mcs_node.proofs.BeginLemmas.{node_in}
 use Rattle.mcs_node.proofs.GrantLemmas.{all_among_asked, all_right, asked_rules, new_listed, waits_ready}
 use Rattle.mcs_node.proofs.HandlingLemmas.{node_at}
-
--- ---- copies
--- as many copies as there are envelopes
-pub copied_each : {A B : Type 0} (f : A → List ℕ) (xs : List ℕ) (copies : List A) (envelopes : List B) → length copies ≡ length envelopes → AllByRecursion (λ copy. f copy ≡ xs) copies → map f copies ≡ map (λ envelope. xs) envelopes
-copied_each f xs [] [] e each = refl
-copied_each f xs [] (v ∷ vs) e each = absurd (omega (arith, e))
-copied_each f xs (c ∷ cs) [] e each = absurd (omega (arith, e))
-copied_each f xs (c ∷ cs) (v ∷ vs) e each =
-    let rest : map f cs ≡ map (λ envelope. xs) vs = copied_each f xs cs vs (omega (arith, e)) each.1 in
-    ap (λ y. y ∷ map f cs) each.0 ∙ ap (λ ys. xs ∷ ys) rest
 
 -- ---- a halt that was told, or want of memory
 pub cause_of_halt : {A : Type 0} (P : Halt → Type 0) (known : Result A Halt) (halt : Halt) → IfErr known P → P Memory → (halt ≡ Memory) ⊎ (known ≡ Err halt) → P halt

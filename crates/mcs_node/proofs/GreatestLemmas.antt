@@ -3,7 +3,8 @@ use Rattle.std.proofs.Common.{◌≡◌, ℕ, ◌<◌, List, [], ◌∷◌, leng
 use Rattle.std.proofs.lemmas.Bool.{cases_eq}
 use Rattle.std.proofs.lemmas.Option.{slice_get_within}
 use Rattle.mcs_base.proofs.Lists.{slice_get_below}
-use Rattle.mcs_base.proofs.Written.{slice_get-slice_set, slice_get-set_other, slice_get-set_same, length-slice_set}
+use Rattle.mcs_base.proofs.Written.{slice_get-set_other, slice_get-set_same, length-slice_set}
+use Rattle.mcs_base.proofs.Results.{some_same, no_none}
 use Rattle.mcs_system.specs.Levels.{IsCount}
 use Rattle.mcs_import.proofs.CountLemmas.{counts_agree}
 use Rattle.mcs_node.specs.declared.event.Event.{Event}
@@ -12,8 +13,8 @@ use Rattle.mcs_node.specs.Rounds.{Round, NodeState}
 use Rattle.mcs_node.specs.Configurations.{Configuration, HasNode, first_configuration, IsSound, IsDone}
 use Rattle.mcs_node.specs.Steps.{IsTotal, Changes, TakesPlace, Outcome, Skipped, Ignored, Taken, Step, Runs}
 use Rattle.mcs_node.specs.Laws.{IsOnward, GreatestTotalIsTheCount}
-use Rattle.mcs_node.proofs.RuleLemmas.{some_same, no_none, done_finishes}
-use Rattle.mcs_node.proofs.StepLemmas.{new_at, first_is_sound, runs_are_sound}
+use Rattle.mcs_node.proofs.RuleLemmas.{done_finishes}
+use Rattle.mcs_node.proofs.StepLemmas.{new_at, first_is_sound, runs_are_sound, after_at, other_at, was_at}
 use Rattle.mcs_node.proofs.TotalLemmas.{total_alike, totals_count_questions, AreGranted, runs_grant}
 
 -- a node was granted the total of all that were granted so far
@@ -29,20 +30,10 @@ abbrev HasLast : Round → Configuration → Type 0
 HasLast r c = ((i : ℕ) (s : NodeState) → HasNode c i s → s.granted ≡ None) ⊎ IsLast r c
 
 module _ (r : Round) (c d : Configuration) (e : Event) (step : TakesPlace r c e d) where
-  after_at : HasNode d step.context step.after
-  after_at = subst (λ (l : List NodeState). slice_get l step.context ≡ Some step.after) (sym step.nodes)
-      (slice_get-set_same c.nodes step.context step.after (slice_get_within c.nodes step.context step.old step.node))
-
-  other_at : (k : ℕ) (p : NodeState) → ¬ (k ≡ step.context) → HasNode c k p → HasNode d k p
-  other_at k p differ at = subst (λ (l : List NodeState). slice_get l k ≡ Some p) (sym step.nodes) (slice_get-set_other c.nodes step.context k step.after differ ∙ at)
-
-  was_at : (k : ℕ) (q : NodeState) → HasNode d k q → ((k ≡ step.context) × (q ≡ step.after)) ⊎ ((¬ (k ≡ step.context)) × HasNode c k q)
-  was_at k q at = slice_get-slice_set c.nodes step.context k step.after q (subst (λ (l : List NodeState). slice_get l k ≡ Some q) step.nodes at)
-
   -- an event that grants nothing leaves the last total
   module _ (same : step.after.granted ≡ step.old.granted) where
     none_still : ((i : ℕ) (s : NodeState) → HasNode c i s → s.granted ≡ None) → (i : ℕ) (s : NodeState) → HasNode d i s → s.granted ≡ None
-    none_still none i s at = elim (was_at i s at) [
+    none_still none i s at = elim (was_at r c d e step i s at) [
       | inl (here, is) ↦ ap (λ (p : NodeState). p.granted) is ∙ same ∙ none step.context step.old step.node
       | inr (differ, was) ↦ none i s was
     ]
@@ -51,7 +42,7 @@ module _ (r : Round) (c d : Configuration) (e : Event) (step : TakesPlace r c e 
     still_counted total counted = total_alike r c.nodes d.nodes total (ap (λ (l : List NodeState). length l) step.nodes ∙ length-slice_set c.nodes step.context step.after) was counted
       where
         was : (k : ℕ) (q : NodeState) → slice_get d.nodes k ≡ Some q → (p : NodeState) × (slice_get c.nodes k ≡ Some p) × (is_some p.granted ≡ is_some q.granted)
-        was k q there = elim (was_at k q there) [
+        was k q there = elim (was_at r c d e step k q there) [
           | inl (here, is) ↦ (
             step.old,
             subst (λ (j : ℕ). slice_get c.nodes j ≡ Some step.old) (sym here) step.node,
@@ -66,7 +57,7 @@ module _ (r : Round) (c d : Configuration) (e : Event) (step : TakesPlace r c e 
         context = step.context;
         node = step.after;
         total = last.total;
-        at = after_at;
+        at = after_at r c d e step;
         granted = same ∙ ap (λ (p : NodeState). p.granted) (sym one) ∙ last.granted;
         counted = still_counted last.total last.counted;
       })
@@ -74,7 +65,7 @@ module _ (r : Round) (c d : Configuration) (e : Event) (step : TakesPlace r c e 
         context = last.context;
         node = last.node;
         total = last.total;
-        at = other_at last.context last.node differ last.at;
+        at = other_at r c d e step last.context last.node differ last.at;
         granted = last.granted;
         counted = still_counted last.total last.counted;
       }
@@ -92,7 +83,7 @@ module _ (r : Round) (c d : Configuration) (e : Event) (step : TakesPlace r c e 
       where
         was : (k : ℕ) (q : NodeState) → slice_get d.nodes k ≡ Some q
             → (p : NodeState) × (slice_get (slice_set c.nodes step.context step.changed) k ≡ Some p) × (is_some p.granted ≡ is_some q.granted)
-        was k q there = elim (was_at k q there) [
+        was k q there = elim (was_at r c d e step k q there) [
           | inl (here, is) ↦ (
             step.changed,
             subst (λ (j : ℕ). slice_get (slice_set c.nodes step.context step.changed) j ≡ Some step.changed) (sym here)
@@ -103,7 +94,7 @@ module _ (r : Round) (c d : Configuration) (e : Event) (step : TakesPlace r c e 
         ]
 
     grant_last : IsLast r d
-    grant_last = record { context = step.context; node = step.after; total = total; at = after_at; granted = step.reacts.granted ∙ got; counted = grant_counted }
+    grant_last = record { context = step.context; node = step.after; total = total; at = after_at r c d e step; granted = step.reacts.granted ∙ got; counted = grant_counted }
 
 taken_last : (r : Round) (c d : Configuration) (e : Event) (step : TakesPlace r c e d) → Changes r c e step.context step.old step.changed → HasLast r c → HasLast r d
 taken_last r c d (Begin i) step (here, unbegun, is) has = has_still r c d (Begin i) step (step.reacts.granted ∙ ap (λ (p : NodeState). p.granted) is) has

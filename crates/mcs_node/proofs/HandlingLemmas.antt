@@ -1,16 +1,17 @@
 -- A letter that a node takes.
-use Rattle.std.proofs.Common.{◌≡◌, ℕ, ◌<◌, ◌≤◌, nat_eq, Bool, true, false, cond, List, [], ◌∷◌, ◌++◌, map, take, length, slice_get, slice_set, Option, Some, None, IfNone, zero, suc, ◌⊎◌, refl, sym, ap, ◌∙◌, subst, inl, inr, arith}
+use Rattle.std.proofs.Common.{◌≡◌, ℕ, ◌<◌, ◌≤◌, Bool, true, false, List, [], ◌∷◌, ◌++◌, map, take, length, slice_get, slice_set, Option, Some, None, zero, suc, ◌⊎◌, refl, sym, ap, ◌∙◌, subst, inl, inr, arith}
 use Rattle.std.proofs.lemmas.List.{length-map, map_push, take_all}
 use Rattle.std.specs.List.{AllByRecursion}
 use Rattle.std.specs.Arc.{arc_value}
 use Rattle.mcs_base.specs.Listings.{IsAmong, AreApart, IsListing}
 use Rattle.mcs_base.proofs.Among.{among_get, among_left, among_map, among_push, among_right, cases_among, map_among}
-use Rattle.mcs_base.proofs.Distinct.{distinct_filter, distinct_fits, distinct_push, one_place}
+use Rattle.mcs_base.proofs.Distinct.{distinct_fits, distinct_push, one_place}
 use Rattle.mcs_base.proofs.Written.{length-slice_set, slice_get-slice_set}
 use Rattle.mcs_sets.specs.Orders.{StateBefore}
 use Rattle.mcs_system.specs.Plain.{System}
-use Rattle.mcs_system.specs.Imports.{FollowsOrder, IsImportOrder, before_in, imports, supplied}
+use Rattle.mcs_system.specs.Imports.{IsImportOrder, supplied}
 use Rattle.mcs_system.specs.Levels.{MaySupply}
+use Rattle.mcs_system.proofs.ContextSets.{supplied_apart}
 use Rattle.mcs_import.specs.Plans.{AreSupplies}
 use Rattle.mcs_import.proofs.OrderLemmas.{import_order_exists, import_order_is_one}
 use Rattle.mcs_states.specs.Oracles.{OracleState}
@@ -27,41 +28,8 @@ use Rattle.mcs_node.specs.declared.round.Stage.TheVariants.{Waits, Done, Stopped
 use Rattle.mcs_node.specs.declared.round.InRound as code
 
 -- ---- no context supplies another twice
-follows_untaken : (m : System) (taken xs : List ℕ) → FollowsOrder m taken xs → (k : ℕ) → IsAmong k xs → ¬ IsAmong k taken
-follows_untaken m taken [] h k among t = among
-follows_untaken m taken (x ∷ xs) h k (inl e) t = h.0.ready.untaken (subst (λ (z : ℕ). IsAmong z taken) e t)
-follows_untaken m taken (x ∷ xs) h k (inr later) t = follows_untaken m (taken ++ x ∷ []) xs h.1 k later (among_left k taken (x ∷ []) t)
-
-follows_apart : (m : System) (taken xs : List ℕ) → FollowsOrder m taken xs → AreApart xs
-follows_apart m taken [] h = tt
-follows_apart m taken (x ∷ xs) h = (λ later. follows_untaken m (taken ++ x ∷ []) xs h.1 x later (among_right x taken (x ∷ []) (inl refl)), follows_apart m (taken ++ x ∷ []) xs h.1)
-
-among_before : (x i : ℕ) (xs : List ℕ) → IsAmong x (before_in xs i) → IsAmong x xs
-among_before x i [] h = h
-among_before x i (y ∷ ys) h = at (nat_eq y i) h (among_before x i ys)
-  where
-    at : (v : Bool) → IsAmong x (cond v [] (y ∷ before_in ys i)) → (IsAmong x (before_in ys i) → IsAmong x ys) → IsAmong x (y ∷ ys)
-    at true none rest = absurd none
-    at false (inl e) rest = inl e
-    at false (inr later) rest = inr (rest later)
-
-before_apart : (xs : List ℕ) (i : ℕ) → AreApart xs → AreApart (before_in xs i)
-before_apart [] i h = tt
-before_apart (x ∷ xs) i h = at (nat_eq x i) (before_apart xs i h.1)
-  where
-    at : (v : Bool) → AreApart (before_in xs i) → AreApart (cond v [] (x ∷ before_in xs i))
-    at true rest = tt
-    at false rest = (λ among. h.0 (among_before x i xs among), rest)
-
-pub supplied_apart : (m : System) (order : List ℕ) (i : ℕ) → IsImportOrder m order → AreApart (supplied m order i)
-supplied_apart m order i h = distinct_filter (imports m i) (before_in order i) (before_apart order i (follows_apart m [] order h))
-
 pub in_order : (m : System) (i : ℕ) (order : List ℕ) → IsImportOrder m order → (j : ℕ) → Supplies m j i → IsAmong j (supplied m order i)
 in_order m i order ordered j (other, also, low, among) = subst (λ xs. IsAmong j (supplied m xs i)) (import_order_is_one m other order also ordered) among
-
-pub none_weaker : {A P Q : Type 0} (o : Option A) → (P → Q) → IfNone o P → IfNone o Q
-none_weaker None f p = f p
-none_weaker (Some x) f p = tt
 
 -- ---- what was had
 

@@ -3,6 +3,7 @@ use Rattle.std.proofs.Common.{◌≡◌, ℕ, ◌+◌, ◌<◌, ◌≤◌, Bool,
 use Rattle.mcs_base.specs.Listings.{IsAmong, IsInventory, IsListing}
 use Rattle.mcs_base.proofs.Among.{among_get, among_right, map_among}
 use Rattle.mcs_base.proofs.Lists.{slice_get-map_some}
+use Rattle.mcs_base.proofs.Results.{some_same}
 use Rattle.mcs_system.specs.Plain.{System}
 use Rattle.mcs_states.specs.Oracles.{OracleState}
 use Rattle.mcs_states.specs.declared.halt.Halt.{Halt}
@@ -16,7 +17,7 @@ use Rattle.mcs_node.specs.Letters.{ContentData, LetterData, Supply, Stop, is_sto
 use Rattle.mcs_node.specs.Nodes.{HasFailed, HasFinished, HasTaken, IsAwaited, IsGranted, IsGrantHalt, IsNeed, NodeData, letters_to, round_at, stamps_to, stopped_with, with_content, with_grant, with_had}
 use Rattle.mcs_node.specs.Steps.{Changes, IsNeedOf, IsTotal, Reacts, Step, Taken, Takes}
 use Rattle.mcs_node.specs.Playing.{has_begun, WasPutOut, IsInPlay, GrantsAreSteps, LettersAreSteps}
-use Rattle.mcs_node.proofs.RuleLemmas.{letter_from_sender, sent_to, some_same}
+use Rattle.mcs_node.proofs.RuleLemmas.{letter_from_sender, sent_to}
 use Rattle.mcs_node.proofs.EventLemmas.{IsOpen, may_be_stopped, may_finish, may_stop, may_wait}
 use Rattle.mcs_node.proofs.ExistenceLemmas.{awaiting_open, goes_on_waiting, keeps_rule, no_stop_still, stays_halted, supplies_had, told_open, waits_open}
 use Rattle.mcs_node.proofs.WorkedLemmas.{left_by}

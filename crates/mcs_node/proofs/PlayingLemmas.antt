@@ -1,13 +1,13 @@
 -- Nodes that play a round: what stands in the configuration that they make, and what a call leaves of it.
-use Rattle.std.proofs.Common.{◌≡◌, ℕ, ◌+◌, ◌<◌, zero, suc, true, false, true≢false, List, [], ◌∷◌, ◌++◌, map, length, Option, Some, None, slice_get, slice_set, is_some, append-nil, refl, sym, ap, ◌∙◌, subst, inl, inr, arith}
+use Rattle.std.proofs.Common.{◌≡◌, ℕ, ◌+◌, ◌<◌, true, false, true≢false, List, [], ◌++◌, map, length, Option, Some, None, slice_get, slice_set, is_some, append-nil, refl, sym, ap, ◌∙◌, subst, inl, inr, arith}
 use Rattle.std.proofs.lemmas.List.{length-map, map-append}
-use Rattle.std.proofs.lemmas.List.Sums.{sum_by-cons}
-use Rattle.std.proofs.lemmas.Option.{none-some, same_Some, slice_get_within}
-use Rattle.std.specs.List.{sum_by}
+use Rattle.std.proofs.lemmas.Option.{slice_get_within}
 use Rattle.mcs_base.specs.Listings.{IsAmong, IsListing}
 use Rattle.mcs_base.proofs.Among.{among_either, among_get}
 use Rattle.mcs_base.proofs.Lists.{map_slice_get, slice_get_below, slice_get-map_some}
 use Rattle.mcs_base.proofs.Written.{slice_get-slice_set, slice_get-set_other, slice_get-set_same, length-slice_set}
+use Rattle.mcs_base.proofs.Results.{some_same, no_none}
+use Rattle.mcs_base.proofs.Placed.{sum_put}
 use Rattle.mcs_system.specs.Plain.{Context, System}
 use Rattle.mcs_states.specs.Oracles.{OracleState}
 use Rattle.mcs_states.specs.declared.halt.Halt.{Halt}
@@ -19,7 +19,6 @@ use Rattle.mcs_node.specs.Letters.{LetterData, Stop, stamp_of}
 use Rattle.mcs_node.specs.Nodes.{IsAbove, IsNewNode, NodeData, begun_at, begun_node, done_level, round_at}
 use Rattle.mcs_node.specs.Steps.{Adds, Changes, IsNeedOf, IsTotal, Reacts, Step, Taken, Takes, TakesPlace, WereAsked}
 use Rattle.mcs_node.specs.Playing.{HasState, has_begun, has_not, HaveStates, WasPutOut, IsInPlay, NewNodesAreFirst, BeginsAreSteps, BegunIsSkipped, UngrantedIsSkipped, StrangersAreIgnored, UnsentIsSkipped}
-use Rattle.mcs_node.proofs.RuleLemmas.{some_same, no_none}
 use Rattle.mcs_node.proofs.StepLemmas.{first_is_sound, later, new_at, steps_keep_soundness}
 use Rattle.mcs_node.proofs.TotalLemmas.{no_sum, total_alike}
 use Rattle.mcs_node.proofs.EventLemmas.{may_wait}
@@ -48,12 +47,6 @@ module _ (r : Round) (nodes : List NodeData) (states : List NodeState) (have : H
   state_of i d at = let (s, there) = slice_get_below states i (omega (arith, slice_get_within nodes i d at, have.states_each)) in (s, there, have.each i d s at there)
 
 -- ---- totals
--- a number takes the place of nothing
-sum_put : (ns : List ℕ) (i n : ℕ) → slice_get ns i ≡ Some 0 → sum_by (λ k. k) (slice_set ns i n) ≡ sum_by (λ k. k) ns + n
-sum_put [] i n is = absurd (none-some 0 is)
-sum_put (a ∷ ns) zero n is = let e : a ≡ 0 = same_Some a 0 is in omega (arith, e, sum_by-cons (λ (k : ℕ). k) a ns, sum_by-cons (λ (k : ℕ). k) n ns)
-sum_put (a ∷ ns) (suc i) n is = let rest = sum_put ns i n is in omega (arith, rest, sum_by-cons (λ (k : ℕ). k) a ns, sum_by-cons (λ (k : ℕ). k) a (slice_set ns i n))
-
 module _ (r : Round) (states : List NodeState) (i : ℕ) (s u : NodeState) (at : slice_get states i ≡ Some s) (n : ℕ) (t : IsTotal r states n) where
   -- a node changes that is not granted a total
   pub total_kept : is_some s.granted ≡ is_some u.granted → IsTotal r (slice_set states i u) n

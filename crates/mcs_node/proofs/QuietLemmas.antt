@@ -6,14 +6,16 @@ use Rattle.std.specs.List.{range_with_len}
 use Rattle.mcs_base.specs.Listings.{IsAmong}
 use Rattle.mcs_base.proofs.Among.{among_range, range_among}
 use Rattle.mcs_base.proofs.Lists.{slice_get_below}
+use Rattle.mcs_base.proofs.Results.{some_same}
+use Rattle.mcs_base.proofs.Each.{all_or}
 use Rattle.mcs_system.specs.Imports.{supplied}
 use Rattle.mcs_states.specs.declared.halt.Halt.{Halt}
 use Rattle.mcs_import.proofs.OrderLemmas.{import_order_exists}
 use Rattle.mcs_node.specs.Rounds.{Supplies, stamp, Round, NodeState, ObeysRule, waits, finishes, is_stopped, stops}
 use Rattle.mcs_node.specs.Configurations.{Configuration, HasNode, IsSound, IsQuiet, IsDone, HasHalt, HasStopped}
 use Rattle.mcs_node.specs.Laws.{QuietRoundsAreDone, HaltsHaveASource}
-use Rattle.mcs_node.proofs.SupplyLemmas.{supplied_by, supplier_below, along_order, all_or}
-use Rattle.mcs_node.proofs.RuleLemmas.{some_same, done_finishes, letter_supplies}
+use Rattle.mcs_node.proofs.SupplyLemmas.{supplied_by, supplier_below, along_order}
+use Rattle.mcs_node.proofs.RuleLemmas.{done_finishes, letter_supplies}
 
 module _ (r : Round) (c : Configuration) (sound : IsSound r c) where
   node_below : (i : ℕ) → i < length r.system.contexts → (s : NodeState) × HasNode c i s

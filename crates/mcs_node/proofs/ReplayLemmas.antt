@@ -5,6 +5,9 @@ use Rattle.std.proofs.lemmas.List.Sums.{sum_by-cons}
 use Rattle.std.specs.Cmp.{both_ways}
 use Rattle.mcs_base.proofs.Booleans.{test_of, test_of-tells, true_tells, false_tells}
 use Rattle.mcs_base.proofs.Deciding.{cases_true, cases_all_get}
+use Rattle.mcs_base.proofs.Results.{some_same, no_none, option_cases}
+use Rattle.mcs_base.proofs.NumberCases.{cases_order}
+use Rattle.mcs_base.proofs.Each.{each_of_two}
 use Rattle.mcs_states.specs.declared.halt.Halt.{Halt}
 use Rattle.mcs_states.specs.declared.halt.Halt.TheVariants.{Spent}
 use Rattle.mcs_node.specs.declared.event.Event.{Event}
@@ -14,14 +17,14 @@ use Rattle.mcs_node.specs.Configurations.{Configuration, new_node, first_configu
 use Rattle.mcs_node.specs.Steps.{Outcome, Skipped, Ignored, Taken}
 use Rattle.mcs_node.specs.Worked.{AreTwo, letter, both, IsCalm, AreCalm, LeadTo, begun_node, finished, first_round}
 use Rattle.mcs_node.specs.Replay.{Replayed, is_skipped, is_ignored, is_taken, IsLowestHalt, AreTold, IsReplay, OutcomesAddUp, OneThingIsTold, EventsHaveReplays, QuietReplaysEnd, ReplaysTellTruth, TellsAlone, TurnsAreTold, SkipsAreTold, SpentIsTold, ExampleIsSpent}
-use Rattle.mcs_node.proofs.RuleLemmas.{some_same, no_none, done_finishes}
+use Rattle.mcs_node.proofs.RuleLemmas.{done_finishes}
 use Rattle.mcs_node.proofs.StepLemmas.{first_is_sound, runs_are_sound}
 use Rattle.mcs_node.proofs.QuietLemmas.{quiet_rounds_are_done, halts_have_a_source}
 use Rattle.mcs_node.proofs.TotalLemmas.{halts_are_true}
 use Rattle.mcs_node.proofs.EventLemmas.{IsCertain, certain_skipped, certain_ignored, lead_nil, lead_cons}
 use Rattle.mcs_node.proofs.WorkedLemmas.{certain_begin, certain_over, certain_supply, made_total, one_total, need_one, grant_first, grant_second, second_awaits, second_open, second_sends, second_sent, from_first, has_had, not_begun, has_begun, no_letter}
 use Rattle.mcs_node.proofs.ExampleLemmas.{example_needs_one_each}
-use Rattle.mcs_node.proofs.ExistenceLemmas.{option_cases, number_cases, own_halt, events_have_runs}
+use Rattle.mcs_node.proofs.ExistenceLemmas.{own_halt, events_have_runs}
 
 -- ---- counts
 counted : (p : Outcome → Bool) (o : Outcome) (os : List Outcome) → count_by p (o ∷ os) ≡ cond (p o) 1 0 + count_by p os
@@ -62,7 +65,7 @@ lowest_one : (nodes : List NodeState) (o p : Option Halt) → IsLowestHalt nodes
 lowest_one nodes None None low low' = refl
 lowest_one nodes None (Some halt) low (i, s, at, own, is, before) = absurd (true≢false (sym own ∙ low i s at))
 lowest_one nodes (Some halt) None (i, s, at, own, is, before) low' = absurd (true≢false (sym own ∙ low' i s at))
-lowest_one nodes (Some halt) (Some other) (i, s, at, own, is, before) (j, t, there, own', is', before') = elim (number_cases i j) [
+lowest_one nodes (Some halt) (Some other) (i, s, at, own, is, before) (j, t, there, own', is', before') = elim (cases_order i j) [
   | inl same ↦
       let one : s ≡ t = some_same (slice_get nodes j) s t (subst (λ (k : ℕ). slice_get nodes k ≡ Some s) same at) there in
       sym is ∙ ap (λ (p : NodeState). p.halt) one ∙ is'
@@ -152,11 +155,6 @@ tells_alone r es os d told lead calm are = record { may = (record { outcomes = o
     alone other replay other_calm =
         let (same, is) = lead.alone replay.outcomes replay.left replay.run other_calm in
         told_one os d other told (subst (λ (b : Configuration). AreTold os b other) is (subst (λ (l : List Outcome). AreTold l replay.left other) same replay.are_told)) are
-
-each_of_two : (P : NodeState → Type 0) (a b : NodeState) → P a → P b → (i : ℕ) (s : NodeState) → slice_get (a ∷ b ∷ []) i ≡ Some s → P s
-each_of_two P a b here there zero s at = subst P (some_same (Some a) a s refl at) here
-each_of_two P a b here there (suc zero) s at = subst P (some_same (Some b) b s refl at) there
-each_of_two P a b here there (suc (suc i)) s at = absurd (no_none None s refl at)
 
 first_of_two : (P : NodeState → Type 0) (a b : NodeState) → P a → (i : ℕ) (s : NodeState) → i < 1 → slice_get (a ∷ b ∷ []) i ≡ Some s → P s
 first_of_two P a b here zero s less at = subst P (some_same (Some a) a s refl at) here

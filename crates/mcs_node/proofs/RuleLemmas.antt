@@ -1,18 +1,11 @@
 -- What the rule of a node says of its letters.
-use Rattle.std.proofs.Common.{◌≡◌, ℕ, ◌<◌, Bool, true, false, true≢false, List, Option, Some, None, is_some, sym, ap, ◌∙◌, subst, unwrap_or}
+use Rattle.std.proofs.Common.{◌≡◌, ℕ, ◌<◌, Bool, true, false, true≢false, List, sym, ap, ◌∙◌, subst}
 use Rattle.mcs_base.specs.Listings.{IsAmong, AreApart, IsInventory, IsListing}
 use Rattle.mcs_base.proofs.Among.{among_map, map_among}
 use Rattle.mcs_base.proofs.Distinct.{ascending_distinct, distinct_map}
 use Rattle.mcs_node.specs.Rounds.{Supplies, Stamp, stamp, Round, NodeState, IsSentBy, Finishes, ObeysRule, waits, finishes, is_stopped, stops}
 use Rattle.mcs_node.specs.Configurations.{Configuration, HasNode, IsFromSender, IsPutOut, IsSound}
 use Rattle.mcs_node.specs.Nodes.{stamps_to}
-
--- two that stand at one place are one
-pub some_same : {A : Type 0} (o : Option A) (a b : A) → o ≡ Some a → o ≡ Some b → a ≡ b
-some_same {A} o a b is is' = ap (λ (p : Option A). unwrap_or p a) (sym is ∙ is')
-
-pub no_none : {A : Type 0} (o : Option A) (a : A) → o ≡ None → o ≡ Some a → ⊥
-no_none {A} o a is is' = true≢false (ap (λ (p : Option A). is_some p) (sym is' ∙ is))
 
 -- a stamp to each context that it supplies
 pub sent_to : (r : Round) (i : ℕ) (stop : Bool) (js : List ℕ) → IsListing (Supplies r.system i) (λ a b. a < b) js → IsInventory (IsSentBy r i stop) (stamps_to r.level i stop js)

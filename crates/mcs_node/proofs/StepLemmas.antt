@@ -1,12 +1,14 @@
 -- Steps keep soundness.
-use Rattle.std.proofs.Common.{◌≡◌, ℕ, true, true≢false, List, [], ◌∷◌, ◌++◌, length, Option, Some, slice_get, is_some, refl, sym, ap, ◌∙◌, subst, inl, inr, ◌⊎◌, arith}
+use Rattle.std.proofs.Common.{◌≡◌, ℕ, true, true≢false, List, [], ◌∷◌, ◌++◌, length, Option, Some, slice_get, is_some, refl, sym, ap, ◌∙◌, subst, inl, inr, ◌⊎◌}
 use Rattle.std.proofs.lemmas.List.{length-map}
 use Rattle.std.proofs.lemmas.Option.{slice_get_within}
+use Rattle.std.proofs.lemmas.Bool.{cases_eq}
 use Rattle.mcs_base.specs.Listings.{IsAmong, AreApart, IsInventory}
 use Rattle.mcs_base.proofs.Among.{among_left, among_right, among_either, among_push, among_get}
 use Rattle.mcs_base.proofs.Distinct.{distinct_append, distinct_push, distinct_parts}
 use Rattle.mcs_base.proofs.Lists.{map_slice_get}
 use Rattle.mcs_base.proofs.Written.{slice_get-slice_set, slice_get-set_other, slice_get-set_same, length-slice_set}
+use Rattle.mcs_base.proofs.Results.{some_same, no_none}
 use Rattle.mcs_system.specs.Plain.{Context}
 use Rattle.mcs_states.specs.declared.halt.Halt.{Halt}
 use Rattle.mcs_node.specs.declared.event.Event.{Event}
@@ -15,7 +17,7 @@ use Rattle.mcs_node.specs.Rounds.{Stamp, Round, NodeState, waits}
 use Rattle.mcs_node.specs.Configurations.{Configuration, HasNode, new_node, first_configuration, IsPutOut, IsFromSender, IsHaltOfSender, IsSoundNode, IsSound}
 use Rattle.mcs_node.specs.Steps.{Changes, TakesPlace, Outcome, Skipped, Ignored, Taken, Runs}
 use Rattle.mcs_node.specs.Laws.{FirstIsSound, StepsKeepSoundness, RunsAreSound}
-use Rattle.mcs_node.proofs.RuleLemmas.{some_same, no_none, put_out_from, put_out_apart, letter_from_sender}
+use Rattle.mcs_node.proofs.RuleLemmas.{put_out_from, put_out_apart, letter_from_sender}
 
 -- the second part of a list without repeats
 distinct_right : {A : Type 0} (xs ys : List A) → AreApart (xs ++ ys) → AreApart ys
@@ -82,23 +84,21 @@ pub record IsKept (d : Configuration) (k : ℕ) (p : NodeState) : Type 0 where
   pub put_out : (x : Stamp) → IsAmong x p.put_out → IsAmong x node.put_out
   pub halt : (h : Halt) → p.halt ≡ Some h → node.halt ≡ Some h
 
-same_or_not : (j k : ℕ) → (j ≡ k) ⊎ (¬ (j ≡ k))
-same_or_not j k = grind arith
+-- what stands in the new configuration
+module _ (r : Round) (c d : Configuration) (e : Event) (step : TakesPlace r c e d) where
+  pub after_at : HasNode d step.context step.after
+  after_at = subst (λ (l : List NodeState). slice_get l step.context ≡ Some step.after) (sym step.nodes)
+      (slice_get-set_same c.nodes step.context step.after (slice_get_within c.nodes step.context step.old step.node))
+
+  pub other_at : (k : ℕ) (p : NodeState) → ¬ (k ≡ step.context) → HasNode c k p → HasNode d k p
+  other_at k p differ at = subst (λ (l : List NodeState). slice_get l k ≡ Some p) (sym step.nodes) (slice_get-set_other c.nodes step.context k step.after differ ∙ at)
+
+  pub was_at : (k : ℕ) (q : NodeState) → HasNode d k q → ((k ≡ step.context) × (q ≡ step.after)) ⊎ ((¬ (k ≡ step.context)) × HasNode c k q)
+  was_at k q at = slice_get-slice_set c.nodes step.context k step.after q (subst (λ (l : List NodeState). slice_get l k ≡ Some q) step.nodes at)
 
 module _ (r : Round) (c d : Configuration) (e : Event) (sound : IsSound r c) (step : TakesPlace r c e d) where
   change : IsChange c step.context step.old step.changed
   change = change_of r c sound e step.context step.old step.changed step.node step.changes
-
-  -- what stands in the new configuration
-  split : (k : ℕ) (q : NodeState) → HasNode d k q → ((k ≡ step.context) × (q ≡ step.after)) ⊎ ((¬ (k ≡ step.context)) × HasNode c k q)
-  split k q at = slice_get-slice_set c.nodes step.context k step.after q (subst (λ (l : List NodeState). slice_get l k ≡ Some q) step.nodes at)
-
-  here : HasNode d step.context step.after
-  here = subst (λ (l : List NodeState). slice_get l step.context ≡ Some step.after) (sym step.nodes)
-      (slice_get-set_same c.nodes step.context step.after (slice_get_within c.nodes step.context step.old step.node))
-
-  elsewhere : (k : ℕ) (p : NodeState) → ¬ (k ≡ step.context) → HasNode c k p → HasNode d k p
-  elsewhere k p differ at = subst (λ (l : List NodeState). slice_get l k ≡ Some p) (sym step.nodes) (slice_get-set_other c.nodes step.context k step.after differ ∙ at)
 
   grown : (x : Stamp) → IsAmong x step.old.put_out → IsAmong x step.after.put_out
   grown x h = subst (λ (l : List Stamp). IsAmong x l) (sym step.reacts.put_out)
@@ -110,14 +110,14 @@ module _ (r : Round) (c d : Configuration) (e : Event) (sound : IsSound r c) (st
       ap (λ (s : NodeState). s.halt) (step.reacts.halt_stays (ap (λ (o : Option Halt). is_some o) was)) ∙ was
 
   pub later : (k : ℕ) (p : NodeState) → HasNode c k p → IsKept d k p
-  later k p at = elim (same_or_not k step.context) [
+  later k p at = elim (cases_eq k step.context) [
     | inl same ↦ (let one : p ≡ step.old = some_same (slice_get c.nodes step.context) p step.old (subst (λ (j : ℕ). HasNode c j p) same at) step.node in record {
       node = step.after;
-      at = subst (λ (j : ℕ). HasNode d j step.after) (sym same) here;
+      at = subst (λ (j : ℕ). HasNode d j step.after) (sym same) (after_at r c d e step);
       put_out = (λ x h. grown x (subst (λ (s : NodeState). IsAmong x s.put_out) one h));
       halt = (λ h is. halt_kept h (subst (λ (s : NodeState). s.halt ≡ Some h) one is));
     })
-    | inr differ ↦ record { node = p; at = elsewhere k p differ at; put_out = (λ x h. h); halt = (λ h is. is) }
+    | inr differ ↦ record { node = p; at = other_at r c d e step k p differ at; put_out = (λ x h. h); halt = (λ h is. is) }
   ]
 
   sent_still : (x : Stamp) → IsFromSender c x → IsFromSender d x
@@ -151,7 +151,7 @@ module _ (r : Round) (c d : Configuration) (e : Event) (sound : IsSound r c) (st
   }
 
   nodes_are_sound : (k : ℕ) (q : NodeState) → HasNode d k q → IsSoundNode r d k q
-  nodes_are_sound k q at = elim (split k q at) [
+  nodes_are_sound k q at = elim (was_at r c d e step k q at) [
     | inl (same, is) ↦ subst (λ (j : ℕ). IsSoundNode r d j q) (sym same) (subst (λ (s : NodeState). IsSoundNode r d step.context s) (sym is) changed_is_sound)
     | inr (differ, was) ↦ other_is_sound k q (sound.nodes k q was)
   ]
@@ -178,11 +178,11 @@ module _ (r : Round) (c d : Configuration) (e : Event) (sound : IsSound r c) (st
   to_out : (x : Stamp) → IsAmong x (c.letters ++ step.new) → IsPutOut d x
   to_out x h = elim (among_either x c.letters step.new h) [
     | inl old ↦ out_still x ((sound.letters.exactly x).0 old)
-    | inr new ↦ (step.context, step.after, here, new_is_out x new)
+    | inr new ↦ (step.context, step.after, after_at r c d e step, new_is_out x new)
   ]
 
   from_out : (x : Stamp) → IsPutOut d x → IsAmong x (c.letters ++ step.new)
-  from_out x (k, q, at, h) = elim (split k q at) [
+  from_out x (k, q, at, h) = elim (was_at r c d e step k q at) [
     | inl (same, is) ↦ elim (among_either x step.old.put_out step.new (subst (λ (l : List Stamp). IsAmong x l) out_is (subst (λ (s : NodeState). IsAmong x s.put_out) is h))) [
       | inl old ↦ among_left x c.letters step.new ((sound.letters.exactly x).1 (step.context, step.old, step.node, old))
       | inr new ↦ among_right x c.letters step.new new

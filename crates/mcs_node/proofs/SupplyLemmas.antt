@@ -1,5 +1,5 @@
 -- Which context supplies which, by the one import order, and induction along it.
-use Rattle.std.proofs.Common.{◌≡◌, ℕ, ◌<◌, Bool, true, false, cond, nat_eq, List, [], ◌∷◌, ◌++◌, length, refl, sym, ◌∙◌, subst, append_assoc, append-nil, inl, inr, ◌⊎◌, arith}
+use Rattle.std.proofs.Common.{◌≡◌, ℕ, ◌<◌, Bool, true, false, cond, nat_eq, List, [], ◌∷◌, ◌++◌, length, refl, sym, ◌∙◌, subst, append_assoc, append-nil, inl, inr, arith}
 use Rattle.mcs_base.specs.Listings.{IsAmong}
 use Rattle.mcs_base.proofs.Among.{among_left, among_either, filter_among}
 use Rattle.mcs_base.proofs.Each.{all_among}
@@ -51,14 +51,3 @@ module _ (m : System) (P : ℕ → Type 0) (next : (i : ℕ) → i < length m.co
   -- what holds of a context where it holds of all that supply it holds of every context
   pub along_order : (i : ℕ) → i < length m.contexts → P i
   along_order i less = let (order, is) = import_order_exists m in walk order is [] order refl is (λ j h. absurd h) i (covers m [] order is i less)
-
--- each of the list has P, or else H holds
-pub all_or : (P : ℕ → Type 0) (H : Type 0) (xs : List ℕ) → ((x : ℕ) → IsAmong x xs → P x ⊎ H) → ((x : ℕ) → IsAmong x xs → P x) ⊎ H
-all_or P H [] f = inl (λ x h. absurd h)
-all_or P H (x ∷ xs) f = elim (f x (inl refl)) [
-  | inl here ↦ elim (all_or P H xs (λ y h. f y (inr h))) [
-    | inl rest ↦ inl (λ y h. elim h [ inl e ↦ subst P (sym e) here | inr later ↦ rest y later ])
-    | inr other ↦ inr other
-  ]
-  | inr other ↦ inr other
-]

@@ -1,5 +1,5 @@
 -- Totals are numbers of questions, and halts tell the truth.
-use Rattle.std.proofs.Common.{◌≡◌, ℕ, ◌+◌, ◌-◌, ◌<◌, ◌≤◌, zero, suc, true, true≢false, List, [], ◌∷◌, ◌++◌, map, length, Option, Some, None, slice_get, slice_set, is_some, length-append, refl, sym, ap, ◌∙◌, subst, inl, inr, arith}
+use Rattle.std.proofs.Common.{◌≡◌, ℕ, ◌+◌, ◌<◌, ◌≤◌, true, true≢false, List, [], ◌∷◌, ◌++◌, map, length, Option, Some, None, slice_get, slice_set, is_some, length-append, refl, sym, ap, ◌∙◌, subst, inl, inr, arith}
 use Rattle.std.proofs.lemmas.List.{length-map}
 use Rattle.std.proofs.lemmas.List.Sums.{sum_by-cons}
 use Rattle.std.proofs.lemmas.Option.{slice_get_within}
@@ -9,10 +9,12 @@ use Rattle.mcs_base.proofs.Among.{among_left, among_right, among_either, cases_a
 use Rattle.mcs_base.proofs.Distinct.{distinct_append, ascending_distinct}
 use Rattle.mcs_base.proofs.Lists.{slice_get_below, map_slice_get, choose_below}
 use Rattle.mcs_base.proofs.Written.{slice_get-slice_set, length-slice_set}
+use Rattle.mcs_base.proofs.Results.{some_same, no_none}
+use Rattle.mcs_base.proofs.Sums.{sum_both}
+use Rattle.mcs_base.proofs.Placed.{sum_map}
 use Rattle.mcs_system.specs.Plain.{Context, System}
-use Rattle.mcs_system.specs.Imports.{IsQuestion}
 use Rattle.mcs_system.specs.Levels.{IsQuestionAt, AreSomeQuestions, HasQuestions, IsCount}
-use Rattle.mcs_laws.proofs.Questions.{questions_grow as question_grows}
+use Rattle.mcs_laws.proofs.Questions.{question_higher}
 use Rattle.mcs_import.proofs.CountLemmas.{journals_counted}
 use Rattle.mcs_states.specs.Evaluators.{IsJournalQuestion}
 use Rattle.mcs_states.specs.declared.halt.Halt.{Halt}
@@ -23,45 +25,18 @@ use Rattle.mcs_node.specs.Rounds.{Round, NodeState, IsOwnHalt, ObeysRule, waits,
 use Rattle.mcs_node.specs.Configurations.{Configuration, HasNode, first_configuration, IsSound}
 use Rattle.mcs_node.specs.Steps.{WereAsked, Adds, IsTotal, Changes, Outcome, Skipped, Ignored, Taken, Step, Runs}
 use Rattle.mcs_node.specs.Laws.{IsOnward, TotalsCountQuestions, IsTrueHalt, HaltsAreTrue}
-use Rattle.mcs_node.proofs.RuleLemmas.{some_same, no_none}
 use Rattle.mcs_node.proofs.StepLemmas.{new_at, first_is_sound, steps_keep_soundness, runs_are_sound}
 use Rattle.mcs_node.proofs.QuietLemmas.{halts_have_a_source}
 
 -- ---- levels grow
-question_after : (m : System) (order : List ℕ) (level n i x : ℕ) → IsQuestion m order level i x → IsQuestion m order (level + n) i x
-question_after m order level zero i x q = let e : level + 0 ≡ level = omega arith in subst (λ k. IsQuestion m order k i x) (sym e) q
-question_after m order level (suc n) i x q = let e : level + n + 1 ≡ level + suc n = omega arith in subst (λ k. IsQuestion m order k i x) e (question_grows m order (level + n) i x (question_after m order level n i x q))
-
-pub question_higher : (m : System) (level higher i x : ℕ) → level ≤ higher → IsQuestionAt m level i x → IsQuestionAt m higher i x
-question_higher m level higher i x less (order, ordered, q) =
-    let e : level + (higher - level) ≡ higher = omega (arith, less) in
-    (order, ordered, subst (λ k. IsQuestion m order k i x) e (question_after m order level (higher - level) i x q))
-
 asked_before : (m : System) (before : Option ℕ) (level : ℕ) → ((done : ℕ) → before ≡ Some done → done ≤ level) → (i x : ℕ) → IsJournalQuestion m before i x → IsQuestionAt m level i x
 asked_before m None level below i x none = absurd none
 asked_before m (Some done) level below i x q = question_higher m done level i x (below done refl) q
 
 -- ---- sums
-sum_both : (ns ks : List ℕ) (cs : List (List ℕ)) → length ns ≡ length cs → length ks ≡ length cs
-    → ((i a b : ℕ) (c : List ℕ) → slice_get ns i ≡ Some a → slice_get ks i ≡ Some b → slice_get cs i ≡ Some c → length c ≡ a + b)
-    → sum_by (λ (c : List ℕ). length c) cs ≡ sum_by (λ n. n) ns + sum_by (λ n. n) ks
-sum_both [] [] [] la lb each = refl
-sum_both (a ∷ ns) ks [] la lb each = absurd (omega (arith, la))
-sum_both ns (b ∷ ks) [] la lb each = absurd (omega (arith, lb))
-sum_both [] ks (c ∷ cs) la lb each = absurd (omega (arith, la))
-sum_both ns [] (c ∷ cs) la lb each = absurd (omega (arith, lb))
-sum_both (a ∷ ns) (b ∷ ks) (c ∷ cs) la lb each =
-    let here = each zero a b c refl refl refl in
-    let rest = sum_both ns ks cs (omega (arith, la)) (omega (arith, lb)) (λ i x y z at at' at''. each (suc i) x y z at at' at'') in
-    omega (arith, sum_by-cons (λ (n : ℕ). n) a ns, sum_by-cons (λ (n : ℕ). n) b ks, sum_by-cons (λ (l : List ℕ). length l) c cs, here, rest)
-
 pub no_sum : (cs : List Context) → sum_by (λ n. n) (map (λ (c : Context). 0) cs) ≡ 0
 no_sum [] = refl
 no_sum (c ∷ cs) = omega (arith, sum_by-cons (λ (n : ℕ). n) 0 (map (λ (c : Context). 0) cs), no_sum cs)
-
-sum_of_lengths : (lists : List (List ℕ)) → sum_by (λ n. n) (map (λ (l : List ℕ). length l) lists) ≡ sum_by (λ (l : List ℕ). length l) lists
-sum_of_lengths [] = refl
-sum_of_lengths (l ∷ lists) = omega (arith, sum_by-cons (λ (n : ℕ). n) (length l) (map (λ (l : List ℕ). length l) lists), sum_by-cons (λ (l : List ℕ). length l) l lists, sum_of_lengths lists)
 
 -- ---- what was asked before, context by context
 record AreBases (m : System) (before : Option ℕ) (base : ℕ) (bases : List ℕ) : Type 0 where
@@ -82,7 +57,7 @@ bases_of m (Some done) base (lists, listings, is) = (
   map (λ (l : List ℕ). length l) lists,
   record {
     long = length-map lists (λ (l : List ℕ). length l) ∙ listings.one_each;
-    whole = is ∙ sym (sum_of_lengths lists);
+    whole = is ∙ sym (sum_map (λ (n : ℕ). n) (λ (l : List ℕ). length l) lists);
     asked = (λ i a at. let (ys, there, same) = map_slice_get (λ (l : List ℕ). length l) lists i a at in
         (ys, record { exactly = (listings.listed i ys there).exactly; apart = ascending_distinct ys (listings.listed i ys there).ascending }, sym same));
   },

@@ -1,12 +1,14 @@
 -- Configurations that are not sound.
-use Rattle.std.proofs.Common.{◌≡◌, ℕ, ◌<◌, ◌≤◌, zero, suc, true, false, true≢false, List, [], ◌∷◌, Option, Some, None, slice_get, refl, sym, ap, ◌∙◌, subst, inl, inr, arith}
+use Rattle.std.proofs.Common.{◌≡◌, ℕ, ◌<◌, ◌≤◌, true, false, true≢false, List, [], ◌∷◌, Option, Some, None, refl, sym, ap, ◌∙◌, subst, inl, inr, arith}
 use Rattle.mcs_base.specs.Listings.{IsAmong}
+use Rattle.mcs_base.proofs.Results.{some_same, no_none}
+use Rattle.mcs_base.proofs.Each.{each_of_two}
 use Rattle.mcs_states.specs.declared.halt.Halt.{Halt}
 use Rattle.mcs_states.specs.declared.halt.Halt.TheVariants.{Spent, Missing, Memory}
 use Rattle.mcs_node.specs.Rounds.{Stamp, Round, NodeState, IsOwnHalt, IsNewQuestion, Waits, IsStopped, Stops, ObeysRule, waits, finishes, is_stopped, stops}
 use Rattle.mcs_node.specs.Configurations.{HasNode, IsSound}
 use Rattle.mcs_node.specs.Worked.{AreTwo, letter, both, IsCalm, begun_node, finished, overdrawn, stopped_by, halted_at, AreUnsound, UnsoundIsRefused}
-use Rattle.mcs_node.proofs.RuleLemmas.{some_same, no_none, done_finishes}
+use Rattle.mcs_node.proofs.RuleLemmas.{done_finishes}
 
 -- ---- which case of the rule a node is
 as_waits : (r : Round) (i : ℕ) (s : NodeState) → ObeysRule r i s → s.done ≡ false → s.halt ≡ None → Waits s
@@ -27,17 +29,11 @@ as_stops r i s h (finishes f) halt own = absurd (no_none s.halt h f.halt halt)
 as_stops r i s h (is_stopped w) halt own = absurd (true≢false (sym own ∙ w.by_itself))
 as_stops r i s h (stops w) halt own = w
 
--- what holds of both nodes
-of_both : (P : NodeState → Type 0) (a b : NodeState) → P a → P b → (i : ℕ) (s : NodeState) → slice_get (a ∷ b ∷ []) i ≡ Some s → P s
-of_both P a b pa pb zero s at = subst P (some_same (Some a) a s refl at) pa
-of_both P a b pa pb (suc zero) s at = subst P (some_same (Some b) b s refl at) pb
-of_both P a b pa pb (suc (suc i)) s at = absurd (no_none None s refl at)
-
 module _ (r : Round) (base first second total : ℕ) (two : AreTwo r base first second) where
   not_put_out : ¬ IsSound r (both begun_node begun_node (letter r false ∷ []))
   not_put_out sound =
       let (i, s, at, h) = (sound.letters.exactly (letter r false)).0 (inl refl) in
-      of_both (λ (p : NodeState). ¬ IsAmong (letter r false) p.put_out) begun_node begun_node (λ n. n) (λ n. n) i s at h
+      each_of_two (λ (p : NodeState). ¬ IsAmong (letter r false) p.put_out) begun_node begun_node (λ n. n) (λ n. n) i s at h
 
   had_from_none : ¬ IsSound r (both begun_node (record begun_node { had = letter r false ∷ [] }) [])
   had_from_none sound =

@@ -1,9 +1,13 @@
 -- Worked rounds of two contexts, of which the first supplies the second.
 use Rattle.std.proofs.Common.{◌≡◌, ℕ, ◌+◌, ◌<◌, ◌≤◌, zero, suc, Bool, true, false, true≢false, List, [], ◌∷◌, ◌++◌, map, length, Option, Some, None, slice_get, slice_set, refl, sym, ap, ap₂, ◌∙◌, subst, inl, inr, arith}
-use Rattle.std.proofs.lemmas.List.Sums.{sum_by-cons}
 use Rattle.std.specs.List.{sum_by}
 use Rattle.mcs_base.specs.Listings.{IsAmong, IsInventory}
 use Rattle.mcs_base.proofs.ListingLemmas.{same_listing}
+use Rattle.mcs_base.proofs.Results.{some_same, no_none}
+use Rattle.mcs_base.proofs.Lists.{two_of}
+use Rattle.mcs_base.proofs.Sums.{sum_of_two}
+use Rattle.mcs_base.proofs.Bags.{inventory_one, inventory_none}
+use Rattle.mcs_base.proofs.Written.{set_there}
 use Rattle.mcs_system.specs.Plain.{Context, System}
 use Rattle.mcs_import.proofs.CountLemmas.{count_is_one}
 use Rattle.mcs_states.specs.declared.halt.Halt.{Halt}
@@ -14,9 +18,8 @@ use Rattle.mcs_node.specs.Rounds.{Stamp, stamp, Round, NodeState, HasNoStop, IsS
 use Rattle.mcs_node.specs.Configurations.{Configuration, HasNode, new_node, first_configuration, IsHaltOfSender, IsSound, AwaitsGrant}
 use Rattle.mcs_node.specs.Steps.{WereAsked, IsNeedOf, Adds, IsTotal, Takes, IsPossible, Changes, Reacts, TakesPlace, Outcome, Skipped, Ignored, Taken, Runs}
 use Rattle.mcs_node.specs.Worked.{AreTwo, letter, both, IsCalm, AreCalm, LeadTo, begun_node, finished, overdrawn, stopped_by, halted_at, TurnsAreTaken, ImpossibleIsSkipped, StopsAreCarried, MemoryMayRunOut, AnswersMayBeMissing}
-use Rattle.mcs_node.proofs.RuleLemmas.{some_same, no_none}
 use Rattle.mcs_node.proofs.StepLemmas.{first_is_sound}
-use Rattle.mcs_node.proofs.EventLemmas.{IsCertain, certain_skipped, certain_ignored, certain_taken, lead_nil, lead_cons, IsOpen, may_wait, may_finish, may_stop, may_be_stopped, does_wait, does_finish, does_stop, is_halted}
+use Rattle.mcs_node.proofs.EventLemmas.{IsCertain, certain_skipped, certain_ignored, certain_taken, lead_nil, lead_cons, IsOpen, may_wait, may_finish, may_stop, may_be_stopped, does_wait, does_finish, does_stop, is_halted, granted_open}
 
 -- ---- what takes place, node by node
 -- the event made t of the node of context i, which then did something of its own
@@ -73,11 +76,6 @@ left_as r c i t d b new u same is = b.is ∙ ap₂ (λ (l : List Stamp) (p : Nod
 -- the node that changed is calm where all are
 calm_after : (r : Round) (c : Configuration) (i : ℕ) (s t : NodeState) (d : Configuration) → HasNode c i s → (b : Became r c i t d) → AreCalm d → IsCalm b.after.halt
 calm_after r c i s t d at b calm = calm i b.after (subst (λ (e : Configuration). HasNode e i b.after) (sym b.is) (set_there c.nodes i s b.after at))
-  where
-    set_there : (nodes : List NodeState) (i : ℕ) (s u : NodeState) → slice_get nodes i ≡ Some s → slice_get (slice_set nodes i u) i ≡ Some u
-    set_there [] i s u at = absurd (no_none None s refl at)
-    set_there (p ∷ ps) zero s u at = refl
-    set_there (p ∷ ps) (suc i) s u at = set_there ps i s u at
 
 -- ---- certain events
 pub certain_begin : (r : Round) (c : Configuration) (i : ℕ) → HasNode c i new_node → IsCertain r c (Begin i) Taken (left_by c i [] begun_node)
@@ -92,9 +90,6 @@ certain_begin r c i at = certain_taken r c (Begin i) (left_by c i [] begun_node)
 
 module _ (r : Round) (c : Configuration) (i : ℕ) (s : NodeState) (at : HasNode c i s) (is_open : IsOpen s) (awaits : AwaitsGrant r i s) (total : ℕ)
     (counted : IsTotal r (slice_set c.nodes i (record s { granted = Some total })) total) (alone : (n : ℕ) → IsTotal r (slice_set c.nodes i (record s { granted = Some n })) n → n ≡ total) (new : List Stamp) where
-  granted_open : (n : ℕ) → IsOpen (record s { granted = Some n })
-  granted_open n = record { put_out = is_open.put_out; done = is_open.done; halt = is_open.halt; by_itself = is_open.by_itself }
-
   -- each grant is of the one total
   to_total : (d : Configuration) → TakesPlace r c (Grant i) d → Became r c i (record s { granted = Some total }) d
   to_total d step = let (n, counted', b) = grant_became r c d i s at step in subst (λ (k : ℕ). Became r c i (record s { granted = Some k }) d) (alone n counted') b
@@ -103,9 +98,9 @@ module _ (r : Round) (c : Configuration) (i : ℕ) (s : NodeState) (at : HasNode
       → IsCertain r c (Grant i) Taken (left_by c i new (record s { granted = Some total; put_out = new; done = true }))
   certain_grant within had sent one = certain_taken r c (Grant i) (left_by c i new (record s { granted = Some total; put_out = new; done = true }))
       (takes_place r c (Grant i) i s (record s { granted = Some total }) (record s { granted = Some total; put_out = new; done = true }) new at (refl, awaits, total, counted, refl)
-      (may_finish r c i (record s { granted = Some total }) (granted_open total) new (total, refl, within) had sent))
+      (may_finish r c i (record s { granted = Some total }) (granted_open s is_open total) new (total, refl, within) had sent))
       (λ d step calm. let b = to_total d step in
-      let (sent', is) = does_finish r c i (record s { granted = Some total }) (granted_open total) b.new b.after b.reacts (calm_after r c i s (record s { granted = Some total }) d at b calm) total refl within in
+      let (sent', is) = does_finish r c i (record s { granted = Some total }) (granted_open s is_open total) b.new b.after b.reacts (calm_after r c i s (record s { granted = Some total }) d at b calm) total refl within in
       let same : b.new ≡ new = one b.new sent' in
       left_as r c i (record s { granted = Some total }) d b new (record s { granted = Some total; put_out = new; done = true }) same
       (is ∙ ap (λ (l : List Stamp). record s { granted = Some total; put_out = l; done = true }) same))
@@ -114,9 +109,9 @@ module _ (r : Round) (c : Configuration) (i : ℕ) (s : NodeState) (at : HasNode
       → IsCertain r c (Grant i) Taken (left_by c i new (record s { granted = Some total; put_out = new; halt = Some (Spent r.level total); by_itself = true }))
   certain_over over sent one = certain_taken r c (Grant i) (left_by c i new (record s { granted = Some total; put_out = new; halt = Some (Spent r.level total); by_itself = true }))
       (takes_place r c (Grant i) i s (record s { granted = Some total }) (record s { granted = Some total; put_out = new; halt = Some (Spent r.level total); by_itself = true }) new at (refl, awaits, total, counted, refl)
-      (may_stop r c i (record s { granted = Some total }) (granted_open total) new (Spent r.level total) (refl, refl, over) sent))
+      (may_stop r c i (record s { granted = Some total }) (granted_open s is_open total) new (Spent r.level total) (refl, refl, over) sent))
       (λ d step calm. let b = to_total d step in
-      let (sent', is) = does_stop r c i (record s { granted = Some total }) (granted_open total) b.new b.after b.reacts (calm_after r c i s (record s { granted = Some total }) d at b calm) total refl over in
+      let (sent', is) = does_stop r c i (record s { granted = Some total }) (granted_open s is_open total) b.new b.after b.reacts (calm_after r c i s (record s { granted = Some total }) d at b calm) total refl over in
       let same : b.new ≡ new = one b.new sent' in
       left_as r c i (record s { granted = Some total }) d b new (record s { granted = Some total; put_out = new; halt = Some (Spent r.level total); by_itself = true }) same
       (is ∙ ap (λ (l : List Stamp). record s { granted = Some total; put_out = l; halt = Some (Spent r.level total); by_itself = true }) same))
@@ -158,13 +153,6 @@ module _ (r : Round) (c : Configuration) (n : ℕ) (x : Stamp) (there : slice_ge
       only other (y, t, inr none, stop', at', is') = absurd none
 
 -- ---- the two contexts
--- a list of the one value
-list_of_one : {A : Type 0} (P : A → Type 0) (a : A) (xs : List A) → P a → ((x : A) → P x → x ≡ a) → IsInventory P xs → xs ≡ a ∷ []
-list_of_one P a [] has only list = absurd ((list.exactly a).1 has)
-list_of_one P a (x ∷ []) has only list = ap (λ y. y ∷ []) (only x ((list.exactly x).0 (inl refl)))
-list_of_one P a (x ∷ y ∷ xs) has only list =
-    absurd (list.apart.0 (inl (only x ((list.exactly x).0 (inl refl)) ∙ sym (only y ((list.exactly y).0 (inr (inl refl)))))))
-
 inventory_of_one : {A : Type 0} (P : A → Type 0) (a : A) → P a → ((x : A) → P x → x ≡ a) → IsInventory P (a ∷ [])
 inventory_of_one P a has only = record {
   exactly = (λ x. (to x, λ p. inl (only x p)));
@@ -174,10 +162,6 @@ inventory_of_one P a has only = record {
     to : (x : _) → IsAmong x (a ∷ []) → P x
     to x (inl e) = subst P (sym e) has
     to x (inr none) = absurd none
-
-list_of_none : {A : Type 0} (P : A → Type 0) (xs : List A) → ((x : A) → ¬ P x) → IsInventory P xs → xs ≡ []
-list_of_none P [] none list = refl
-list_of_none P (x ∷ xs) none list = absurd (none x ((list.exactly x).0 (inl refl)))
 
 inventory_of_none : {A : Type 0} (P : A → Type 0) → ((x : A) → ¬ P x) → IsInventory P []
 inventory_of_none P none = record { exactly = (λ x. ((λ h. absurd h), (λ p. absurd (none x p)))); apart = tt }
@@ -191,15 +175,6 @@ need_one r i n k (xs, listing, is) (ys, listing', is') = is ∙ ap (λ (l : List
 pub asked_one : (m : System) (before : Option ℕ) (n k : ℕ) → WereAsked m before n → WereAsked m before k → n ≡ k
 asked_one m None n k a b = a ∙ sym b
 asked_one m (Some done) n k a b = count_is_one m done n k a b
-
-two_of : {A : Type 0} (xs : List A) → length xs ≡ 2 → (x : A) × (y : A) × (xs ≡ x ∷ y ∷ [])
-two_of [] e = absurd (omega (arith, e))
-two_of (x ∷ []) e = absurd (omega (arith, e))
-two_of (x ∷ y ∷ []) e = (x, y, refl)
-two_of (x ∷ y ∷ z ∷ xs) e = absurd (omega (arith, e))
-
-sum_of_two : (x y : ℕ) → sum_by (λ n. n) (x ∷ y ∷ []) ≡ x + y
-sum_of_two x y = omega (arith, sum_by-cons (λ (n : ℕ). n) x (y ∷ []), sum_by-cons (λ (n : ℕ). n) y [])
 
 node_is : (a s : NodeState) → Some a ≡ Some s → s ≡ a
 node_is a s at = some_same (Some a) s a at refl
@@ -221,13 +196,13 @@ module _ (r : Round) (base first second : ℕ) (two : AreTwo r base first second
   first_sends stop = inventory_of_one (IsSentBy r 0 stop) (letter r stop) (1, two.supplies, refl) (sent_is stop)
 
   first_sent : (stop : Bool) (xs : List Stamp) → IsInventory (IsSentBy r 0 stop) xs → xs ≡ letter r stop ∷ []
-  first_sent stop xs list = list_of_one (IsSentBy r 0 stop) (letter r stop) xs (1, two.supplies, refl) (sent_is stop) list
+  first_sent stop xs list = inventory_one (IsSentBy r 0 stop) (letter r stop) xs (1, two.supplies, refl) (sent_is stop) list
 
   pub second_sends : (stop : Bool) → IsInventory (IsSentBy r 1 stop) []
   second_sends stop = inventory_of_none (IsSentBy r 1 stop) (none_sent stop)
 
   pub second_sent : (stop : Bool) (xs : List Stamp) → IsInventory (IsSentBy r 1 stop) xs → xs ≡ []
-  second_sent stop xs list = list_of_none (IsSentBy r 1 stop) xs (none_sent stop) list
+  second_sent stop xs list = inventory_none (IsSentBy r 1 stop) xs (none_sent stop) list
 
   -- ---- totals
   pub made_total : (a b : NodeState) (x y n : ℕ) → Adds r 0 a.granted x → Adds r 1 b.granted y → n ≡ base + x + y → IsTotal r (a ∷ b ∷ []) n
@@ -237,7 +212,7 @@ module _ (r : Round) (base first second : ℕ) (two : AreTwo r base first second
     needs = x ∷ y ∷ [];
     one_each = refl;
     added = added;
-    whole = omega (arith, is, sum_of_two x y);
+    whole = omega (arith, is, sum_of_two (λ (n : ℕ). n) x y);
   }
     where
       added : (i : ℕ) (s : NodeState) (k : ℕ) → slice_get (a ∷ b ∷ []) i ≡ Some s → slice_get (x ∷ y ∷ []) i ≡ Some k → Adds r i s.granted k
@@ -251,7 +226,7 @@ module _ (r : Round) (base first second : ℕ) (two : AreTwo r base first second
       let e = first_adds j (t.added 0 a j refl (ap (λ (l : List ℕ). slice_get l 0) is)) in
       let e' = second_adds k (t.added 1 b k refl (ap (λ (l : List ℕ). slice_get l 1) is)) in
       let e'' = asked_one r.system r.before t.base base t.asked two.asked in
-      omega (arith, t.whole, ap (λ (l : List ℕ). sum_by (λ (m : ℕ). m) l) is, sum_of_two j k, e, e', e'')
+      omega (arith, t.whole, ap (λ (l : List ℕ). sum_by (λ (m : ℕ). m) l) is, sum_of_two (λ (n : ℕ). n) j k, e, e', e'')
 
   -- ---- the first node alone was granted its need
   first_total : (b : NodeState) → b.granted ≡ None → IsTotal r (record begun_node { granted = Some (base + first) } ∷ b ∷ []) (base + first)

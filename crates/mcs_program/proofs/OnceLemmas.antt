@@ -14,7 +14,7 @@ use Rattle.mcs_sets.proofs.SetLemmas.{has-single}
 use Rattle.mcs_sets.proofs.Lattice.{has-single_itself}
 use Rattle.mcs_base.specs.Listings.{IsAmong, IsListing}
 use Rattle.mcs_base.proofs.Among.{among_left, among_right}
-use Rattle.mcs_base.specs.StateOrder.{state_cmp, state_tie}
+use Rattle.mcs_base.specs.StateOrder.{state_cmp, equal_is}
 use Rattle.mcs_base.proofs.Each.{all_among, all_from_among, all_weaker, all_append, all_push}
 use Rattle.mcs_base.proofs.ListingLemmas.{IsListing-same}
 use Rattle.mcs_system.specs.Plain.{Name, Formula, ProgramRule, Program}
@@ -181,14 +181,11 @@ both_equal Less b e = absurd (true≢false (ap is_lt e))
 both_equal Equal b e = (refl, e)
 both_equal Greater b e = absurd (true≢false (ap is_gt e))
 
-same_state : (a b : ℕ) → state_cmp a b ≡ Equal → a ≡ b
-same_state a b e = eqb-true a b (state_tie a b ∙ ap is_eq e)
-
 pub same_places : (x y : PlacedRule) → placed_cmp x y ≡ Equal → x ≡ y
 same_places x y e =
     let (first, rest) = both_equal (state_cmp x.head y.head) (ordering_then (state_cmp x.pos y.pos) (state_cmp x.neg y.neg)) e in
     let (second, third) = both_equal (state_cmp x.pos y.pos) (state_cmp x.neg y.neg) rest in
-    λ i. record { head = same_state x.head y.head first i; pos = same_state x.pos y.pos second i; neg = same_state x.neg y.neg third i }
+    λ i. record { head = equal_is x.head y.head first i; pos = equal_is x.pos y.pos second i; neg = equal_is x.neg y.neg third i }
 
 pub seen_before : (seen : List PlacedRule) (p : PlacedRule) (added : Bool) → added ≡ not (list_any (λ q. is_eq (placed_cmp p q)) seen) → added ≡ false → Contains seen p
 seen_before seen p added e old = Contains-from_any (λ x y h. same_places x y ((Equal-is (placed_cmp x y)).0 h)) p seen (not-false (list_any (λ q. is_eq (placed_cmp p q)) seen) (sym e ∙ old))

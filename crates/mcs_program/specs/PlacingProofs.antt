@@ -1,19 +1,14 @@
 -- That places are those of rules and beliefs has at most one proof.
-use Rattle.std.specs.Prelude.{ℕ, List, [], ◌∷◌}
-use Rattle.std.specs.List.{AllZip, list_any, list_all}
-use Rattle.std.specs.Coded.{Π_prop, le_prop, ×_prop, Unit-prop, Coded-set, coded_bool}
+use Rattle.std.specs.Prelude.{ℕ, List}
+use Rattle.std.specs.List.{list_any, list_all}
+use Rattle.std.specs.Coded.{Π_prop, le_prop, Coded-set, coded_bool}
 use Rattle.mcs_sets.specs.Sets.{has}
+use Rattle.mcs_base.specs.OneProof.{AllZip-prop}
 use Rattle.mcs_system.specs.Plain.{Name, ProgramRule}
 use Rattle.mcs_system.specs.Logic.{is_in, true_names}
 use Rattle.mcs_program.specs.declared.placing.PlacedRule.{PlacedRule}
 use Rattle.mcs_program.specs.declared.placing.Placing.{Placing}
 use Rattle.mcs_program.specs.Placing.{places_within, do_meet, IsPlaceOf, ArePlaces, IsPlacedRule, IsPlacing}
-
-AllZip-prop : {A B : Type 0} (R : A → B → Type 0) → ((x : A) (y : B) → IsProp (R x y)) → (xs : List A) (ys : List B) → IsProp (AllZip R xs ys)
-AllZip-prop R p [] [] = Unit-prop
-AllZip-prop R p [] (y ∷ ys) = λ a b. absurd a
-AllZip-prop R p (x ∷ xs) [] = λ a b. absurd a
-AllZip-prop R p (x ∷ xs) (y ∷ ys) = ×_prop (p x y) (AllZip-prop R p xs ys)
 
 IsPlaceOf-prop : (names : List Name) (n : Name) (k : ℕ) → IsProp (IsPlaceOf names n k)
 IsPlaceOf-prop names n k x y = λ i. record {

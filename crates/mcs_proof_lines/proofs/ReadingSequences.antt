@@ -3,7 +3,8 @@ use Rattle.std.proofs.Common.{◌≡◌, ℕ, ◌+◌, ◌<◌, zero, suc, ◌�
 use Rattle.std.proofs.Math.Seq.{take-append-add}
 use Rattle.mcs_proof_lines.specs.Walks.{At, Reading, ◌>>=◌, head_line, mapped_reading}
 use Rattle.mcs_proof_lines.specs.Readings.{here, Stops, AreLinesRead, BeginsLines, IsStuckAt, ReadsLines, Image, AreBoth, both_lines, AllStop, IsEitherOf}
-use Rattle.mcs_proof_lines.proofs.Readings.{same_reading, same_head, head_after, split_front}
+use Rattle.mcs_proof_lines.proofs.Readings.{same_reading, same_head, head_after}
+use Rattle.mcs_base.proofs.Lists.{split_front}
 
 -- ---- made into something else
 pub made_ok : {A C : Type 0} (f : A → C) (r : Reading A) (c : C) (now : At) → mapped_reading f r ≡ Ok (c, now) → (x : A) × (c ≡ f x) × (r ≡ Ok (x, now))

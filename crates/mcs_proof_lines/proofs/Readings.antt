@@ -1,5 +1,5 @@
 -- Readings of one line, and readings that are told by other words.
-use Rattle.std.proofs.Common.{◌≡◌, ℕ, ◌+◌, zero, suc, List, [], ◌∷◌, ◌++◌, length, take, drop, Option, Some, None, Ok, Err, refl, sym, ap, ◌∙◌, subst, arith}
+use Rattle.std.proofs.Common.{◌≡◌, ℕ, ◌+◌, suc, List, [], ◌∷◌, ◌++◌, length, take, Option, Some, None, Ok, Err, refl, sym, ap, ◌∙◌, subst, arith}
 use Rattle.std.specs.Option.{option_and_then}
 use Rattle.mcs_proof_lines.specs.Walks.{At, Reading, head_line, line_at, taken_at, advanced}
 use Rattle.mcs_proof_lines.specs.Readings.{here, AreLinesRead, BeginsLines, IsStuckAt, ReadsLines, ReadsLine, one_line, Anything}
@@ -19,18 +19,6 @@ same_head k xs ys e = sym (head_take k xs) ∙ ap head_line e ∙ head_take k ys
 pub head_after : (ls xs ys : List (List ℕ)) → head_line xs ≡ head_line ys → head_line (ls ++ xs) ≡ head_line (ls ++ ys)
 head_after [] xs ys e = e
 head_after (l ∷ ls) xs ys e = refl
-
--- lines of which a front is known
-pub split_front : {A : Type 0} (front xs ys : List A) (j k : ℕ) → k ≡ length front + j → take k xs ≡ front ++ ys → (xs ≡ front ++ drop (length front) xs) × (take j (drop (length front) xs) ≡ ys)
-split_front [] xs ys j k is e = (refl, let same : j ≡ k = omega (arith, is) in ap (λ (n : ℕ). take n xs) same ∙ e)
-split_front (f ∷ front) xs ys j zero is e = absurd (omega (arith, is))
-split_front (f ∷ front) [] ys j (suc k) is e = absurd (cc)
-split_front {A = A} (f ∷ front) (x ∷ xs) ys j (suc k) is e =
-    let less : k ≡ length front + j = omega (arith, is) in
-    let first : x ≡ f = cc in
-    let rest : take k xs ≡ front ++ ys = cc in
-    let again = split_front front xs ys j k less rest in
-    (ap (λ (y : A). y ∷ xs) first ∙ ap (λ (zs : List A). f ∷ zs) again.0, again.1)
 
 -- what two readings that are the same gave
 pub same_reading : {A : Type 0} (x y : A) (a b : At) → ◌≡◌ {A = Reading A} (Ok (x, a)) (Ok (y, b)) → (x ≡ y) × (a ≡ b)

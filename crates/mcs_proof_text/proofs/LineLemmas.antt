@@ -4,12 +4,6 @@ use Rattle.std.proofs.lemmas.List.Concat.{flat_map-append}
 use Rattle.mcs_system.specs.Plain.{Name}
 use Rattle.mcs_proof_text.specs.Lines.{Line, line_text, with_feed, text_of_lines, written_lines}
 
-pub line_of_three : {A : Type 0} (t a b c : List A) → ((t ++ a) ++ b) ++ c ≡ t ++ ((a ++ b) ++ c)
-line_of_three t a b c = simp append_assoc
-
-pub line_of_five : {A : Type 0} (t a b c d e : List A) → ((((t ++ a) ++ b) ++ c) ++ d) ++ e ≡ t ++ ((a ++ (b ++ (c ++ d))) ++ e)
-line_of_five t a b c d e = simp append_assoc
-
 pub written_is : (names : List Name) (ls : List Line) → text_of_lines (map (line_text names) ls) ≡ written_lines names ls
 written_is names [] = refl
 written_is names (l ∷ ls) = ap (λ (x : List ℕ). with_feed (line_text names l) ++ x) (written_is names ls)

@@ -1,5 +1,5 @@
 -- What a token does in the reader of a text, as in what was written.
-use Rattle.std.proofs.Common.{◌≡◌, ℕ, ◌+◌, Bool, true, false, List, [], ◌∷◌, length, map, Option, Some, None, refl, sym, ap, subst, ◌∙◌, arith}
+use Rattle.std.proofs.Common.{◌≡◌, ℕ, ◌+◌, Bool, true, false, List, [], ◌∷◌, length, map, Option, Some, None, refl, sym, ap, subst, ◌∙◌, arith, Result, IfOk}
 use Rattle.std.specs.Prelude.{codes, cond, min, option_map}
 use Rattle.std.specs.Str.{bytes_eq}
 use Rattle.mcs_system.specs.Plain.{Name}
@@ -7,18 +7,19 @@ use Rattle.mcs_grammar.specs.Written.{Written, True', False', Named, WrittenLite
 use Rattle.mcs_grammar.specs.Entries.{Token, Use, AtomOf, IsNumber, OpensWithin, Entry, entry}
 use Rattle.mcs_grammar.specs.Saying.{kb_in, positive_atoms, negative_atoms}
 use Rattle.mcs_grammar.specs.FormulaSteps.{PartFormula, Pending, Tilde, Parenthesis, And, Or, Implies, Iff, size_so_far, opened_so_far, waits, behind, settle, numbered_entry, operand_step, sign_step, closed, reduce, formula_step, is_name_word}
-use Rattle.mcs_reader.specs.TextSteps.{Place, PartText, Moved, goes, is_program_kb}
+use Rattle.mcs_reader.specs.TextSteps.{Place, PartText, Moved, goes, is_program_kb, step_at}
 use Rattle.mcs_reader.specs.declared.place.Place as code_place
 use Rattle.mcs_reader.specs.declared.place.Role as code_role
 use Rattle.mcs_reader.specs.declared.place.Role.TheVariants as roles
 use Rattle.mcs_reader.specs.declared.place.Step as code_step
 use Rattle.mcs_reader.specs.declared.place.Step.TheVariants as answers
 use Rattle.mcs_grammar.specs.FormulaImages.{most_counted}
-use Rattle.mcs_reader.specs.TextImages.{IsAt, Subject, about_context, about, capped, most_number, role_uses, program_in, only, IsReaderStep}
+use Rattle.mcs_reader.specs.TextImages.{IsAt, Subject, about_context, about, capped, most_number, role_uses, program_in, only, IsReaderStep, subject_at}
 use Rattle.mcs_grammar.proofs.FormulaRuns.{word-apart, true-no-name, false-no-name}
 use Rattle.std.proofs.lemmas.Slice.Eq.{bytes_eq-Decides}
 use Rattle.std.proofs.lemmas.Option.{none-some, same_Some}
 use Rattle.mcs_base.proofs.Booleans.{by_cond}
+use Rattle.mcs_base.specs.declared.memory.Memory.{Memory}
 use Rattle.mcs_grammar.proofs.FormulaParts.{part}
 
 -- ---- a token that is there for one thing alone, and one that begins an item
@@ -111,3 +112,7 @@ pub program-same : (w : WrittenKb) → program_in (kb_in w) ≡ is_program_kb w
 program-same (Classical formulas) = refl
 program-same (DefaultTheory items) = refl
 program-same (Program rules) = refl
+
+-- the step at the place q is the one at an equal place
+pub at-place : (r : Result code_step.Step Memory) (s : PartText) (t : Token) (p q : Place) → q ≡ p → IfOk r (λ step. IsReaderStep step (subject_at p) s t (step_at s t p)) → IfOk r (λ step. IsReaderStep step (subject_at q) s t (step_at s t q))
+at-place r s t p q e h = subst (λ (x : Place). IfOk r (λ step. IsReaderStep step (subject_at x) s t (step_at s t x))) (sym e) h

@@ -1,34 +1,15 @@
 -- Finding an answer among those to ascending questions.
-use Rattle.std.proofs.Common.{◌≡◌, ℕ, ◌<◌, ◌≤◌, Bool, true, IsTrue, Result, Ok, Err, is_ok, List, length, get_or, take, arith, refl, sym, ap, ◌∙◌, subst, inl, inr, true≢false}
+use Rattle.std.proofs.Common.{◌≡◌, ℕ, ◌<◌, ◌≤◌, Bool, IsTrue, Result, Ok, Err, is_ok, List, length, get_or, take, arith, sym, ap, ◌∙◌, subst, inl, inr, true≢false}
 use Rattle.std.proofs.lemmas.Bool.{cases_lt}
-use Rattle.std.proofs.lemmas.Cmp.{ranked}
 use Rattle.std.proofs.lemmas.List.{get_or-map, length-map, get_or-take, length-take}
-use Rattle.std.specs.declared.cmp.Ordering.{Ordering}
-use Rattle.std.specs.declared.cmp.Ordering.TheVariants.{Less, Equal, Greater}
 use Rattle.std.specs.List.Sorted.{IsPartitionedBy, IsBinarySearchResult, IsSearchInRange}
-use Rattle.std.specs.Ordering.{MatchOrdering, is_lt, nat_cmp}
 use Rattle.mcs_base.specs.Listings.{IsAmong}
 use Rattle.mcs_base.specs.StateOrder.{state_cmp, equal_is}
 use Rattle.mcs_base.proofs.Among.{map_among, place_among, among_at}
 use Rattle.mcs_base.proofs.Ascending.{before_at}
+use Rattle.mcs_base.proofs.NumberCases.{less_test, test_less}
 use Rattle.mcs_rows.specs.Finding.{asked_in, is_question_before, AreAscendingQuestions, QuestionsEndAt, IsAnswerTo}
 use Rattle.mcs_rows.specs.declared.answer.Answer.{Answer}
-
-less_test : (a x : ℕ) → a < x → is_lt (nat_cmp a x) ≡ true
-less_test a x less = at (nat_cmp a x) (ranked a x _ refl)
-  where
-    at : (o : Ordering) → MatchOrdering o (a < x) (a ≡ x) (x < a) → is_lt o ≡ true
-    at Less m = refl
-    at Equal m = absurd (omega arith)
-    at Greater m = absurd (omega arith)
-
-test_less : (a x : ℕ) → is_lt (nat_cmp a x) ≡ true → a < x
-test_less a x h = at (nat_cmp a x) (ranked a x _ refl) h
-  where
-    at : (o : Ordering) → MatchOrdering o (a < x) (a ≡ x) (x < a) → is_lt o ≡ true → a < x
-    at Less m h = m
-    at Equal m h = absurd (true≢false (sym h))
-    at Greater m h = absurd (true≢false (sym h))
 
 module _ (answers : List Answer) (up : AreAscendingQuestions answers) where
   in_order : (i j : ℕ) (d : Answer) → i < j → j < length answers → (get_or answers i d).active < (get_or answers j d).active

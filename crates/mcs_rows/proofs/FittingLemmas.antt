@@ -1,12 +1,10 @@
 -- Answers and rows where states that fit no row of some tables go.
-use Rattle.std.proofs.Common.{◌≡◌, ◌∙◌, ◌+◌, ◌<◌, ℕ, List, [], ◌∷◌, ◌++◌, length, get_or, take, refl, sym, ap, subst, inl, inr, ◌↔◌}
+use Rattle.std.proofs.Common.{◌≡◌, ◌∙◌, ◌+◌, ◌<◌, ℕ, List, [], ◌∷◌, length, get_or, take, refl, sym, ap, subst, inl, inr, ◌↔◌}
 use Rattle.std.specs.List.{AllByRecursion, AllZip}
 use Rattle.mcs_sets.specs.Orders.{StateBefore}
 use Rattle.mcs_sets.specs.Sets.{common}
 use Rattle.mcs_base.specs.Listings.{IsAmong, IsListing}
 use Rattle.mcs_base.proofs.Each.{all_among, all_from_among}
-use Rattle.mcs_base.proofs.Lists.{zip_push}
-use Rattle.mcs_base.proofs.Written.{take_read}
 use Rattle.mcs_table.specs.Fitting.{IsRowProjection, AreFittingStates}
 use Rattle.mcs_table.specs.Tables.{TableData, IsTable}
 use Rattle.mcs_table.proofs.FittingLemmas.{fitting_same, fitting_more, projection_step}
@@ -68,9 +66,6 @@ answer_after set tables (d ∷ later) (c ∷ cs) zip a (inl e) = (c, inl refl, s
 answer_after set tables (d ∷ later) (c ∷ cs) zip a (inr among) = let (b, there, h) = answer_after set tables later cs zip.1 a among in (b, inr there, h)
 
 -- ---- one answer after the other
-pub zip_more : {A B : Type 0} (R : A → B → Type 0) (xs : List A) (k : ℕ) (x : A) → k < length xs → x ≡ get_or xs k x → (ys now : List B) (y : B) → AllZip R (take k xs) ys → R x y → now ≡ ys ++ y ∷ [] → AllZip R (take (k + 1) xs) now
-zip_more R xs k x less here ys now y so_far one is = subst (λ zs. AllZip R zs now) (sym (take_read xs k x less here)) (subst (AllZip R (take k xs ++ x ∷ [])) (sym is) (zip_push R (take k xs) ys x y so_far one))
-
 pub projected_as : (old lent projections told : List ℕ) (set on : ℕ) (new : List ℕ) → lent ≡ old → told ≡ projections → on ≡ set → ((s : ℕ) → IsAmong s new ↔ (IsAmong s lent × IsAmong (common s on) told)) → (s : ℕ) → IsAmong s new ↔ (IsAmong s old × IsAmong (common s set) projections)
 projected_as old lent projections told set on new e e' e'' kept =
     subst (λ (xs : List ℕ). (s : ℕ) → IsAmong s new ↔ (IsAmong s xs × IsAmong (common s set) projections)) e

@@ -1,7 +1,8 @@
 -- The lattice of finite sets: what is in unions, common parts and differences, what lies within what, and how many members there are.
-use Rattle.std.proofs.Common.{◌≡◌, ℕ, ◌+◌, ◌^◌, ◌<◌, ◌≤◌, Bool, true, false, cond, not, ◌&&◌, eqb, sym, ap, ◌∙◌, inl, inr, ◌⊎◌, ◌↔◌, arith, bit_xor, length, ◌∷◌, ltb, refl, true≢false}
+use Rattle.std.proofs.Common.{◌≡◌, ℕ, ◌+◌, ◌^◌, ◌<◌, ◌≤◌, Bool, true, false, cond, not, ◌&&◌, eqb, sym, ap, ◌∙◌, inl, inr, ◌⊎◌, ◌↔◌, arith, bit_xor, length, ◌∷◌, ltb, refl, true≢false, subst, nat_lt, nat_eq, ◌-◌}
 use Rattle.std.proofs.lemmas.Bool.{cases_Bool, false_from_ne_true, cases_eq}
 use Rattle.std.proofs.lemmas.Bool.Decides.{nat_tests}
+use Rattle.std.proofs.lemmas.Nat.Bits.{bit_at_ones, bit_at_ones_above}
 use Rattle.mcs_sets.specs.Sets.{has, single, union, common, minus, such_that, members, Within, Meets, size}
 use Rattle.mcs_sets.specs.Orders.{PairBefore}
 use Rattle.mcs_sets.proofs.SetLemmas.{same_set, has-empty, has-single, has-union, has-common, has-minus, has-differ, members-least, members-empty, below_power, single-lt, union-lt, such_that-lt, minus-le, Within-le, size-le, size-union, within_where_common, common_where_within, state_before_where_lex, size-count, count_all, has-such_that, such_that-more, meets_or_not}
@@ -219,3 +220,51 @@ cases_meet a b = elim (meets_or_not a b a (below_power a)) [
   | inl meets ↦ inl meets
   | inr none ↦ inr (λ meets. true≢false (sym meets.in_second ∙ none meets.member meets.in_first))
 ]
+
+-- ---- all numbers below a bound
+pub has-all : (n k : ℕ) → k < n → has (such_that n (λ k. true)) k ≡ true
+has-all n k less = let below : ltb k n ≡ true = grind (arith, nat_tests) in has-such_that n (λ k. true) k ∙ ap (λ (b : Bool). b && true) below
+
+pub all_places_are : (n : ℕ) → 2 ^ n - 1 ≡ such_that n (λ k. true)
+unfolding has
+all_places_are n = same_set (2 ^ n - 1) (such_that n (λ k. true)) (λ k. by k (nat_lt k n) refl)
+  where
+    by : (k : ℕ) (b : Bool) → nat_lt k n ≡ b → has (2 ^ n - 1) k ≡ has (such_that n (λ j. true)) k
+    by k true e =
+        let less : k < n = grind (arith, nat_tests) in
+        let test : ltb k n ≡ true = grind (arith, nat_tests) in
+        let inside : has (such_that n (λ j. true)) k ≡ true = has-such_that n (λ j. true) k ∙ rw test refl in
+        ap (λ (v : ℕ). nat_eq v 1) (bit_at_ones n k less) ∙ sym inside
+    by k false e =
+        let past : n ≤ k = grind (arith, nat_tests) in
+        let test : ltb k n ≡ false = grind (arith, nat_tests) in
+        let outside : has (such_that n (λ j. true)) k ≡ false = has-such_that n (λ j. true) k ∙ rw test refl in
+        ap (λ (v : ℕ). nat_eq v 1) (bit_at_ones_above n k past) ∙ sym outside
+
+-- ---- sets of as many members, of no more, and of one
+pub before_has_no_more : (a b : ℕ) → PairBefore a b → size a ≤ size b
+before_has_no_more a b (inl less) = omega arith
+before_has_no_more a b (inr (same, lex)) = omega arith
+
+-- a set within one of as many members has all of them
+pub within_back : (a b : ℕ) → Within a b → size a ≡ size b → Within b a
+within_back a b within same k is = elim (cases_Bool (has a k)) [
+  | inl there ↦ there
+  | inr lacks ↦ let less = size-less b a k within is lacks in absurd (omega arith)
+]
+
+-- a set of one member lies within each set that has this member
+pub one_within : (x s k : ℕ) → size x ≡ 1 → has x k ≡ true → has s k ≡ true → Within x s
+one_within x s k one here there j h = elim (cases_eq j k) [
+  | inl same ↦ subst (λ (z : ℕ). has s z ≡ true) (sym same) there
+  | inr other ↦
+      let out : has (single k) j ≡ false = grind (arith, nat_tests, has-single) in
+      let less = size-less x (single k) j (single_within k x here) h out in
+      let is = size-single k in
+      absurd (omega arith)
+]
+
+-- the set of a number, where a test holds, has it where the test holds
+pub has-single_if : (k : ℕ) (b : Bool) → has (cond b (single k) 0) k ≡ b
+has-single_if k true = has-single_itself k
+has-single_if k false = has-empty k

@@ -1,10 +1,9 @@
 -- Heads of rules as assumptions, and what is kept of a context.
-use Rattle.std.proofs.Common.{◌≡◌, ℕ, ◌+◌, ◌<◌, Bool, true, false, ◌&&◌, cond, ltb, nat_eq, List, [], ◌∷◌, ◌++◌, map, filter, Some, None, slice_get, refl, sym, ap, ◌∙◌, subst, arith}
+use Rattle.std.proofs.Common.{◌≡◌, ℕ, ◌+◌, ◌<◌, Bool, true, false, ◌&&◌, cond, nat_eq, List, [], ◌∷◌, ◌++◌, map, filter, Some, None, slice_get, refl, sym, ap, ◌∙◌, subst}
 use Rattle.std.specs.Prelude.{Option, option_to_list}
-use Rattle.std.proofs.lemmas.Bool.Decides.{nat_tests}
 use Rattle.std.specs.List.{AllByRecursion}
 use Rattle.mcs_sets.specs.Sets.{has, such_that}
-use Rattle.mcs_sets.proofs.SetLemmas.{has-such_that}
+use Rattle.mcs_sets.proofs.Lattice.{has-all}
 use Rattle.mcs_base.proofs.Each.{all_left, all_push, all_right, all_weaker}
 use Rattle.mcs_system.specs.Plain.{Name, Formula, Item, Fact, Kb, Classical, DefaultTheory, Program, Bridge, Context, System}
 use Rattle.mcs_system.specs.Atoms.{atoms_of}
@@ -61,17 +60,13 @@ module _ (k : ℕ) (b : Bridge) (bs : List Bridge) (i : ℕ) where
       at true = refl
       at false = refl
 
--- all numbers have each
-has_each : (k : ℕ) → k < 64 → has (such_that 64 (λ k. true)) k ≡ true
-has_each k less = let below : ltb k 64 ≡ true = grind (arith, nat_tests) in has-such_that 64 (λ k. true) k ∙ ap (λ (b : Bool). b && true) below
-
 -- what holds of the formulas of all numbers holds of each
 pub each_of_all : (P : Formula → Type 0) (xs : List Assumption) → AllByRecursion (λ (a : Assumption). a.number < 64) xs → AllByRecursion P (assumed (such_that 64 (λ k. true)) xs)
     → AllByRecursion P (map (λ (a : Assumption). formula_of a.formula.now) xs)
 each_of_all P [] numbers all = tt
 each_of_all P (x ∷ xs) numbers all =
     let taken = subst (λ (u : Bool). AllByRecursion P (map (λ (a : Assumption). formula_of a.formula.now) (cond u (x ∷ filter (λ (a : Assumption). has (such_that 64 (λ k. true)) a.number) xs) (filter (λ (a : Assumption). has (such_that 64 (λ k. true)) a.number) xs))))
-    (has_each x.number numbers.0) all in
+    (has-all 64 x.number numbers.0) all in
     (taken.0, each_of_all P xs numbers.1 taken.1)
 
 -- ---- what was found

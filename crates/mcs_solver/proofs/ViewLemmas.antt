@@ -1,13 +1,11 @@
 -- Clauses and names of formulas that are lent, and clauses that are taken off again.
-use Rattle.std.proofs.Common.{◌≡◌, ℕ, ◌+◌, ◌<◌, map, length, get_or, take, List, [], ◌∷◌, ◌++◌, Some, IsTrue, sym, ap, ◌∙◌, subst, refl, true, true≢false, arith}
-use Rattle.std.proofs.lemmas.List.{map_more}
+use Rattle.std.proofs.Common.{◌≡◌, ℕ, map, length, List, [], ◌∷◌, ◌++◌, IsTrue, sym, ◌∙◌, subst, refl, true, true≢false, arith}
 use Rattle.std.proofs.lemmas.Option.{slice_get_within}
 use Rattle.std.specs.List.{AllByRecursion}
 use Rattle.mcs_sets.specs.Orders.{StateBefore}
 use Rattle.mcs_sets.proofs.SetLemmas.{has-empty}
 use Rattle.mcs_base.specs.Listings.{IsListing}
-use Rattle.mcs_base.proofs.Each.{all_get, all_append}
-use Rattle.mcs_base.proofs.Lists.{slice_get-map_at}
+use Rattle.mcs_base.proofs.Each.{all_append}
 use Rattle.mcs_system.specs.Plain.{Name, Formula, Atom, Classical}
 use Rattle.mcs_system.specs.Logic.{is_in}
 use Rattle.mcs_system.specs.Views.{IsAcceptedView}
@@ -15,22 +13,7 @@ use Rattle.mcs_trace.specs.Clauses.{ClauseList}
 use Rattle.mcs_cnf.specs.Classical.{IsAcceptedClassical}
 use Rattle.mcs_cnf.specs.ClauseLists.{clause_list, with_formulas, IsOver, AreOver}
 use Rattle.mcs_cnf.proofs.EntailmentLemmas.{one_view}
-use Rattle.mcs_cnf.proofs.ListLemmas.{with_append}
-use Rattle.mcs_cnf.proofs.GrowingLemmas.{none-with, grown_clauses}
-
--- ---- formulas one by one
-module _ {A : Type 0} (seen : A → Formula) where
-  pub over_at : (names : List Name) (fs : List A) (i : ℕ) (f : A) → i < length fs → f ≡ get_or fs i f → AreOver names (map seen fs) → IsOver names (seen f)
-  over_at names fs i f less is over = all_get (IsOver names) (map seen fs) i (seen f) over (slice_get-map_at seen fs i f less ∙ ap (λ (g : A). Some (seen g)) (sym is))
-
-  pub pushed_more : (names : List Name) (c0 c c' : ClauseList) (fs : List A) (i : ℕ) (f : A) → i < length fs → f ≡ get_or fs i f → c ≡ with_formulas names c0 (map seen (take i fs))
-      → c' ≡ with_formulas names c (seen f ∷ []) → c' ≡ with_formulas names c0 (map seen (take (i + 1) fs))
-  pushed_more names c0 c c' fs i f less is so_far pushed =
-      let more : map seen (take (i + 1) fs) ≡ map seen (take i fs) ++ seen f ∷ [] = rw is (map_more seen fs i f less) in
-      pushed ∙ ap (λ (x : ClauseList). with_formulas names x (seen f ∷ [])) so_far ∙ with_append names c0 (map seen (take i fs)) (seen f ∷ []) ∙ ap (with_formulas names c0) (sym more)
-
-pub pushed_none : (names : List Name) (c : ClauseList) → c ≡ with_formulas names c []
-pushed_none names c = sym (none-with names c)
+use Rattle.mcs_cnf.proofs.GrowingLemmas.{grown_clauses}
 
 -- the clauses of formulas with those of the heads
 pub told_clauses : (names : List Name) (known new : ClauseList) (fs heads : List Formula) → known ≡ clause_list names fs → new ≡ with_formulas names known heads → new ≡ clause_list names (fs ++ heads)

@@ -1,5 +1,5 @@
 -- Traces, judged step by step.
-use Rattle.std.proofs.Common.{◌≡◌, ◌+◌, ◌-◌, ◌↔◌, ◌==◌, Bool, true, false, IsTrue, List, [], ◌∷◌, ◌++◌, length, slice_get, is_some, Option, Some, None, Ok, Err, ℤ, cond, refl, sym, ap, ◌∙◌, subst, arith, append_assoc, append-nil, length-append, true≢false}
+use Rattle.std.proofs.Common.{◌≡◌, ◌+◌, ◌-◌, ◌↔◌, ◌==◌, Bool, true, false, IsTrue, List, [], ◌∷◌, ◌++◌, length, slice_get, Some, None, Ok, Err, ℤ, cond, refl, sym, ap, ◌∙◌, subst, arith, append_assoc, append-nil, length-append, true≢false}
 use Rattle.std.proofs.lemmas.List.{map_push}
 use Rattle.std.proofs.lemmas.Option.{same_Some}
 use Rattle.std.specs.List.{AllByRecursion}
@@ -16,11 +16,6 @@ use Rattle.mcs_steps.specs.Judging.{IsJudged, IsPassed, IsStepJudged, IsJudgedOn
 use Rattle.mcs_steps.specs.declared.line.StepLine as code
 use Rattle.mcs_steps.specs.declared.trace.Judged as judged
 use Rattle.mcs_steps.proofs.ChainLemmas.{none_spelled, nothing_left, no_bytes}
-
--- ---- tests of options
-pub some_of : {A : Type 0} (o : Option A) → is_some o ≡ true → (x : A) × (o ≡ Some x)
-some_of None e = absurd (true≢false (sym e))
-some_of (Some x) e = (x, refl)
 
 -- ---- one step more
 right_more : (known : List (List ℤ)) (steps : List Inference) (s : Inference) → AreRightSteps known (steps ++ s ∷ []) ↔ (AreRightSteps known steps × IsChainResolvent (known ++ clauses_in steps) s.chain s.clause)

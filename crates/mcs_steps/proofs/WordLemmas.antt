@@ -1,5 +1,5 @@
 -- What the first word of bytes says of the numbers and literals that they spell.
-use Rattle.std.proofs.Common.{◌≡◌, ℕ, ◌+◌, ◌<◌, ◌≤◌, zero, suc, Bool, true, false, not, ◌&&◌, cond, nat_eq, List, [], ◌∷◌, ◌++◌, length, take, drop, codes, Option, Some, None, ℤ, pos, negsuc, refl, sym, ap, ◌∙◌, subst, arith, append_assoc, true≢false, w64, to_z, of_z, to_z-of_z, FitsSigned}
+use Rattle.std.proofs.Common.{◌≡◌, ℕ, ◌+◌, ◌<◌, ◌≤◌, zero, suc, Bool, true, false, not, ◌&&◌, cond, nat_eq, List, [], ◌∷◌, ◌++◌, length, take, drop, codes, Option, Some, None, ℤ, pos, refl, sym, ap, ◌∙◌, subst, arith, append_assoc, true≢false}
 use Rattle.std.proofs.Math.Seq.{drop-length}
 use Rattle.std.proofs.lemmas.Bool.{eqb-true, ne_eqb}
 use Rattle.std.proofs.lemmas.Iterator.Adapters.{position_from-zero}
@@ -285,11 +285,3 @@ pub signed_literal : (n : ℕ) (neg : Bool) → IsSmallNumber n → IsLiteral (s
 signed_literal zero neg h = absurd (let some = h.0 in omega (arith, some))
 signed_literal (suc n) true h = subst IsLiteral (sym (zero-minus (pos (suc n)))) (omega arith, h.1)
 signed_literal (suc n) false h = (omega arith, h.1)
-
-literal_fits : (l : ℤ) → IsLiteral l → FitsSigned w64 l
-literal_fits (pos n) h = let few = h.1 in omega (arith, few)
-literal_fits (negsuc n) h = let few = h.1 in omega (arith, few)
-
--- as the code holds it
-pub literal_kept : (l : ℤ) → IsLiteral l → to_z w64 (of_z w64 l) ≡ l
-literal_kept l h = to_z-of_z (literal_fits l h)

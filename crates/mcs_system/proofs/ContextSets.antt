@@ -1,15 +1,17 @@
 -- What the sets of a context hold: its rules, its variables, and what stands before it in an order.
-use Rattle.std.proofs.Common.{◌≡◌, ℕ, ◌+◌, suc, Bool, true, false, ◌&&◌, eqb, ltb, List, [], ◌∷◌, length, Some, refl, sym, ◌∙◌, inl, inr, arith, slice_get, cond, nat_eq, ◌<◌, ◌^◌}
+use Rattle.std.proofs.Common.{◌≡◌, ℕ, ◌+◌, suc, Bool, true, false, ◌&&◌, eqb, ltb, List, [], ◌∷◌, length, Some, refl, sym, ◌∙◌, inl, inr, arith, slice_get, cond, nat_eq, ◌<◌, ◌^◌, ◌++◌, subst}
 use Rattle.std.proofs.lemmas.Bool.{and_parts}
 use Rattle.std.proofs.lemmas.Bool.Decides.{nat_tests}
 use Rattle.std.specs.List.{list_any, enumerate_from}
 use Rattle.mcs_sets.specs.Sets.{has, Within}
 use Rattle.mcs_sets.proofs.SetLemmas.{has-such_that, members_below, such_that-lt}
-use Rattle.mcs_base.specs.Listings.{IsAmong}
+use Rattle.mcs_base.specs.Listings.{IsAmong, AreApart}
 use Rattle.mcs_base.proofs.Lists.{slice_get_below}
+use Rattle.mcs_base.proofs.Among.{among_left, among_right}
+use Rattle.mcs_base.proofs.Distinct.{distinct_filter}
 use Rattle.mcs_system.specs.Plain.{Read, Bridge, System}
 use Rattle.mcs_system.specs.Systems.{same_read, variables, variables_of, is_of_context, IsVariable, all_rules, all_variables}
-use Rattle.mcs_system.specs.Imports.{before_in, rules_into, goes_into}
+use Rattle.mcs_system.specs.Imports.{before_in, rules_into, goes_into, imports, supplied, FollowsOrder, IsImportOrder}
 use Rattle.mcs_system.proofs.VariableLemmas.{has-rules_into, has-variables_of}
 use Rattle.mcs_system.proofs.MarkLemmas.{has-all_rules}
 
@@ -59,3 +61,25 @@ before_among c i (x ∷ xs) h = at (nat_eq x i) h (before_among c i xs)
     at true none rest = absurd none
     at false (inl e) rest = inl e
     at false (inr later) rest = inr (rest later)
+
+-- an order has each context once
+follows_untaken : (m : System) (taken xs : List ℕ) → FollowsOrder m taken xs → (k : ℕ) → IsAmong k xs → ¬ IsAmong k taken
+follows_untaken m taken [] h k among t = among
+follows_untaken m taken (x ∷ xs) h k (inl e) t = h.0.ready.untaken (subst (λ (z : ℕ). IsAmong z taken) e t)
+follows_untaken m taken (x ∷ xs) h k (inr later) t = follows_untaken m (taken ++ x ∷ []) xs h.1 k later (among_left k taken (x ∷ []) t)
+
+pub follows_apart : (m : System) (taken xs : List ℕ) → FollowsOrder m taken xs → AreApart xs
+follows_apart m taken [] h = tt
+follows_apart m taken (x ∷ xs) h = (λ later. follows_untaken m (taken ++ x ∷ []) xs h.1 x later (among_right x taken (x ∷ []) (inl refl)), follows_apart m (taken ++ x ∷ []) xs h.1)
+
+pub before_apart : (xs : List ℕ) (i : ℕ) → AreApart xs → AreApart (before_in xs i)
+before_apart [] i h = tt
+before_apart (x ∷ xs) i h = at (nat_eq x i) (before_apart xs i h.1)
+  where
+    at : (v : Bool) → AreApart (before_in xs i) → AreApart (cond v [] (x ∷ before_in xs i))
+    at true rest = tt
+    at false rest = (λ among. h.0 (before_among x i xs among), rest)
+
+-- no context supplies another twice
+pub supplied_apart : (m : System) (order : List ℕ) (i : ℕ) → IsImportOrder m order → AreApart (supplied m order i)
+supplied_apart m order i h = distinct_filter (imports m i) (before_in order i) (before_apart order i (follows_apart m [] order h))

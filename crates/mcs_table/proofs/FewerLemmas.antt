@@ -1,6 +1,6 @@
 -- Skipping, of ascending rows, those with the state of a later row and as many marks: none of them covers it.
-use Rattle.std.proofs.Common.{◌≡◌, ◌<◌, ◌≤◌, ◌+◌, ℕ, Bool, true, false, List, length, get_or, take, drop, refl, sym, ap, ◌∙◌, subst, inl, inr, ◌⊎◌, arith, true≢false}
-use Rattle.std.proofs.lemmas.Bool.{cases_lt, cases_Bool}
+use Rattle.std.proofs.Common.{◌≡◌, ◌<◌, ◌+◌, ℕ, Bool, true, false, List, length, get_or, take, drop, refl, sym, ap, ◌∙◌, subst, inl, inr, ◌⊎◌, arith, true≢false}
+use Rattle.std.proofs.lemmas.Bool.{cases_lt}
 use Rattle.std.proofs.lemmas.Cmp.{ranked}
 use Rattle.std.proofs.lemmas.List.{get_or-drop, get_or-take, length-drop, length-take}
 use Rattle.std.specs.declared.cmp.Ordering.{Ordering}
@@ -9,9 +9,9 @@ use Rattle.std.specs.Cmp.{tied_itself}
 use Rattle.std.specs.List.{AllByRecursion}
 use Rattle.std.specs.List.Sorted.{IsPartitionedBy, IsPartitionPoint}
 use Rattle.std.specs.Ordering.{MatchOrdering, ordering_then, is_lt, nat_cmp}
-use Rattle.mcs_sets.specs.Sets.{has, size, Within}
-use Rattle.mcs_sets.specs.Orders.{StateBefore, PairBefore}
-use Rattle.mcs_sets.proofs.Lattice.{size-less, not_within_before}
+use Rattle.mcs_sets.specs.Sets.{size, Within}
+use Rattle.mcs_sets.specs.Orders.{StateBefore}
+use Rattle.mcs_sets.proofs.Lattice.{not_within_before, before_has_no_more, within_back}
 use Rattle.mcs_base.specs.Listings.{IsAscending, IsAmong}
 use Rattle.mcs_base.specs.StateOrder.{state_cmp, state_cmp_total, less_is, equal_is, cmp-before, StateBefore-transitive}
 use Rattle.mcs_base.proofs.Among.{place_among, drop_among, among_at}
@@ -51,15 +51,11 @@ fewer_test row x (inr h) =
     ∙ ap (λ (o : Ordering). is_lt (ordering_then o (nat_cmp (size x.marks) (size row.marks)))) (tied_itself state_cmp_total x.state.values)
     ∙ less_of (size x.marks) (size row.marks) h.1 (nat_cmp (size x.marks) (size row.marks)) (ranked (size x.marks) (size row.marks) _ refl)
 
-no_more : (a b : ℕ) → PairBefore a b → size a ≤ size b
-no_more a b (inl less) = omega arith
-no_more a b (inr (same, lex)) = omega arith
-
 fewer_before : (row x y : Row) → RowBefore x y → HasFewer row y → HasFewer row x
 fewer_before row x y (inl h) (inl k) = inl (StateBefore-transitive _ _ _ h k)
 fewer_before row x y (inl h) (inr k) = inl (subst (StateBefore x.state.values) k.0 h)
 fewer_before row x y (inr h) (inl k) = inl (subst (λ (s : ℕ). StateBefore s row.state.values) (sym h.0) k)
-fewer_before row x y (inr h) (inr k) = inr (h.0 ∙ k.0, let more = no_more x.marks y.marks h.1 in let less = k.1 in omega arith)
+fewer_before row x y (inr h) (inr k) = inr (h.0 ∙ k.0, let more = before_has_no_more x.marks y.marks h.1 in let less = k.1 in omega arith)
 
 earlier_one : (xs : List Row) (i j : ℕ) (d : Row) → i < j → j < length xs → IsAscending RowBefore xs → RowBefore (get_or xs i d) (get_or xs j d)
 earlier_one xs i j d before less up =
@@ -69,13 +65,6 @@ pub parted_by_fewer : (row : Row) (xs : List Row) → IsAscending RowBefore xs �
 parted_by_fewer row xs up i j d le less h = elim (cases_lt i j) [
   | inl before ↦ fewer_test row (get_or xs i d) (fewer_before row (get_or xs i d) (get_or xs j d) (earlier_one xs i j d before less up) (test_fewer row (get_or xs j d) h))
   | inr past ↦ let same : i ≡ j = omega arith in ap (λ k. has_fewer row (get_or xs k d)) same ∙ h
-]
-
--- a set within one of as many members has all of them
-within_back : (a b : ℕ) → Within a b → size a ≡ size b → Within b a
-within_back a b within same k is = elim (cases_Bool (has a k)) [
-  | inl there ↦ there
-  | inr lacks ↦ let less = size-less b a k within is lacks in absurd (omega arith)
 ]
 
 covering_has_fewer : (row x : Row) → RowBefore x row → x.state ≡ row.state → Within x.marks row.marks → HasFewer row x

@@ -64,6 +64,10 @@ pub fits_literal : (l : ℤ) → IsLiteral l → FitsSigned w64 l
 fits_literal (pos n) is = record { sfits = omega (arith, is.1) }
 fits_literal (negsuc n) is = record { sfits = omega (arith, is.1) }
 
+-- as the code holds it
+pub read_literal : (l : ℤ) → IsLiteral l → to_z w64 (of_z w64 l) ≡ l
+read_literal l is = to_z-of_z (fits_literal l is)
+
 -- the literals of a size are next to each other
 pub near : (l : ℤ) (c : List ℤ) (i : ℕ) → IsAscending LiteralBefore c → i < length c → unsigned_abs l ≤ unsigned_abs (get_or c i (pos 0)) → IsAmong l (drop i c)
     → (l ≡ get_or c i (pos 0)) ⊎ ((i + 1 < length c) × (l ≡ get_or c (i + 1) (pos 0)))

@@ -5,7 +5,8 @@ use Rattle.mcs_wire.specs.declared.view.View.{View}
 use Rattle.mcs_wire.specs.Bags.{AreTogether}
 use Rattle.mcs_wire.specs.Wires.{after_join}
 use Rattle.mcs_wire.specs.Ends.{IsSettled}
-use Rattle.mcs_wire.proofs.Weights.{lengths_together, parts_together, take_but_last}
+use Rattle.mcs_wire.proofs.Weights.{lengths_together, parts_together}
+use Rattle.mcs_base.proofs.Lists.{take_but_last}
 
 -- what the last end knows: what the address has sent, and what was taken from the inbox, with so many letters left
 pub record IsEnd (a i z : View) (left : List LetterData) (sent count : ℕ) : Type 0 where

@@ -1,6 +1,5 @@
 -- Sums over lists of which some places are known, and lists as bags.
-use Rattle.std.proofs.Common.{◌≡◌, ◌≢◌, ℕ, zero, suc, ◌+◌, ◌-◌, ◌≤◌, List, [], ◌∷◌, ◌++◌, length, set, take, refl, sym, ap, ◌∙◌, subst, ⊎_elim, arith, length-append}
-use Rattle.std.proofs.Math.Seq.{take-append_seam}
+use Rattle.std.proofs.Common.{◌≡◌, ◌≢◌, ℕ, zero, suc, ◌+◌, ◌≤◌, List, [], ◌∷◌, ◌++◌, length, set, refl, sym, ap, subst, ⊎_elim, arith}
 use Rattle.std.proofs.lemmas.List.Sums.{sum_by-append, sum_by-cons}
 use Rattle.std.specs.List.{sum_by}
 use mathlib.Core.Option.{some, some-ne-none, some-injective}
@@ -66,9 +65,3 @@ module _ {A : Type 0} where
   -- a list that is split at a place, and nothing besides
   pub parts_together : (xs ys zs whole : List A) → zs ≡ xs ++ ys → AreTogether zs [] whole → AreTogether xs ys whole
   parts_together xs ys zs whole is t weight = omega (arith, t weight, ap (sum_by weight) is, sum_by-append weight xs ys)
-
-  -- the first ones of a list, counted from its end
-  pub take_but_last : (xs ys zs : List A) (n k : ℕ) → zs ≡ xs ++ ys → n ≡ length zs → k ≡ length ys → take (n - k) zs ≡ xs
-  take_but_last xs ys zs n k is long last =
-      let first : n - k ≡ length xs = omega (arith, long, last, ap length is, length-append xs ys) in
-      (λ i. take (first i) (is i)) ∙ take-append_seam xs ys

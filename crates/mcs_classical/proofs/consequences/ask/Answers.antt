@@ -9,10 +9,10 @@ use Rattle.mcs_system.specs.Logic.{true_names}
 use Rattle.mcs_system.specs.declared.formula.Formula as code
 use Rattle.mcs_system.specs.Seen.{formula_of}
 use Rattle.mcs_cnf.specs.Entailments.{IsRefuted}
+use Rattle.mcs_cnf.proofs.AddingLemmas.{over_at}
 use Rattle.mcs_classical.specs.Consequences.{holds_goal, with_assumed, IsUpperConsequence}
 use Rattle.mcs_classical.specs.Models.{IsCounterexample}
 use Rattle.mcs_classical.specs.declared.bounds.Upper.{Upper}
-use Rattle.mcs_classical.proofs.AddingLemmas.{over_at}
 use Rattle.mcs_classical.proofs.ConsequenceLemmas.{model_answer, model_upper}
 use Rattle.mcs_classical.proofs.consequences.ask.Goals as goal
 

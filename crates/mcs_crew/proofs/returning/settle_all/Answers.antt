@@ -2,8 +2,9 @@ use Rattle.std.proofs.Common.{◌∙◌, ℕ, [], ◌∷◌, ap, drop, length, l
 use Rattle.std.proofs.lemmas.Iterator.Adapters.{YieldsList-from_vec}
 use Rattle.std.proofs.lemmas.Iterator.Consumers.{YieldsList-turn}
 use Rattle.std.proofs.lemmas.Option.{slice_get_read}
-use Rattle.mcs_crew.proofs.HubLemmas.{next_dropped, settled_more}
+use Rattle.mcs_crew.proofs.HubLemmas.{settled_more}
 use Rattle.mcs_crew.proofs.returning.settle_all.Goals as goal
+use Rattle.mcs_base.proofs.Lists.{next_dropped}
 
 pub settle-requires-clause-all : goal.settle-requires-clause-all
 settle-requires-clause-all g c =

@@ -1,6 +1,6 @@
 use Rattle.std.proofs.Common.{◌≡◌, ◌%◌, length, get_or, slice_get, Some, rules}
+use Rattle.std.proofs.lemmas.Option.{slice_get-get_or}
 use Rattle.mcs_wire.specs.Ends.{AddressData}
-use Rattle.mcs_mesh.proofs.NodeLemmas.{read_at}
 use Rattle.mcs_crew.proofs.SendSteps.{fewer, have_sent, may_name, may_send, sending_begun, sending_more, sent_out}
 use Rattle.mcs_crew.proofs.sending.send_out.Goals as goal
 
@@ -13,7 +13,7 @@ send-requires-clause-sent g c =
     let ps = c.loop-letter.addresses in
     let group = c.to.result % length ps in
     let a : AddressData = get_or ps group c.index-addresses-group.result in
-    let at : slice_get ps group ≡ Some a = read_at ps group c.index-addresses-group.result (search rules) in
+    let at : slice_get ps group ≡ Some a = slice_get-get_or ps group c.index-addresses-group.result (search rules) in
     may_send c.args.node.now c.loop-letter.node c.next_out.new.self c.args.addresses.now ps c.loop-letter.invariant c.in-Some.letter c.in-Some.ensures group a at c.requires.few
 
 pub send-requires-clause-plan : goal.send-requires-clause-plan
@@ -21,7 +21,7 @@ send-requires-clause-plan g c =
     let ps = c.loop-letter.addresses in
     let group = c.to.result % length ps in
     let a : AddressData = get_or ps group c.index-addresses-group.result in
-    let at : slice_get ps group ≡ Some a = read_at ps group c.index-addresses-group.result (search rules) in
+    let at : slice_get ps group ≡ Some a = slice_get-get_or ps group c.index-addresses-group.result (search rules) in
     may_name c.args.node.now c.loop-letter.node c.next_out.new.self c.args.addresses.now ps c.loop-letter.invariant c.in-Some.letter c.in-Some.ensures group a at c.requires.named
 
 pub loop-letter-smaller : goal.loop-letter-smaller
@@ -32,7 +32,7 @@ loop-letter-preserved g c =
     let ps = c.loop-letter.addresses in
     let group = c.to.result % length ps in
     let a : AddressData = get_or ps group c.index-addresses-group.result in
-    let at : slice_get ps group ≡ Some a = read_at ps group c.index-addresses-group.result (search rules) in
+    let at : slice_get ps group ≡ Some a = slice_get-get_or ps group c.index-addresses-group.result (search rules) in
     sending_more c.args.node.now c.loop-letter.node c.next_out.new.self c.args.addresses.now ps c.loop-letter.invariant c.in-Some.letter c.in-Some.ensures group a at c.send.new.self c.send.ensures
 
 -- ---- none is left

@@ -7,8 +7,8 @@ use Rattle.mcs_cnf.specs.ClauseLists.{AreOver}
 use Rattle.mcs_evidence.specs.Defaults.{negated_justs}
 use Rattle.mcs_default.specs.Theories.{AreClausesOf}
 use Rattle.mcs_evidence.specs.Theories.{IsOverDefault}
+use Rattle.mcs_evidence.proofs.Picked.{picked_out}
 use Rattle.mcs_default.specs.Told.{IsToldOfJusts}
-use Rattle.mcs_default.proofs.General.{picked_out}
 use Rattle.mcs_default.proofs.AskLemmas.{denied_same, inside_more, justs_told}
 use Rattle.mcs_default.proofs.inside.ask_inside.Goals.{then-has+in_ok-justs+in-Allowed+in_ok-append-in-Allowed, else-has}
 use Rattle.mcs_default.proofs.inside.ask_inside.Goals as goal

@@ -2,6 +2,7 @@ use Rattle.std.proofs.Common.{◌≡◌, ◌∙◌, ◌++◌, ℕ, List, length,
 use Rattle.std.proofs.lemmas.Result.{IfOk-weaker}
 use Rattle.std.proofs.lemmas.List.{length-map}
 use Rattle.std.specs.List.{AllByRecursion}
+use Rattle.mcs_base.proofs.Results.{on_ok}
 use Rattle.mcs_system.specs.Plain.{Default, Formula, Item, Fact}
 use Rattle.mcs_system.specs.Seen.{default_of, formula_of, item_of}
 use Rattle.mcs_trace.specs.Clauses.{ClauseList, IsWithin}
@@ -10,7 +11,6 @@ use Rattle.mcs_evidence.specs.Defaults.{facts_of, defaults_of}
 use Rattle.mcs_evidence.specs.Theories.{AreOverDefaults}
 use Rattle.mcs_evidence.proofs.TheoryLemmas.{over_defaults}
 use Rattle.mcs_default.specs.Theories.{AreParts}
-use Rattle.mcs_default.proofs.SameLemmas.{on_ok}
 use Rattle.mcs_default.proofs.KeptLemmas.{parts_with, ready_from}
 use Rattle.mcs_default.proofs.listing.list_with.Goals as goal
 

@@ -1,9 +1,10 @@
 use Rattle.std.proofs.Common.{◌≡◌, ◌<◌, ◌⊎◌, ◌∙◌, ℤ, List, length, subst, sym, arith}
 use Rattle.mcs_base.specs.Listings.{IsAmong, IsListing}
 use Rattle.mcs_trace.specs.Clauses.{IsLiteral, LiteralBefore}
+use Rattle.mcs_trace.proofs.OrderLemmas.{read_literal}
 use Rattle.mcs_engine.specs.declared.trail.Entry.{Entry}
 use Rattle.mcs_engine.specs.Trails.{literal_at}
-use Rattle.mcs_engine.proofs.GrowLemmas.{neg_literal, read_literal}
+use Rattle.mcs_engine.proofs.GrowLemmas.{neg_literal}
 use Rattle.mcs_engine.proofs.MarkLemmas.{of_marks-free, of_marks-more, unmarked-is}
 use Rattle.mcs_engine.proofs.marks.clause_of.Goals as goal
 

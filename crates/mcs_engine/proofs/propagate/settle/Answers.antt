@@ -1,8 +1,9 @@
 use Rattle.mcs_engine.specs.Trails.{GrowsOnLevel, StandsNowhere}
 use Rattle.std.proofs.Common.{◌<◌, unsigned_abs, length, sym, subst, ℤ, ◌∷◌, [], refl, arith}
 use Rattle.mcs_trace.specs.Clauses.{IsLiteral}
+use Rattle.mcs_trace.proofs.OrderLemmas.{read_literal}
 use Rattle.mcs_engine.proofs.FindingLemmas.{open-short}
-use Rattle.mcs_engine.proofs.GrowLemmas.{literal_of, read_literal, trail-push, trail-same, within_of, clause_at, covered_at, grows-none}
+use Rattle.mcs_engine.proofs.GrowLemmas.{literal_of, trail-push, trail-same, within_of, clause_at, covered_at, grows-none}
 use Rattle.mcs_engine.proofs.propagate.settle.Goals as goal
 
 pub push-requires-clause-literal : goal.push-requires-clause-literal

@@ -1,14 +1,14 @@
 use Rattle.std.proofs.Common.{◌≡◌, ◌≢◌, ap, true≢false, ℤ, List, [], ◌∷◌, ◌+◌, ◌<◌, inl, inr, length, neg_ℤ, unsigned_abs, slice_get, Some, refl, sym, ◌∙◌, subst, arith, w64, to_z, of_z, to_z-of_z}
 use Rattle.mcs_base.specs.Listings.{IsAmong}
 use Rattle.mcs_trace.specs.Clauses.{IsLiteral, place}
-use Rattle.mcs_trace.proofs.OrderLemmas.{place-injective}
+use Rattle.mcs_trace.proofs.OrderLemmas.{place-injective, read_literal}
 use Rattle.mcs_engine.specs.declared.trail.Entry.{Entry}
 use Rattle.mcs_engine.specs.declared.watches.Pair.{Pair}
 use Rattle.mcs_engine.specs.Pairs.{no_pair}
 use Rattle.mcs_engine.specs.Trails.{GrowsOnLevel, IsOn}
 use Rattle.mcs_engine.specs.Watching.{AreMoved, ArePair, AreSpared, AreWatched, IsInList, IsOf, IsPairOf}
 use Rattle.mcs_engine.proofs.FindingLemmas.{value-or-free}
-use Rattle.mcs_engine.proofs.GrowLemmas.{clause_at, covered_at, grows-none, literal_of, on-pushed, read_literal, trail-push, trail-same, within_of}
+use Rattle.mcs_engine.proofs.GrowLemmas.{clause_at, covered_at, grows-none, literal_of, on-pushed, trail-push, trail-same, within_of}
 use Rattle.mcs_engine.proofs.KeptLemmas.{moved-list, moved-none, moved-then, spared-list, spared-then}
 use Rattle.mcs_engine.proofs.TrailLemmas.{on_below}
 use Rattle.mcs_engine.proofs.WatchLemmas.{IsWatching, gone-move, moved-move, no-pair, reached-list, reached-move, spared-move, watched-list, watched-move, watched_at, watching}

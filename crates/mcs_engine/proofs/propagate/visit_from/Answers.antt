@@ -1,11 +1,12 @@
 use Rattle.std.proofs.Common.{◌≡◌, ℕ, ℤ, List, ◌<◌, ◌≤◌, length, neg_ℤ, Option, None, MatchOption, sym, ap, ◌∙◌, subst, arith, w64, to_z, of_z}
 use Rattle.mcs_base.proofs.Booleans.{none_from_not_some}
 use Rattle.mcs_trace.specs.Clauses.{IsLiteral}
+use Rattle.mcs_trace.proofs.OrderLemmas.{read_literal}
 use Rattle.mcs_engine.specs.declared.state.Reach.{Reach}
 use Rattle.mcs_engine.specs.declared.trail.Entry.{Entry}
 use Rattle.mcs_engine.specs.Trails.{GrowsOnLevel, IsFalseAt, literal_at}
 use Rattle.mcs_engine.specs.Watching.{AreMoved, AreSpared, AreVisited, IsReached}
-use Rattle.mcs_engine.proofs.GrowLemmas.{entry-grown, grows-longer, grows-more, neg_literal, read_literal}
+use Rattle.mcs_engine.proofs.GrowLemmas.{entry-grown, grows-longer, grows-more, neg_literal}
 use Rattle.mcs_engine.proofs.KeptLemmas.{moved-then, spared-then}
 use Rattle.mcs_engine.proofs.TrailLemmas.{placed-most}
 use Rattle.mcs_engine.proofs.WatchLemmas.{reached-across, reached-grown, reached-next}

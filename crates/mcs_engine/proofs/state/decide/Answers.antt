@@ -1,6 +1,6 @@
-use Rattle.mcs_engine.proofs.GrowLemmas.{read_literal}
 use Rattle.mcs_engine.specs.Trails.{StandsNowhere}
 use Rattle.mcs_trace.specs.Clauses.{IsLiteral}
+use Rattle.mcs_trace.proofs.OrderLemmas.{read_literal}
 use Rattle.std.proofs.Common.{◌≡◌, ◌+◌, ◌-◌, ◌∷◌, ◌++◌, [], ℕ, List, refl, ap, ◌∙◌, arith, length, take, w64, to_z, of_z, ◌<◌, ℤ, sym, subst, unsigned_abs}
 use Rattle.std.proofs.Math.Seq.{take-append_seam}
 use Rattle.mcs_engine.proofs.StateLemmas.{state-same, state-decided}

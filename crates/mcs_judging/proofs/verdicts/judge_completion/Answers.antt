@@ -1,6 +1,7 @@
 use Rattle.std.proofs.Common.{◌≡◌, ◌∙◌, ◌↔◌, IsTrue, ℕ, List, true, map, length, refl, sym, ap, subst, arith}
 use Rattle.std.proofs.lemmas.List.Elements.{recursion_from_All}
 use Rattle.mcs_sets.specs.Sets.{members, minus, such_that}
+use Rattle.mcs_sets.proofs.Lattice.{all_places_are}
 use Rattle.mcs_system.specs.Plain.{Formula, Default}
 use Rattle.mcs_system.specs.Seen.{default_of, formula_of}
 use Rattle.mcs_evidence.specs.Defaults.{defaults_of, defaults_at, defaults_in, all_defaults, negated_justs, AreDenied}
@@ -8,7 +9,7 @@ use Rattle.mcs_extensions.specs.Checks.{AreAbsent}
 use Rattle.mcs_proof_lines.specs.Verdicts.{terms_of, all_places}
 use Rattle.mcs_asked.specs.Questions.{theory_names, theory_beliefs, theory_items}
 use Rattle.mcs_proof_lines.proofs.Justs.{counted}
-use Rattle.mcs_judging.proofs.Places.{as_many_justs, all_places_are}
+use Rattle.mcs_judging.proofs.Places.{as_many_justs}
 use Rattle.mcs_judging.proofs.Readings.{told_err}
 use Rattle.mcs_judging.proofs.VerdictLemmas.{completion_first, completion_second, completion_third, completion_read, completion_told}
 use Rattle.mcs_judging.proofs.verdicts.judge_completion.Goals as goal

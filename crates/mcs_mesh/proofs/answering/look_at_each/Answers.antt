@@ -2,8 +2,8 @@ use Rattle.std.proofs.Common.{◌≡◌, Some, length, slice_get, refl, subst, i
 use Rattle.std.proofs.lemmas.Bool.{cases_lt}
 use Rattle.std.proofs.lemmas.Option.{slice_get_read, slice_get_within}
 use Rattle.mcs_node.specs.Nodes.{IsNodeData, NodeData}
-use Rattle.mcs_mesh.proofs.NodeLemmas.{two_at}
 use Rattle.mcs_mesh.proofs.answering.look_at_each.Goals as goal
+use Rattle.mcs_base.proofs.Results.{some_same}
 
 pub loop-node-preserved : goal.loop-node-preserved
 loop-node-preserved g c = λ i d less at.
@@ -14,7 +14,7 @@ loop-node-preserved g c = λ i d less at.
       | inr no_less ↦
           let here : i ≡ k = omega (arith, less, no_less) in
           let read = slice_get_read nodes (length nodes) k c.node-item.result refl c.loop-node-test.true c.node-item.is in
-          subst (λ (z : NodeData). IsNodeData z) (two_at (slice_get nodes k) c.node-item.result d read (subst (λ n. slice_get nodes n ≡ Some d) here at)) c.known.ensures.node
+          subst (λ (z : NodeData). IsNodeData z) (some_same (slice_get nodes k) c.node-item.result d read (subst (λ n. slice_get nodes n ≡ Some d) here at)) c.known.ensures.node
     ]
 
 pub returns : goal.returns

@@ -6,8 +6,8 @@ use Rattle.mcs_node.specs.Letters.{LetterData}
 use Rattle.mcs_node.specs.Nodes.{HasTaken, IsAwaited, NodeData, with_had}
 use Rattle.mcs_mesh.specs.Players.{IsDelivered, IsExpected, IsTakenIn, as_new}
 use Rattle.mcs_mesh.proofs.TurnLemmas.{had_it, taken_same, want_of_memory}
-use Rattle.mcs_mesh.proofs.NodeLemmas.{image_kept}
 use Rattle.mcs_mesh.proofs.letters.deliver.Goals as goal
+use Rattle.mcs_base.proofs.Written.{image_kept}
 
 to_below : (l : LetterData) (nodes : List NodeData) (to : ℕ) → IsExpected l nodes → to ≡ l.to → to < length nodes
 to_below l nodes to x is = subst (λ n. n < length nodes) (sym is) (slice_get_within nodes l.to x.node x.is_its)

@@ -4,8 +4,8 @@ use Rattle.std.proofs.lemmas.Result.{err_from_is_err_and}
 use Rattle.mcs_node.specs.Nodes.{NodeData}
 use Rattle.mcs_mesh.specs.Players.{AreDelivered}
 use Rattle.mcs_mesh.proofs.LetterLemmas.{all_delivered, fewer_left, handed_same, handing_begun, handing_more, next_expected, sender_read, sender_there, some_delivered}
-use Rattle.mcs_mesh.proofs.NodeLemmas.{set_back}
 use Rattle.mcs_mesh.proofs.letters.deliver_all.Goals as goal
+use Rattle.mcs_base.proofs.Written.{set_back}
 
 pub loop-letter-init : goal.loop-letter-init
 loop-letter-init g c = record { handing = handing_begun c.args.i c.args.nodes.now c.requires; same = refl }

@@ -1,9 +1,10 @@
 use Rattle.std.proofs.Common.{◌∙◌, ap, sym, Some, get_or}
+use Rattle.std.proofs.lemmas.Option.{slice_get-get_or}
 use Rattle.mcs_base.proofs.Lists.{slice_get_past_as, slice_get_read_as}
+use Rattle.mcs_base.proofs.Written.{image_kept}
 use Rattle.mcs_node.specs.Letters.{LetterData}
 use Rattle.mcs_node.specs.Nodes.{NodeData}
 use Rattle.mcs_mesh.specs.Players.{as_new}
-use Rattle.mcs_mesh.proofs.NodeLemmas.{image_kept, read_at}
 use Rattle.mcs_mesh.proofs.ReplayLemmas.{all_received, none_receives, none_sent}
 use Rattle.mcs_mesh.proofs.replay.deliver.Goals as goal
 
@@ -23,10 +24,10 @@ returns-clause-goes g c =
     let same = c.in_ok-copy.ensures in
     all_received c.args.nodes.now c.args.n to c.in_ok-copy.copy d c.receive.new.node c.args.letters.now.items c.receive.new.letters.items c.receive.result
     (slice_get_read_as c.args.letters.now.items c.deref.result.now c.args.n c.in-Some.letter.now c.deref.ensures.value c.in-Some.ensures.lookup.3.0 c.in-Some.ensures.lookup.1 ∙ ap (λ (l : LetterData). Some l) (sym same))
-    (c.to-to.ensures ∙ ap (λ (l : LetterData). l.to) (sym same)) (read_at c.args.nodes.now to c.index-nodes-to.result c.if-to-nodes.false) c.receive.ensures.receives
+    (c.to-to.ensures ∙ ap (λ (l : LetterData). l.to) (sym same)) (slice_get-get_or c.args.nodes.now to c.index-nodes-to.result c.if-to-nodes.false) c.receive.ensures.receives
 
 pub returns-clause-same : goal.returns-clause-same
 returns-clause-same g c =
     let to = c.to-to.result in
     let d : NodeData = get_or c.args.nodes.now to c.index-nodes-to.result in
-    image_kept as_new c.args.nodes.now to d c.receive.new.node (read_at c.args.nodes.now to c.index-nodes-to.result c.if-to-nodes.false) c.receive.ensures.same
+    image_kept as_new c.args.nodes.now to d c.receive.new.node (slice_get-get_or c.args.nodes.now to c.index-nodes-to.result c.if-to-nodes.false) c.receive.ensures.same

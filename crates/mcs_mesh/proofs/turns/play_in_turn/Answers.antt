@@ -1,12 +1,13 @@
 use Rattle.std.proofs.Common.{◌≡◌, ◌∙◌, map, get_or, slice_get, slice_set, Some}
 use Rattle.std.proofs.lemmas.Result.{err_from_is_err_and}
+use Rattle.std.proofs.lemmas.Option.{slice_get-get_or}
 use Rattle.mcs_states.specs.declared.halt.Halt.TheVariants.{Memory}
 use Rattle.mcs_node.specs.Nodes.{NodeData}
 use Rattle.mcs_mesh.specs.Players.{as_new}
-use Rattle.mcs_mesh.proofs.NodeLemmas.{image_kept, read_at}
 use Rattle.mcs_mesh.proofs.LeavingLemmas.{delivery_sound, grant_sound, in_play_sound, some_begun_sound}
 use Rattle.mcs_mesh.proofs.PlayLemmas.{can_begin, grant_stopped, here_below, letters_expected, play_begun, play_ended, play_more, play_stopped, waits_for_grant}
 use Rattle.mcs_mesh.proofs.turns.play_in_turn.Goals as goal
+use Rattle.mcs_base.proofs.Written.{image_kept}
 
 -- ---- the begin
 pub begin_all-requires : goal.begin_all-requires
@@ -29,7 +30,7 @@ grant_need-requires-clause-waits g c =
     let s = c.loop-i.invariant budget ready in
     let low = here_below c.args.plan.now c.args.level budget c.args.asked c.args.nodes.now ready order c.order-i-items.ensures.order c.loop-i.i-index c.loop-i-test.true nodes c.loop-i.total s in
     waits_for_grant c.args.plan.now c.args.level budget c.args.asked c.args.nodes.now ready order c.order-i-items.ensures.order c.loop-i.i-index c.loop-i-test.true nodes c.loop-i.total s
-    (get_or nodes here c.index-nodes-i.result) (read_at nodes here c.index-nodes-i.result low)
+    (get_or nodes here c.index-nodes-i.result) (slice_get-get_or nodes here c.index-nodes-i.result low)
 
 pub returns-in_err-total-clause-played : goal.returns-in_err-total-clause-played
 returns-in_err-total-clause-played g c = λ budget ready.
@@ -38,7 +39,7 @@ returns-in_err-total-clause-played g c = λ budget ready.
     let here = get_or order c.loop-i.i-index 0 in
     let s = c.loop-i.invariant budget ready in
     let d : NodeData = get_or nodes here c.index-nodes-i.result in
-    let at : slice_get nodes here ≡ Some d = read_at nodes here c.index-nodes-i.result
+    let at : slice_get nodes here ≡ Some d = slice_get-get_or nodes here c.index-nodes-i.result
     (here_below c.args.plan.now c.args.level budget c.args.asked c.args.nodes.now ready order c.order-i-items.ensures.order c.loop-i.i-index c.loop-i-test.true nodes c.loop-i.total s) in
     let p = err_from_is_err_and c.from_residual-in_err-total.result c.from_residual-in_err-total.ensures.1 in
     rw (p.1, p.2)
@@ -53,7 +54,7 @@ returns-in_err-total-clause-left g c = λ budget ready.
     let here = get_or order c.loop-i.i-index 0 in
     let s = c.loop-i.invariant budget ready in
     let d : NodeData = get_or nodes here c.index-nodes-i.result in
-    let at : slice_get nodes here ≡ Some d = read_at nodes here c.index-nodes-i.result
+    let at : slice_get nodes here ≡ Some d = slice_get-get_or nodes here c.index-nodes-i.result
     (here_below c.args.plan.now c.args.level budget c.args.asked c.args.nodes.now ready order c.order-i-items.ensures.order c.loop-i.i-index c.loop-i-test.true nodes c.loop-i.total s) in
     grant_sound c.args.plan.now c.args.level budget c.args.asked c.args.nodes.now ready order c.order-i-items.ensures.order c.loop-i.i-index nodes c.loop-i.total s c.loop-i-test.true d at
     c.grant_need.new.node c.grant_need.ensures.same c.in_err-total.ensures.stopped (image_kept as_new nodes here d c.grant_need.new.node at c.grant_need.ensures.same ∙ s.same)
@@ -68,7 +69,7 @@ deliver_all-requires g c =
     let s = c.loop-i.invariant budget ready in
     let low = here_below c.args.plan.now c.args.level budget c.args.asked c.args.nodes.now ready order c.order-i-items.ensures.order c.loop-i.i-index c.loop-i-test.true nodes c.loop-i.total s in
     letters_expected c.args.plan.now c.args.level budget c.args.asked c.args.nodes.now ready order c.order-i-items.ensures.order c.loop-i.i-index c.loop-i-test.true nodes c.loop-i.total s
-    (get_or nodes here c.index-nodes-i.result) (read_at nodes here c.index-nodes-i.result low) c.in_ok-total.total c.grant_need.new.node c.in_ok-total.ensures.done c.grant_need.ensures.same
+    (get_or nodes here c.index-nodes-i.result) (slice_get-get_or nodes here c.index-nodes-i.result low) c.in_ok-total.total c.grant_need.new.node c.in_ok-total.ensures.done c.grant_need.ensures.same
 
 pub returns-in_err-deliver_all-clause-played : goal.returns-in_err-deliver_all-clause-played
 returns-in_err-deliver_all-clause-played g c = λ budget ready.
@@ -77,7 +78,7 @@ returns-in_err-deliver_all-clause-played g c = λ budget ready.
     let here = get_or order c.loop-i.i-index 0 in
     let s = c.loop-i.invariant budget ready in
     let d : NodeData = get_or nodes here c.index-nodes-i.result in
-    let at : slice_get nodes here ≡ Some d = read_at nodes here c.index-nodes-i.result
+    let at : slice_get nodes here ≡ Some d = slice_get-get_or nodes here c.index-nodes-i.result
     (here_below c.args.plan.now c.args.level budget c.args.asked c.args.nodes.now ready order c.order-i-items.ensures.order c.loop-i.i-index c.loop-i-test.true nodes c.loop-i.total s) in
     let p = err_from_is_err_and c.from_residual-in_err-deliver_all.result c.from_residual-in_err-deliver_all.ensures.1 in
     rw (p.1, p.2, c.in_err-deliver_all.ensures.cause)
@@ -91,7 +92,7 @@ returns-in_err-deliver_all-clause-left g c = λ budget ready.
     let here = get_or order c.loop-i.i-index 0 in
     let s = c.loop-i.invariant budget ready in
     let d : NodeData = get_or nodes here c.index-nodes-i.result in
-    let at : slice_get nodes here ≡ Some d = read_at nodes here c.index-nodes-i.result
+    let at : slice_get nodes here ≡ Some d = slice_get-get_or nodes here c.index-nodes-i.result
     (here_below c.args.plan.now c.args.level budget c.args.asked c.args.nodes.now ready order c.order-i-items.ensures.order c.loop-i.i-index c.loop-i-test.true nodes c.loop-i.total s) in
     let same : map as_new (slice_set nodes here c.grant_need.new.node) ≡ map as_new c.args.nodes.now = image_kept as_new nodes here d c.grant_need.new.node at c.grant_need.ensures.same ∙ s.same in
     delivery_sound c.args.plan.now c.args.level budget c.args.asked c.args.nodes.now ready order c.order-i-items.ensures.order c.loop-i.i-index nodes c.loop-i.total s c.loop-i-test.true d at
@@ -105,7 +106,7 @@ loop-i-preserved g c = λ budget ready.
     let s = c.loop-i.invariant budget ready in
     let low = here_below c.args.plan.now c.args.level budget c.args.asked c.args.nodes.now ready order c.order-i-items.ensures.order c.loop-i.i-index c.loop-i-test.true nodes c.loop-i.total s in
     play_more c.args.plan.now c.args.level budget c.args.asked c.args.nodes.now ready order c.order-i-items.ensures.order c.loop-i.i-index c.loop-i-test.true nodes c.loop-i.total s
-    (get_or nodes here c.index-nodes-i.result) (read_at nodes here c.index-nodes-i.result low) c.in_ok-total.total c.grant_need.new.node c.in_ok-total.ensures.done c.grant_need.ensures.same
+    (get_or nodes here c.index-nodes-i.result) (slice_get-get_or nodes here c.index-nodes-i.result low) c.in_ok-total.total c.grant_need.new.node c.in_ok-total.ensures.done c.grant_need.ensures.same
     c.deliver_all.new.nodes c.in_ok-deliver_all.ensures.delivered c.deliver_all.ensures.same
 
 -- ---- the end

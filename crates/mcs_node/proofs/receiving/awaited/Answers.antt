@@ -1,9 +1,10 @@
 use Rattle.std.proofs.Common.{ℕ, subst, sym}
 use Rattle.mcs_base.specs.Listings.{IsAmong}
+use Rattle.mcs_base.proofs.Results.{none_weaker}
 use Rattle.mcs_system.specs.Plain.{System}
 use Rattle.mcs_import.proofs.OrderLemmas.{import_order_exists}
 use Rattle.mcs_node.specs.Rounds.{Supplies}
-use Rattle.mcs_node.proofs.HandlingLemmas.{in_order, none_weaker}
+use Rattle.mcs_node.proofs.HandlingLemmas.{in_order}
 use Rattle.mcs_node.proofs.receiving.awaited.Goals as goal
 
 pub returns-clause-none : goal.returns-clause-none

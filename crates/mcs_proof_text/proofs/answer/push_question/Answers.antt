@@ -1,10 +1,10 @@
 use Rattle.std.proofs.Common.{◌∙◌, slice_get, codes}
 use Rattle.std.proofs.lemmas.Result.{on_ok_weaker}
 use Rattle.mcs_base.proofs.SetParts.{members_below_all}
+use Rattle.mcs_base.proofs.Written.{line_of_five}
 use Rattle.mcs_system.specs.Texts.{name_of_context}
 use Rattle.mcs_report.specs.Members.{rules_text}
 use Rattle.mcs_proof_text.specs.Lines.{question_text}
-use Rattle.mcs_proof_text.proofs.LineLemmas.{line_of_five}
 use Rattle.mcs_proof_text.proofs.answer.push_question.Goals as goal
 
 pub push_set-requires : goal.push_set-requires

@@ -2,8 +2,8 @@ use Rattle.std.proofs.Common.{◌∙◌, codes}
 use Rattle.std.proofs.lemmas.Result.{on_ok_weaker}
 use Rattle.mcs_spelling.specs.Parts.{defaults_text}
 use Rattle.mcs_proof_text.specs.Lines.{line_text}
-use Rattle.mcs_proof_text.proofs.LineLemmas.{line_of_three}
 use Rattle.mcs_proof_text.proofs.defaults.push_ungrounded.Goals as goal
+use Rattle.mcs_base.proofs.Written.{line_of_three}
 
 pub returns : goal.returns
 unfolding line_text

@@ -1,8 +1,8 @@
 use Rattle.std.proofs.Common.{◌∙◌, decimal, codes}
 use Rattle.std.proofs.lemmas.Result.{on_ok_weaker}
 use Rattle.mcs_proof_text.specs.Lines.{line_text}
-use Rattle.mcs_proof_text.proofs.LineLemmas.{line_of_three}
 use Rattle.mcs_proof_text.proofs.defaults.push_unsupported.Goals as goal
+use Rattle.mcs_base.proofs.Written.{line_of_three}
 
 pub returns : goal.returns
 unfolding line_text

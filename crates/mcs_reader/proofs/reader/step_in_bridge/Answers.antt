@@ -1,16 +1,11 @@
-use Rattle.std.proofs.Common.{◌≡◌, Result, Ok, IfOk, refl, sym, subst}
-use Rattle.mcs_base.specs.declared.memory.Memory.{Memory}
-use Rattle.mcs_grammar.specs.Entries.{Token}
-use Rattle.mcs_reader.specs.TextSteps.{Place, PartText, step_at}
-use Rattle.mcs_reader.specs.TextImages.{IsAt, IsOfBridge, IsReaderStep, subject_at}
+use Rattle.std.proofs.Common.{◌≡◌, Ok, refl, subst}
+use Rattle.mcs_reader.specs.TextSteps.{Place}
+use Rattle.mcs_reader.specs.TextImages.{IsAt, IsOfBridge}
 use Rattle.mcs_reader.specs.declared.place.Place as code_place
 use Rattle.mcs_reader.specs.declared.place.Place.TheVariants as places
 use Rattle.mcs_reader.specs.declared.place.Step as code_step
 use Rattle.mcs_reader.proofs.reader.step_in_bridge.Goals as goal
-
--- the step at the place q is the one at an equal place
-at-place : (r : Result code_step.Step Memory) (s : PartText) (t : Token) (p q : Place) → q ≡ p → IfOk r (λ step. IsReaderStep step (subject_at p) s t (step_at s t p)) → IfOk r (λ step. IsReaderStep step (subject_at q) s t (step_at s t q))
-at-place r s t p q e h = subst (λ (x : Place). IfOk r (λ step. IsReaderStep step (subject_at x) s t (step_at s t x))) (sym e) h
+use Rattle.mcs_reader.proofs.StepLemmas.{at-place}
 
 -- the arms are those of all places of a bridge rule
 pub unreachable-requires : goal.unreachable-requires

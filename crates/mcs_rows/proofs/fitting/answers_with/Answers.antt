@@ -1,8 +1,9 @@
 use Rattle.std.proofs.Common.{refl}
 use Rattle.mcs_rows.specs.Fitting.{HasProjectedParts}
 use Rattle.mcs_rows.specs.declared.answer.Answer.{Answer}
-use Rattle.mcs_rows.proofs.FittingLemmas.{zip_more, projected_as}
+use Rattle.mcs_rows.proofs.FittingLemmas.{projected_as}
 use Rattle.mcs_rows.proofs.fitting.answers_with.Goals as goal
+use Rattle.mcs_base.proofs.Zipped.{zip_more}
 
 pub loop-answer-preserved : goal.loop-answer-preserved
 loop-answer-preserved c =

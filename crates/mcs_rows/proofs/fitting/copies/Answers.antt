@@ -1,8 +1,8 @@
 use Rattle.std.proofs.Common.{◌∙◌, refl}
 use Rattle.mcs_rows.specs.Fitting.{HasSameParts}
 use Rattle.mcs_rows.specs.declared.answer.Answer.{Answer}
-use Rattle.mcs_rows.proofs.FittingLemmas.{zip_more}
 use Rattle.mcs_rows.proofs.fitting.copies.Goals as goal
+use Rattle.mcs_base.proofs.Zipped.{zip_more}
 
 pub loop-answer-preserved : goal.loop-answer-preserved
 loop-answer-preserved c =

@@ -1,6 +1,6 @@
 use Rattle.mcs_system.specs.Seen.{formula_of}
 use Rattle.mcs_cnf.proofs.ListLemmas.{room_kept}
-use Rattle.mcs_solver.proofs.ViewLemmas.{over_at, pushed_none, pushed_more}
+use Rattle.mcs_cnf.proofs.AddingLemmas.{over_at, pushed_more, pushed_none}
 use Rattle.mcs_solver.proofs.views.keep_formulas.Goals as goal
 
 pub loop-formula-init : goal.loop-formula-init

@@ -4,7 +4,8 @@ use Rattle.mcs_spelling.specs.Words.{step_of}
 use Rattle.mcs_proof_lines.specs.Walks.{line_at, trace_at}
 use Rattle.mcs_steps.specs.Judging.{IsJudged}
 use Rattle.mcs_base.proofs.Booleans.{none_from_not_some}
-use Rattle.mcs_steps.proofs.TraceLemmas.{some_of, no_trace, trace_told}
+use Rattle.mcs_base.proofs.Results.{some_of}
+use Rattle.mcs_steps.proofs.TraceLemmas.{no_trace, trace_told}
 use Rattle.mcs_steps.proofs.trace.judge_trace.Goals as goal
 
 pub returns-then-not-is_step_next : goal.returns-then-not-is_step_next

@@ -3,7 +3,8 @@ use Rattle.mcs_spelling.specs.Words.{step_of}
 use Rattle.mcs_proof_lines.specs.Walks.{At, line_at}
 use Rattle.mcs_proof_lines.proofs.WalkLemmas.{fewer_lines}
 use Rattle.mcs_base.proofs.Booleans.{none_from_not_some}
-use Rattle.mcs_steps.proofs.TraceLemmas.{some_of, no_trace, passed_first, passed_more, trace_passed}
+use Rattle.mcs_base.proofs.Results.{some_of}
+use Rattle.mcs_steps.proofs.TraceLemmas.{no_trace, passed_first, passed_more, trace_passed}
 use Rattle.mcs_steps.proofs.trace.pass_trace.Goals as goal
 
 pub returns-then-not-is_step_next : goal.returns-then-not-is_step_next

@@ -4,8 +4,9 @@ use Rattle.std.specs.Option.{option_and_then}
 use Rattle.mcs_spelling.specs.Words.{after_prefix, literals_of_bytes}
 use Rattle.mcs_spelling.proofs.LiteralTexts.{after_is}
 use Rattle.mcs_steps.specs.Words.{with_front}
-use Rattle.mcs_steps.proofs.WordLemmas.{first_literal_is, first_literal_cut, literal_kept}
+use Rattle.mcs_steps.proofs.WordLemmas.{first_literal_is, first_literal_cut}
 use Rattle.mcs_steps.proofs.words.first_literal.Goals as goal
+use Rattle.mcs_trace.proofs.OrderLemmas.{read_literal}
 
 -- what follows the word
 after_word : (bytes : List ℕ) (end : ℕ) (o : Option (List ℕ)) → o ≡ after_prefix (codes " ") (take (length bytes - end) (drop end bytes)) → after_prefix (codes " ") (drop end bytes) ≡ o
@@ -35,7 +36,7 @@ returns-clause-read c =
     let end = c.word_end-end.result in
     let rest = c.in_ok-rest.rest.now in
     first_literal_is bytes rest end c.word_end-end.ensures (after_word bytes end (Some rest) c.in_ok-rest.ensures) ∙ ap (option_and_then (λ l. with_front l (literals_of_bytes rest))) (sym c.in_ok-literal.ensures.value)
-    ∙ ap (λ (l : ℤ). with_front l (literals_of_bytes rest)) (sym (literal_kept c.in_ok-literal.literal c.in_ok-literal.ensures.literal))
+    ∙ ap (λ (l : ℤ). with_front l (literals_of_bytes rest)) (sym (read_literal c.in_ok-literal.literal c.in_ok-literal.ensures.literal))
 
 pub returns-clause-less : goal.returns-clause-less
 returns-clause-less c =

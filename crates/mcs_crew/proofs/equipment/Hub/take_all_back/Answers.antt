@@ -6,8 +6,9 @@ use Rattle.std.proofs.lemmas.Option.{slice_get_read}
 use Rattle.mcs_crew.specs.Calls.{without_nodes}
 use Rattle.mcs_crew.specs.Hubs.{HaveComeBack}
 use Rattle.mcs_crew.specs.declared.load.Load.{Load}
-use Rattle.mcs_crew.proofs.HubLemmas.{come_back_more, joinable, next_image, next_word}
+use Rattle.mcs_crew.proofs.HubLemmas.{come_back_more, joinable, next_word}
 use Rattle.mcs_crew.proofs.equipment.Hub.take_all_back.Goals as goal
+use Rattle.mcs_base.proofs.Mapped.{next_image}
 
 pub take_back-requires-clause-addresses : goal.take_back-requires-clause-addresses
 take_back-requires-clause-addresses g c =

@@ -1,8 +1,8 @@
 use Rattle.std.proofs.Common.{◌∙◌, ◌++◌, ◌∷◌, [], List, ℤ, Option, IfSome, ap, sym, subst}
 use Rattle.mcs_trace.specs.Clauses.{IsLiteral}
+use Rattle.mcs_trace.proofs.OrderLemmas.{read_literal}
 use Rattle.mcs_engine.specs.declared.watches.Pair.{Pair}
 use Rattle.mcs_engine.specs.Watching.{IsInList, IsPushed}
-use Rattle.mcs_engine.proofs.GrowLemmas.{read_literal}
 use Rattle.mcs_engine.proofs.watches.Watches.push.Goals as goal
 
 pub returns-in_err-list-in-Some-2-clause-kept : goal.returns-in_err-list-in-Some-2-clause-kept

@@ -1,7 +1,7 @@
 -- Lists as bags: one that weighs the same as an inventory, whatever each value weighs, is an inventory; and the lists of the members of a group, one after the other.
 use Rattle.std.proofs.Common.{◌≡◌, ℕ, suc, ◌+◌, ◌<◌, ◌≤◌, ◌%◌, nat_eq, Bool, true, false, true≢false, cond, List, [], ◌∷◌, ◌++◌, length, Some, slice_get, refl, sym, ap, ◌∙◌, subst, inl, inr, ◌⊎◌, ◌↔◌, arith}
 use Rattle.std.proofs.lemmas.Bool.{cases_eq}
-use Rattle.std.proofs.lemmas.List.Sums.{sum_by-append, sum_by-cons}
+use Rattle.std.proofs.lemmas.List.Sums.{sum_by-cons}
 use Rattle.std.specs.List.{flat_map, sum_by}
 use Rattle.mcs_base.specs.Groups.{members}
 use Rattle.mcs_base.specs.Listings.{AreApart, IsAmong, IsInventory}
@@ -89,11 +89,6 @@ inventory_one P a (x ∷ y ∷ xs) has only listed =
 pub inventory_none : {A : Type 0} (P : A → Type 0) (xs : List A) → ((x : A) → ¬ P x) → IsInventory P xs → xs ≡ []
 inventory_none P [] never listed = refl
 inventory_none P (x ∷ xs) never listed = absurd (never x ((listed.exactly x).0 (inl refl)))
-
--- ---- lists one after the other
-pub sum_by-flat_map : {N A : Type 0} (weight : A → ℕ) (f : N → List A) (ds : List N) → sum_by weight (flat_map f ds) ≡ sum_by (λ (d : N). sum_by weight (f d)) ds
-sum_by-flat_map weight f [] = refl
-sum_by-flat_map {N} weight f (d ∷ ds) = omega (arith, sum_by-append weight (f d) (flat_map f ds), sum_by-cons (λ (e : N). sum_by weight (f e)) d ds, sum_by-flat_map weight f ds)
 
 -- ---- the members of a group, where the list of the i-th is an inventory of what is Q at i, and tells i
 module _ {N A : Type 0} (f : N → List A) (Q : ℕ → A → Type 0) (of : A → ℕ) (named : (i : ℕ) (x : A) → Q i x → of x ≡ i) (groups g : ℕ) where
