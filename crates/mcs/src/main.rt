@@ -6,7 +6,8 @@ use mcs_top::run_program;
 use std::env;
 use std::process::ExitCode;
 
-/// Runs the program on the words and devices of the operating system, and ends with the number of its status.
+/// Runs the program on the words and devices of the operating system, and ends with the number of
+/// its status.
 fn main(rt: HostRuntime) -> ExitCode {
     let mut shelf = FileShelf::new(&rt);
     let mut sink = StdSink::new(rt.stdout(), rt.stderr());

@@ -1,6 +1,7 @@
 //! Certificates of programs.
 
-ghost use Rattle.std.specs.Prelude.{◌≡◌, ℕ, ◌≤◌, ◌++◌, ◌↔◌, List, length, map, IsTrue, IfOk, MatchOption};
+ghost use Rattle.std.specs.Prelude.{◌≡◌, ℕ, ◌≤◌, ◌++◌, ◌↔◌, List, length, map, IsTrue, IfOk};
+ghost use Rattle.std.specs.Prelude.{MatchOption};
 ghost use Rattle.std.specs.List.{AllByRecursion, filter_map, list_all, list_any};
 ghost use Rattle.mcs_sets.specs.Orders.{StateBefore};
 ghost use Rattle.mcs_base.specs.Listings.{IsAscending};
@@ -10,7 +11,9 @@ ghost use Rattle.mcs_system.specs.Seen.{formula_of, rule_of};
 ghost use Rattle.mcs_system.specs.Views.{Shows};
 ghost use Rattle.mcs_trace.specs.Traces.{inferences_of};
 ghost use Rattle.mcs_cnf.specs.ClauseLists.{AreOver};
-ghost use Rattle.mcs_evidence.specs.Programs.{rule_formula, rest_formulas, model_shown_of, program_shown_of, AreOverRules, IsInRange, IsModelShown, IsRefutation, IsAcceptedProgram};
+ghost use Rattle.mcs_evidence.specs.Programs.{rule_formula, rest_formulas, model_shown_of};
+ghost use Rattle.mcs_evidence.specs.Programs.{program_shown_of, AreOverRules, IsInRange};
+ghost use Rattle.mcs_evidence.specs.Programs.{IsModelShown, IsRefutation, IsAcceptedProgram};
 ghost use Rattle.mcs_asked.specs.Questions.{asked_beliefs, program_rules, program_beliefs};
 ghost use Rattle.mcs_answer_sets.specs.Models.{AreModelsShown};
 
@@ -65,17 +68,20 @@ fn rule_holds(atoms: &[Name], places: Vars, rule: &ProgRule) -> bool
     some_true(atoms, places, &rule.head)
 }
 
-/// Whether each of the rules holds if exactly the atoms at these places are true. There are at most 64 atoms.
+/// Whether each of the rules holds if exactly the atoms at these places are true. There are at most
+/// 64 atoms.
 pub fn rules_hold(atoms: &[Name], places: Vars, rules: &[ProgRule]) -> bool
     requires few { length atoms.now ≤ 64 }
-    ensures { result ≡ holds_all (true_names 0 atoms.now places) (map rule_formula (map rule_of rules.now)) }
+    ensures { result
+        ≡ holds_all (true_names 0 atoms.now places) (map rule_formula (map rule_of rules.now)) }
 {
     rules.iter().all(|rule| rule_holds(atoms, places, rule))
 }
 
 /// The indices of the beliefs that are true if exactly the atoms at these places are.
 pub fn view_of(program: &AskedProgram<'_>, places: Vars) -> Vars
-    ensures { Shows (Atoms (true_names 0 program.now.atoms.now places)) (program_beliefs program.now) result }
+    ensures { Shows (Atoms (true_names 0 program.now.atoms.now places))
+        (program_beliefs program.now) result }
 {
     let beliefs = program.beliefs;
     let mut view = Vars::empty();
@@ -93,7 +99,8 @@ fn is_model_shown(
     program: &AskedProgram<'_>,
     shown: &AnswerSetCert,
 ) -> Result<bool, Memory>
-    ensures { IfOk result (λ yes. IsTrue yes ↔ IsModelShown program.now.atoms.now (program_rules program.now) (model_shown_of shown.now)) }
+    ensures { IfOk result (λ yes. IsTrue yes ↔ IsModelShown program.now.atoms.now
+        (program_rules program.now) (model_shown_of shown.now)) }
 {
     let model = Vars::numbered(shown.model);
     if !is_in_range(program.atoms, shown.model) {
@@ -113,8 +120,10 @@ fn model_views(
     models: &[AnswerSetCert],
 ) -> Result<Option<Vec<Vars>>, Memory>
     ensures { IfOk result (λ shown. MatchOption shown
-        ((views : List ℕ) → ¬ AreModelsShown program.now.atoms.now (program_rules program.now) (program_beliefs program.now) views (map model_shown_of models.now))
-        (λ views. AreModelsShown program.now.atoms.now (program_rules program.now) (program_beliefs program.now) views.items (map model_shown_of models.now))) }
+        ((views : List ℕ) → ¬ AreModelsShown program.now.atoms.now (program_rules program.now)
+        (program_beliefs program.now) views (map model_shown_of models.now))
+        (λ views. AreModelsShown program.now.atoms.now (program_rules program.now)
+        (program_beliefs program.now) views.items (map model_shown_of models.now))) }
 {
     let mut views = Vec::new(alloc);
     for shown in models {
@@ -155,7 +164,8 @@ fn sets_of(alloc: Global, atoms: &[Name], numbers: &[u64]) -> Result<Option<Vec<
     Ok(Some(sets))
 }
 
-/// Whether the trace shows that no model is left: each has one of these views, or one of the smaller sets undoes it.
+/// Whether the trace shows that no model is left: each has one of these views, or one of the
+/// smaller sets undoes it.
 fn is_rest_refuted(
     alloc: Global,
     program: &AskedProgram<'_>,
@@ -164,7 +174,9 @@ fn is_rest_refuted(
     trace: &Trace,
 ) -> Result<bool, Memory>
     ensures { IfOk result (λ yes. IsTrue yes
-        ↔ IsRefutation program.now.atoms.now (rest_formulas program.now.atoms.now (program_rules program.now) (program_beliefs program.now) smaller.now views.now) (inferences_of trace.now)) }
+        ↔ IsRefutation program.now.atoms.now (rest_formulas program.now.atoms.now
+        (program_rules program.now) (program_beliefs program.now) smaller.now views.now)
+        (inferences_of trace.now)) }
 {
     let rest = rest_clauses(
         alloc,
@@ -184,8 +196,10 @@ fn views_of_rules(
     cert: &ProgramCert,
 ) -> Result<Option<Vec<Vars>>, Memory>
     ensures { IfOk result (λ shown. MatchOption shown
-        ((views : List ℕ) → ¬ IsAcceptedProgram program.now.atoms.now (program_rules program.now) (program_beliefs program.now) views (program_shown_of cert.now))
-        (λ views. IsAcceptedProgram program.now.atoms.now (program_rules program.now) (program_beliefs program.now) views.items (program_shown_of cert.now))) }
+        ((views : List ℕ) → ¬ IsAcceptedProgram program.now.atoms.now (program_rules program.now)
+        (program_beliefs program.now) views (program_shown_of cert.now))
+        (λ views. IsAcceptedProgram program.now.atoms.now (program_rules program.now)
+        (program_beliefs program.now) views.items (program_shown_of cert.now))) }
 {
     let sets = sets_of(alloc, program.atoms, &cert.smaller)?;
     let Some(smaller) = sets else {
@@ -205,8 +219,8 @@ fn views_of_rules(
     Ok(Some(views))
 }
 
-/// The views that the certificate shows for the program with the heads, if it is accepted. The beliefs have to be
-/// atoms. A head that is not an atom adds no fact.
+/// The views that the certificate shows for the program with the heads, if it is accepted. The
+/// beliefs have to be atoms. A head that is not an atom adds no fact.
 pub fn program_views(
     alloc: Global,
     rules: &[ProgRule],
@@ -216,10 +230,15 @@ pub fn program_views(
 ) -> Result<Option<Vec<Vars>>, Memory>
     requires rules { AreOverRules asked.now.atoms.now (map rule_of rules.now) }
     requires heads { AreOver asked.now.atoms.now (map (λ f. formula_of f.now) heads.now) }
-    requires belief_atoms { AllByRecursion (λ f. IsTrue (is_atom (formula_of f.now))) asked.now.beliefs.now }
+    requires belief_atoms { AllByRecursion (λ f. IsTrue (is_atom (formula_of f.now)))
+        asked.now.beliefs.now }
     ensures { IfOk result (λ shown. MatchOption shown
-        ((views : List ℕ) → ¬ IsAcceptedProgram asked.now.atoms.now (map rule_of rules.now ++ filter_map fact_of (map (λ f. formula_of f.now) heads.now)) (asked_beliefs asked.now) views (program_shown_of cert.now))
-        (λ views. IsAcceptedProgram asked.now.atoms.now (map rule_of rules.now ++ filter_map fact_of (map (λ f. formula_of f.now) heads.now)) (asked_beliefs asked.now) views.items (program_shown_of cert.now))) }
+        ((views : List ℕ) → ¬ IsAcceptedProgram asked.now.atoms.now
+        (map rule_of rules.now ++ filter_map fact_of (map (λ f. formula_of f.now) heads.now))
+        (asked_beliefs asked.now) views (program_shown_of cert.now))
+        (λ views. IsAcceptedProgram asked.now.atoms.now
+        (map rule_of rules.now ++ filter_map fact_of (map (λ f. formula_of f.now) heads.now))
+        (asked_beliefs asked.now) views.items (program_shown_of cert.now))) }
 {
     let names = names_of(alloc, asked.beliefs)?;
     let all = with_heads(alloc, rules, heads)?;

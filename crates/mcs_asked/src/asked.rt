@@ -14,5 +14,6 @@ pub struct Asked<'a> {
     pub beliefs: &'a [&'a Formula],
     pub ghost few: { length atoms.now ≤ 64 },
     pub ghost few_beliefs: { length beliefs.now ≤ 64 },
-    pub ghost over: { AreOver atoms.now (map (λ b. formula_of b.now) beliefs.now) } by { AreOver-prop atoms.now (map (λ b. formula_of b.now) beliefs.now) },
+    pub ghost over: { AreOver atoms.now (map (λ b. formula_of b.now)
+        beliefs.now) } by { AreOver-prop atoms.now (map (λ b. formula_of b.now) beliefs.now) },
 }

@@ -1,4 +1,5 @@
-//! What a context is asked with: the heads of rules into it, and the beliefs that are its variables.
+//! What a context is asked with: the heads of rules into it, and the beliefs that are its
+//! variables.
 
 ghost use Rattle.std.specs.Prelude.{◌≡◌, ◌<◌, length, map, IfOk};
 ghost use Rattle.mcs_system.specs.Seen.{formula_of};
@@ -16,7 +17,8 @@ pub fn heads_into(
     context: u32,
     rules: Active,
 ) -> Result<Vec<&Formula>, Memory>
-    ensures { IfOk result (λ heads. map (λ f. formula_of f.now) heads.items ≡ heads_into system.now context rules) }
+    ensures { IfOk result (λ heads. map (λ f. formula_of f.now) heads.items
+        ≡ heads_into system.now context rules) }
 {
     let mut heads = Vec::new(alloc);
     for (k, rule) in system.bridges().iter().enumerate() {
@@ -30,7 +32,8 @@ pub fn heads_into(
 /// The beliefs of the variables of a context of the system, ascending.
 pub fn beliefs_of(alloc: Global, system: &System, context: u32) -> Result<Vec<&Formula>, Memory>
     requires { context < length system.now.contexts }
-    ensures { IfOk result (λ beliefs. map (λ f. formula_of f.now) beliefs.items ≡ beliefs_at system.now (variables_of system.now context)) }
+    ensures { IfOk result (λ beliefs. map (λ f. formula_of f.now) beliefs.items
+        ≡ beliefs_at system.now (variables_of system.now context)) }
 {
     let reads = system.variables();
     let mut beliefs = Vec::new(alloc);

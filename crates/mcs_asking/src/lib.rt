@@ -1,4 +1,5 @@
-//! What a context is asked with, its heads and beliefs, and when a certificate of its answer is accepted.
+//! What a context is asked with, its heads and beliefs, and when a certificate of its answer is
+//! accepted.
 #![tactic(auto)]
 
 mod asking;

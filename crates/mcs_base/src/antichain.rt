@@ -1,6 +1,7 @@
 //! Antichains: lists of sets of which none lies within another.
 
-ghost use Rattle.std.specs.Prelude.{◌≡◌, ◌≤◌, ◌<◌, ◌+◌, ◌++◌, [], ◌∷◌, ◌↔◌, IsTrue, OnOk, OnErr, IfOk};
+ghost use Rattle.std.specs.Prelude.{◌≡◌, ◌≤◌, ◌<◌, ◌+◌, ◌++◌, [], ◌∷◌, ◌↔◌, IsTrue, OnOk, OnErr};
+ghost use Rattle.std.specs.Prelude.{IfOk};
 ghost use Rattle.std.specs.Bool.{MatchBool};
 ghost use Rattle.mcs_base.specs.Antichains.{IsAntichain, HasOneWithin, not_containing};
 
@@ -9,8 +10,8 @@ use crate::memory::Memory;
 use std::alloc::Global;
 use std::marker::Model;
 
-/// The minimal ones of the sets that were inserted, each once. The model is the list of them, and the number of sets
-/// for which there is room without more memory.
+/// The minimal ones of the sets that were inserted, each once. The model is the list of them, and
+/// the number of sets for which there is room without more memory.
 #[derive(Debug, Drop)]
 pub struct Antichain {
     sets: Vec<Marks>,
@@ -49,7 +50,8 @@ impl Antichain {
         }
     }
 
-    /// Makes room for at least `n` more members. If there is no memory for them, everything is as before.
+    /// Makes room for at least `n` more members. If there is no memory for them, everything is as
+    /// before.
     pub fn reserve(&mut self, n: usize) -> Result<(), Memory>
         ensures members { self.new.members ≡ self.old.members }
         ensures ok { OnOk result (n ≤ self.new.spare) }
@@ -60,12 +62,13 @@ impl Antichain {
         Ok(())
     }
 
-    /// Appends the set, and removes the members that contain it; the others stay in their order. Returns false exactly
-    /// if a member lies within the set; then nothing changes. Memory is allocated only if there is no room to spare. If
-    /// it is refused, everything is as before.
+    /// Appends the set, and removes the members that contain it; the others stay in their order.
+    /// Returns false exactly if a member lies within the set; then nothing changes. Memory is
+    /// allocated only if there is no room to spare. If it is refused, everything is as before.
     pub fn insert_min(&mut self, m: Marks) -> Result<bool, Memory>
         ensures answer { IfOk result (λ added. MatchBool added
-            ((¬ HasOneWithin self.old.members m) × (self.new.members ≡ not_containing m self.old.members ++ m ∷ []))
+            ((¬ HasOneWithin self.old.members m)
+            × (self.new.members ≡ not_containing m self.old.members ++ m ∷ []))
             (HasOneWithin self.old.members m × (self.new ≡ self.old))) }
         ensures spare { self.old.spare ≤ self.new.spare + 1 }
         ensures err { OnErr result ((self.new ≡ self.old) × (self.old.spare ≡ 0)) }

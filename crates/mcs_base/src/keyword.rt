@@ -68,7 +68,8 @@ impl Keyword {
 
     /// The reserved word with these bytes.
     pub fn of(word: &[u8]) -> Option<Keyword>
-        ensures { MatchOption result ((k : Keyword) → ¬ (word.now ≡ keyword_bytes k)) (λ k. word.now ≡ keyword_bytes k) }
+        ensures { MatchOption result ((k : Keyword) → ¬ (word.now ≡ keyword_bytes k))
+            (λ k. word.now ≡ keyword_bytes k) }
     {
         for keyword in KEYWORDS {
             if word == keyword.spelling() {

@@ -29,8 +29,8 @@ pub type Active = Set<Rule>;
 pub type Marks = Set<Mark>;
 
 impl Set<Variable> {
-    /// The set with this number: it has `k` if bit `k` of the number is set. So the sets of numbers below `n` are the
-    /// first `2^n`.
+    /// The set with this number: it has `k` if bit `k` of the number is set. So the sets of numbers
+    /// below `n` are the first `2^n`.
     pub fn numbered(number: u64) -> Self
         ensures { result ≡ number }
     {
@@ -46,8 +46,8 @@ impl Set<Variable> {
 }
 
 impl Set<Rule> {
-    /// The set with this number: it has `k` if bit `k` of the number is set. So the sets of numbers below `n` are the
-    /// first `2^n`.
+    /// The set with this number: it has `k` if bit `k` of the number is set. So the sets of numbers
+    /// below `n` are the first `2^n`.
     pub fn numbered(number: u64) -> Self
         ensures { result ≡ number }
     {
@@ -140,16 +140,16 @@ fn compare_pairs(a: SmallSet, b: SmallSet) -> Ordering
     }
 }
 
-/// Whether `a` comes before `b` in the order of states. Of two different states, the one that has the least variable in
-/// which they differ comes first.
+/// Whether `a` comes before `b` in the order of states. Of two different states, the one that has
+/// the least variable in which they differ comes first.
 pub fn state_before(a: Vars, b: Vars) -> bool
     ensures { IsTrue result ↔ StateBefore a b }
 {
     mcs_sets::state_before(a.set, b.set)
 }
 
-/// Whether `a` comes before `b` in the order of pairs. The one with fewer marks comes first; with equally many, the one
-/// whose ascending list of marks is lexicographically less.
+/// Whether `a` comes before `b` in the order of pairs. The one with fewer marks comes first; with
+/// equally many, the one whose ascending list of marks is lexicographically less.
 pub fn pair_before(a: Marks, b: Marks) -> bool
     ensures { IsTrue result ↔ PairBefore a b }
 {

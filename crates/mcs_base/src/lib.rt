@@ -1,5 +1,5 @@
-//! The base of the other crates: small sets of variables, rules and marks, the orders in which they are listed, and
-//! what a listing is.
+//! The base of the other crates: small sets of variables, rules and marks, the orders in which they
+//! are listed, and what a listing is.
 #![tactic(auto, using(mcs_sets::proofs::SetLemmas::sets_fit))]
 
 mod antichain;

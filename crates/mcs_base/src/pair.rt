@@ -7,8 +7,9 @@ ghost use Rattle.mcs_base.specs.Pairs.{removed_of, forced_of};
 use crate::kinds::{Active, Marks};
 use std::marker::Model;
 
-/// A pair of sets of bridge rules, each numbered below 64: the rules that are removed, and those that are forced. Mark
-/// 2r says that rule r is removed, and mark 2r+1 that it is forced. The model is the set of these marks.
+/// A pair of sets of bridge rules, each numbered below 64: the rules that are removed, and those
+/// that are forced. Mark 2r says that rule r is removed, and mark 2r+1 that it is forced. The model
+/// is the set of these marks.
 #[derive(Clone, Copy, Debug, PartialEq, Eq)]
 pub struct Pair {
     marks: Marks,

@@ -7,7 +7,8 @@ ghost use Rattle.mcs_base.specs.Partials.{IsPartial, Fits, united, restricted};
 use crate::kinds::Vars;
 use std::marker::Model;
 
-/// A value for each variable of a mask: those in `values` are true, the others in the mask are false.
+/// A value for each variable of a mask: those in `values` are true, the others in the mask are
+/// false.
 #[derive(Clone, Copy, Debug, PartialEq, Eq)]
 pub struct Partial {
     mask: Vars,
@@ -27,8 +28,8 @@ impl Model for Partial {
 }
 
 impl Partial {
-    /// The partial state of the variables in the mask in which exactly those in `values` are true. All of `values` have
-    /// to be in the mask.
+    /// The partial state of the variables in the mask in which exactly those in `values` are true.
+    /// All of `values` have to be in the mask.
     pub fn new(mask: Vars, values: Vars) -> Self
         requires { Within values mask }
         ensures { result ≡ record { mask = mask; values = values } }

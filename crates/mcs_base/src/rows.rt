@@ -1,13 +1,14 @@
 //! Rows that lie one after the other in one store.
 
-ghost use Rattle.std.specs.Prelude.{◌≡◌, List, [], ◌∷◌, ◌++◌, ◌<◌, ◌≤◌, take, length, slice_get, Some, OnOk, OnErr, get_or};
+ghost use Rattle.std.specs.Prelude.{◌≡◌, List, [], ◌∷◌, ◌++◌, ◌<◌, ◌≤◌, take, length, slice_get};
+ghost use Rattle.std.specs.Prelude.{Some, OnOk, OnErr, get_or};
 
 use crate::memory::Memory;
 use std::alloc::Global;
 use std::marker::Model;
 
-/// Rows of plain values, one after the other in one store. A row is read by its index; rows are removed from the end.
-/// The model is the list of the rows.
+/// Rows of plain values, one after the other in one store. A row is read by its index; rows are
+/// removed from the end. The model is the list of the rows.
 #[derive(Debug, Drop)]
 pub struct Rows<T> {
     items: Vec<T>,

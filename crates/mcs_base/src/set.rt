@@ -1,7 +1,9 @@
 //! Sets of numbers of one kind.
 
-ghost use Rattle.std.specs.Prelude.{◌≡◌, ℕ, ◌^◌, ◌<◌, ◌≤◌, ◌↔◌, IsTrue, IfSome, IfNone, All, length};
-ghost use Rattle.mcs_sets.specs.Sets.{has, size, single, union, common, minus, members, Within, Meets, IsLeast};
+ghost use Rattle.std.specs.Prelude.{◌≡◌, ℕ, ◌^◌, ◌<◌, ◌≤◌, ◌↔◌, IsTrue, IfSome, IfNone, All};
+ghost use Rattle.std.specs.Prelude.{length};
+ghost use Rattle.mcs_sets.specs.Sets.{has, size, single, union, common, minus, members, Within};
+ghost use Rattle.mcs_sets.specs.Sets.{Meets, IsLeast};
 
 use crate::kind::Kind;
 use mcs_sets::{Members, SmallSet};

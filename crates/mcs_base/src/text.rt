@@ -47,7 +47,8 @@ impl Text {
         Ok(())
     }
 
-    /// Appends the number in decimal digits. If there is no memory for all of them, the text stays as it was.
+    /// Appends the number in decimal digits. If there is no memory for all of them, the text stays
+    /// as it was.
     pub fn push_number(&mut self, n: u64) -> Result<(), Memory>
         ensures ok { OnOk result (self.new ≡ self.old ++ decimal n) }
         ensures err { OnErr result (self.new ≡ self.old) }

@@ -3,7 +3,8 @@
 ghost use Rattle.std.specs.Prelude.{◌≡◌};
 ghost use Rattle.std.specs.List.{list_all, list_any};
 ghost use Rattle.std.specs.Str.{bytes_eq};
-ghost use Rattle.mcs_base.specs.Words.{keyword_bytes, is_letter, is_word_byte, is_word, is_reserved, is_name};
+ghost use Rattle.mcs_base.specs.Words.{keyword_bytes, is_letter, is_word_byte, is_word};
+ghost use Rattle.mcs_base.specs.Words.{is_reserved, is_name};
 
 use crate::keyword::{KEYWORDS, Keyword};
 

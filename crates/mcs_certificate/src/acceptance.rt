@@ -20,8 +20,8 @@ use mcs_extensions::default_views;
 use mcs_system::{Kb, System};
 use std::alloc::Global;
 
-/// The views that the certificate shows for the knowledge base with the heads, if it is accepted. A certificate of
-/// another kind than the knowledge base is not.
+/// The views that the certificate shows for the knowledge base with the heads, if it is accepted. A
+/// certificate of another kind than the knowledge base is not.
 fn shown_views(
     alloc: Global,
     question: &Question<'_>,
@@ -52,8 +52,8 @@ fn shown_views(
     }
 }
 
-/// Whether the outputs are, for each of the views in order, the variables of the context at its places. The context has
-/// to be one of the system's.
+/// Whether the outputs are, for each of the views in order, the variables of the context at its
+/// places. The context has to be one of the system's.
 pub fn are_parts(
     alloc: Global,
     system: &System,
@@ -62,21 +62,23 @@ pub fn are_parts(
     outputs: &[Vars],
 ) -> Result<bool, Memory>
     requires { context < length system.now.contexts }
-    ensures { IfOk result (λ yes. IsTrue yes ↔ (map (at_places (variables_of system.now context)) views.now ≡ outputs.now)) }
+    ensures { IfOk result (λ yes. IsTrue yes
+        ↔ (map (at_places (variables_of system.now context)) views.now ≡ outputs.now)) }
 {
     let parts = parts_at(alloc, system.vars_of(context), views)?;
     Ok(parts.as_slice() == outputs)
 }
 
-/// Whether the certificate is accepted as showing that the context accepts exactly these outputs with the heads of the
-/// rules. The context has to be one of the system's, and the rules have to go into it. The outputs are sets of
-/// variables of the context, strictly ascending in the order of states.
+/// Whether the certificate is accepted as showing that the context accepts exactly these outputs
+/// with the heads of the rules. The context has to be one of the system's, and the rules have to go
+/// into it. The outputs are sets of variables of the context, strictly ascending in the order of
+/// states.
 ///
-/// No search is done: traces are checked, and formulas and rules are evaluated. A certificate of another kind than the
-/// context's, or of the wrong shape, is not accepted.
+/// No search is done: traces are checked, and formulas and rules are evaluated. A certificate of
+/// another kind than the context's, or of the wrong shape, is not accepted.
 ///
-/// If the result is true, the outputs are what the context accepts (`accepted_answers_are_right`). `Memory` may be
-/// returned in place of a result.
+/// If the result is true, the outputs are what the context accepts (`accepted_answers_are_right`).
+/// `Memory` may be returned in place of a result.
 pub fn accepts(
     alloc: Global,
     system: &System,
@@ -87,8 +89,10 @@ pub fn accepts(
 ) -> Result<bool, Memory>
     requires context { context < length system.now.contexts }
     requires rules { Within active (rules_into system.now context) }
-    ensures exact { IfOk result (λ yes. IsTrue yes ↔ IsAccepted system.now context active outputs.now (plain_of cert.now)) }
-    ensures right { IfOk result (λ yes. IsTrue yes → IsListing (IsAcceptedPart system.now context active) StateBefore outputs.now) }
+    ensures exact { IfOk result (λ yes. IsTrue yes
+        ↔ IsAccepted system.now context active outputs.now (plain_of cert.now)) }
+    ensures right { IfOk result (λ yes. IsTrue yes
+        → IsListing (IsAcceptedPart system.now context active) StateBefore outputs.now) }
 {
     let heads = heads_into(alloc, system, context, active)?;
     let beliefs = beliefs_of(alloc, system, context)?;

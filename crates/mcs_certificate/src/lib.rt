@@ -1,4 +1,5 @@
-//! The checker of certificates: whether a certificate shows what a context accepts, decided without a search.
+//! The checker of certificates: whether a certificate shows what a context accepts, decided without
+//! a search.
 #![tactic(auto)]
 
 mod acceptance;

@@ -4,7 +4,8 @@ ghost use Rattle.std.specs.Prelude.{◌≡◌, ◌<◌, ◌≤◌, [], length, I
 ghost use Rattle.std.specs.Arc.{arc_value};
 ghost use Rattle.mcs_base.specs.Listings.{IsAmong};
 ghost use Rattle.mcs_states.specs.declared.stop.OracleStop.TheVariants as stops;
-ghost use Rattle.mcs_check.specs.Certified.{certified_of, sets_of, AreAcceptedAnswers, AreAscendingSets, SetsEndAt, HasAnswer};
+ghost use Rattle.mcs_check.specs.Certified.{certified_of, sets_of, AreAcceptedAnswers};
+ghost use Rattle.mcs_check.specs.Certified.{AreAscendingSets, SetsEndAt, HasAnswer};
 
 use mcs_base::{Active, Vars};
 use mcs_states::{Oracle, OracleStop};
@@ -13,8 +14,8 @@ use std::alloc::Global;
 use std::marker::Model;
 use std::sync::Arc;
 
-/// Answers what one context of a system accepts, from a list of answers with accepted certificates. It misses the
-/// questions that are not in the list. It runs no solver.
+/// Answers what one context of a system accepts, from a list of answers with accepted certificates.
+/// It misses the questions that are not in the list. It runs no solver.
 #[derive(Drop)]
 pub struct CertifiedOracle {
     system: Arc<System>,
@@ -28,15 +29,19 @@ impl Model for CertifiedOracle {
     ghost use Rattle.std.specs.Arc.{arc_value};
     ghost use Rattle.mcs_states.specs.Oracles.{OracleState};
     ghost use Rattle.mcs_states.specs.Codes.{coded_oracle};
-    ghost use Rattle.mcs_check.specs.Certified.{certified_of, sets_of, AreAcceptedAnswers, AreAscendingSets};
+    ghost use Rattle.mcs_check.specs.Certified.{certified_of, sets_of, AreAcceptedAnswers};
+    ghost use Rattle.mcs_check.specs.Certified.{AreAscendingSets};
 
     ghost Value = { OracleState };
 
     ghost coded = { coded_oracle };
 
-    ghost view = { λ s. certified_of (arc_value s.system) s.context (sets_of s.answers.items) s.journal.items };
+    ghost view = { λ s. certified_of (arc_value s.system) s.context
+        (sets_of s.answers.items) s.journal.items };
 
-    ghost invariant = { λ s. (s.context < length (arc_value s.system).contexts) × AreAcceptedAnswers (arc_value s.system) s.context s.answers.items × AreAscendingSets s.answers.items };
+    ghost invariant = { λ s. (s.context < length (arc_value s.system).contexts)
+        × AreAcceptedAnswers (arc_value s.system) s.context s.answers.items
+        × AreAscendingSets s.answers.items };
 }
 
 /// How many of the answers are for a set that comes before this one.
@@ -51,7 +56,8 @@ fn place_of(answers: &[(Active, Vec<Vars>)], active: Active) -> usize
 /// The answer for this set, if there is one.
 fn answer_for(answers: &[(Active, Vec<Vars>)], active: Active) -> Option<&[Vars]>
     requires { AreAscendingSets answers.now }
-    ensures { MatchOption result (¬ IsAmong active (sets_of answers.now)) (λ states. HasAnswer answers.now active states.now) }
+    ensures { MatchOption result (¬ IsAmong active (sets_of answers.now))
+        (λ states. HasAnswer answers.now active states.now) }
 {
     let place = place_of(answers, active);
     if place >= answers.len() {
@@ -69,7 +75,8 @@ fn held_answer(answers: &[(Active, Vec<Vars>)], active: Active) -> Result<&[Vars
     requires { AreAscendingSets answers.now }
     ensures answer { IfOk result (λ states. HasAnswer answers.now active states.now) }
     ensures held { OnOk result (IsAmong active (sets_of answers.now)) }
-    ensures missing { IfErr result (λ stop. (¬ IsAmong active (sets_of answers.now)) × (stop ≡ stops.Missing active)) }
+    ensures missing { IfErr result (λ stop. (¬ IsAmong active (sets_of answers.now))
+        × (stop ≡ stops.Missing active)) }
 {
     match answer_for(answers, active) {
         Some(states) => Ok(states),
@@ -78,9 +85,10 @@ fn held_answer(answers: &[(Active, Vec<Vars>)], active: Active) -> Result<&[Vars
 }
 
 impl CertifiedOracle {
-    /// The oracle of this context with these answers. The context has to be one of the system's. Each answer has to be
-    /// what the context accepts with the heads of a set of rules, as an accepted certificate shows it, and the sets
-    /// have to be strictly ascending. No question was asked yet.
+    /// The oracle of this context with these answers. The context has to be one of the system's.
+    /// Each answer has to be what the context accepts with the heads of a set of rules, as an
+    /// accepted certificate shows it, and the sets have to be strictly ascending. No question was
+    /// asked yet.
     pub fn new(
         alloc: Global,
         system: Arc<System>,

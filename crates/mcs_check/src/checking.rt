@@ -24,21 +24,23 @@ use mcs_system::System;
 use std::alloc::Global;
 use std::sync::Arc;
 
-/// Checks the bytes as a report on the system: it is valid, or fails the first of four tests, with the number of the
-/// line that shows it. No search is done. `Memory` may be returned in place of a finding.
+/// Checks the bytes as a report on the system: it is valid, or fails the first of four tests, with
+/// the number of the line that shows it. No search is done. `Memory` may be returned in place of a
+/// finding.
 pub fn check_report(alloc: Global, system: Arc<System>, bytes: &[u8]) -> Result<Finding, Memory>
     ensures found { IfOk result (IsReportFinding (arc_value system) bytes.now) }
     ensures only { IfOk result (RulesOut (arc_value system) bytes.now) }
 {
-    // The contract of `contexts` ensures that the system is valid and its names are names, so a text spells at most one
-    // report.
+    // The contract of `contexts` ensures that the system is valid and its names are names, so a
+    // text spells at most one report.
     let _ = system.contexts();
     found_in(alloc, system, bytes)
 }
 
-/// The finding on the bytes. Each answer is judged line by line while it is read, so that no certificate is held whole:
-/// of the answer that is being read, the clauses of one trace, the views, and the smaller sets of a program; of those
-/// before it, the question, the states, and whether the certificate was accepted.
+/// The finding on the bytes. Each answer is judged line by line while it is read, so that no
+/// certificate is held whole: of the answer that is being read, the clauses of one trace, the
+/// views, and the smaller sets of a program; of those before it, the question, the states, and
+/// whether the certificate was accepted.
 fn found_in(alloc: Global, system: Arc<System>, bytes: &[u8]) -> Result<Finding, Memory>
     ensures { IfOk result (IsReportFinding (arc_value system) bytes.now) }
 {
@@ -60,7 +62,8 @@ fn finding_of(
 ) -> Result<Finding, Memory>
     requires judged { (bytes : List ℕ) × IsJudgedReport (arc_value system) bytes report }
     requires whole { incomplete report.listing.now ≡ [] }
-    ensures { (bytes : List ℕ) → IsJudgedReport (arc_value system) bytes report.entry → IfOk result (IsReportFinding (arc_value system) bytes) }
+    ensures { (bytes : List ℕ) → IsJudgedReport (arc_value system) bytes report.entry
+        → IfOk result (IsReportFinding (arc_value system) bytes) }
 {
     if let Some(line) = first_wrong(&report.answers) {
         return Ok(Finding::Fails {
@@ -78,11 +81,13 @@ fn finding_of(
     Ok(compared(report.listing, &listed))
 }
 
-/// The finding on a report with this listing that passes the other tests. `due` has the listing of the system.
+/// The finding on a report with this listing that passes the other tests. `due` has the listing of
+/// the system.
 fn compared(listing: &[u8], due: &Collecting<'_>) -> Finding
     requires listing { incomplete listing.now ≡ [] }
     requires due { (m : plain.System) × IsWholeListing m due.now.text }
-    ensures { (m : plain.System) (bytes : List ℕ) (as' : List Answer) → SpellsReport m bytes (complete_lines listing.now) as' → AreEnough m as'
+    ensures { (m : plain.System) (bytes : List ℕ) (as' : List Answer)
+        → SpellsReport m bytes (complete_lines listing.now) as' → AreEnough m as'
         → IsWholeListing m due.now.text → IsReportFinding m bytes result }
 {
     let (front, rest) = due.pieces();

@@ -9,8 +9,9 @@ use mcs_ports::{Failed, Sink};
 use std::alloc::Global;
 use std::marker::Model;
 
-/// Takes each piece whole, and keeps no notes. As long as what is written is as expected, it keeps the number of the
-/// bytes alone. A write fails only if there is no memory for its piece; this counts as a fault.
+/// Takes each piece whole, and keeps no notes. As long as what is written is as expected, it keeps
+/// the number of the bytes alone. A write fails only if there is no memory for its piece; this
+/// counts as a fault.
 #[derive(Drop)]
 pub(crate) struct Collecting<'b> {
     expected: &'b [u8],
@@ -27,12 +28,16 @@ impl<'b> Model for Collecting<'b> {
 
     ghost Value = { Collected };
 
-    ghost view = { λ s. record { text = take s.same s.expected.now ++ s.other; faults = s.faults } };
+    ghost view = { λ s. record {
+      text = take s.same s.expected.now ++ s.other;
+      faults = s.faults;
+    } };
 
     ghost invariant = { λ s. s.same ≤ length s.expected.now };
 }
 
-/// How many of the bytes are the next ones that are expected, where `other` was written in their place.
+/// How many of the bytes are the next ones that are expected, where `other` was written in their
+/// place.
 fn met(expected: &[u8], other: &[u8], bytes: &[u8]) -> usize
     ensures value { result ≡ met expected.now other.now bytes.now }
     ensures expected { result ≤ length expected.now }

@@ -25,8 +25,8 @@ fn line_after(bytes: &[u8]) -> u64
     bytes.iter().filter(|byte| **byte == b'\n').count() as u64 + 1
 }
 
-/// The number of the first line, counted from 1, in which the text differs from the one that the two pieces make, if
-/// they differ. Both are whole lines.
+/// The number of the first line, counted from 1, in which the text differs from the one that the
+/// two pieces make, if they differ. Both are whole lines.
 pub(crate) fn first_difference(text: &[u8], front: &[u8], rest: &[u8]) -> Option<u64>
     requires text { incomplete text.now ≡ [] }
     requires pieces { incomplete (front.now ++ rest.now) ≡ [] }

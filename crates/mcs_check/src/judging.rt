@@ -1,6 +1,7 @@
 //! The answers of a report, judged while they are read.
 
-ghost use Rattle.std.specs.Prelude.{◌≡◌, ◌≤◌, ◌<◌, ◌++◌, [], ◌∷◌, length, map, IsTrue, IfOk, MatchOption, slice_get};
+ghost use Rattle.std.specs.Prelude.{◌≡◌, ◌≤◌, ◌<◌, ◌++◌, [], ◌∷◌, length, map, IsTrue, IfOk};
+ghost use Rattle.std.specs.Prelude.{MatchOption, slice_get};
 ghost use Rattle.std.specs.List.{AllByRecursion};
 ghost use Rattle.mcs_system.specs.Plain.{DefaultTheory, Fact};
 ghost use Rattle.mcs_system.specs.Seen.{formula_of, item_of, kb_of};
@@ -26,8 +27,8 @@ use mcs_proof_reader::{Keep, Texts, just_counts, name_texts, take_state, take_st
 use mcs_system::{Kb, System, TheoryItem};
 use std::alloc::Global;
 
-/// An answer of a report, without its certificate: the number of its first line (counted from 1), the question, the
-/// states that are output, and whether the certificate was accepted.
+/// An answer of a report, without its certificate: the number of its first line (counted from 1),
+/// the question, the states that are output, and whether the certificate was accepted.
 #[derive(Drop)]
 pub(crate) struct Judged {
     pub line: u64,
@@ -46,7 +47,8 @@ fn only(alloc: Global, state: Vars) -> Result<Vec<Vars>, Memory>
     Ok(states)
 }
 
-/// Takes the states that an answer of a context with this knowledge base puts out: one if it is classical.
+/// Takes the states that an answer of a context with this knowledge base puts out: one if it is
+/// classical.
 fn take_outputs(
     alloc: Global,
     system: &System,
@@ -57,7 +59,8 @@ fn take_outputs(
 ) -> Result<Vec<Vars>, ReportFault>
     requires texts { AreTexts system.now texts.now }
     requires context { context < length system.now.contexts }
-    ensures { Gives (λ outputs. outputs.items) result lines.new (outputs_at system.now context (kb_of kb.now) lines.old) }
+    ensures { Gives (λ outputs. outputs.items) result lines.new
+        (outputs_at system.now context (kb_of kb.now) lines.old) }
 {
     let allowed = system.vars_of(context);
     match kb {
@@ -70,8 +73,9 @@ fn take_outputs(
     }
 }
 
-/// Reads the certificate of a default theory with these items, verdict by verdict, and returns the views that it shows
-/// of the question, if it is accepted. The names are those of its atoms in the lines, and the numbers those of defaults.
+/// Reads the certificate of a default theory with these items, verdict by verdict, and returns the
+/// views that it shows of the question, if it is accepted. The names are those of its atoms in the
+/// lines, and the numbers those of defaults.
 fn judge_extensions(
     alloc: Global,
     question: &Question<'_>,
@@ -83,8 +87,11 @@ fn judge_extensions(
     requires items { kb_of question.now.kb.now ≡ DefaultTheory (map item_of items.now) }
     requires names { names.now ≡ question.now.asked.now.atoms.now }
     requires numbers { length numbers.now ≤ 64 }
-    ensures { Tells (AreViewsOf (IsAcceptedDefault question.now.asked.now.atoms.now (map item_of items.now ++ map Fact (map (λ f. formula_of f.now) question.now.heads.now)) (asked_beliefs question.now.asked.now))) result lines.new
-        (verdicts_at (terms_with question.now.asked.now.atoms.now numbers.now (map item_of items.now) (length question.now.asked.now.beliefs.now)) lines.old) }
+    ensures { Tells (AreViewsOf (IsAcceptedDefault question.now.asked.now.atoms.now
+        (map item_of items.now ++ map Fact (map (λ f. formula_of f.now) question.now.heads.now))
+        (asked_beliefs question.now.asked.now))) result lines.new
+        (verdicts_at (terms_with question.now.asked.now.atoms.now numbers.now
+        (map item_of items.now) (length question.now.asked.now.beliefs.now)) lines.old) }
 {
     let justs = just_counts(alloc, items)?;
     let terms = Theory {
@@ -96,9 +103,9 @@ fn judge_extensions(
     judge_verdicts(alloc, items, question.heads, question.asked, &terms, lines)
 }
 
-/// Reads the certificate of an answer with so many outputs, by the kind of the knowledge base: entailment by entailment,
-/// verdict by verdict or model by model. Returns the views that it shows of the question, if it is accepted. The
-/// numbers are those of defaults in the lines.
+/// Reads the certificate of an answer with so many outputs, by the kind of the knowledge base:
+/// entailment by entailment, verdict by verdict or model by model. Returns the views that it shows
+/// of the question, if it is accepted. The numbers are those of defaults in the lines.
 fn judge_answer(
     alloc: Global,
     question: &Question<'_>,
@@ -108,7 +115,8 @@ fn judge_answer(
 ) -> Result<Option<Vec<Vars>>, ReportFault>
     requires { length numbers.now ≤ 64 }
     ensures { Tells (AreViewsOf (AreViewsShown question.now)) result lines.new
-        (certificate_at question.now.asked.now.atoms.now numbers.now (length question.now.asked.now.beliefs.now) (kb_of question.now.kb.now) count lines.old) }
+        (certificate_at question.now.asked.now.atoms.now numbers.now
+        (length question.now.asked.now.beliefs.now) (kb_of question.now.kb.now) count lines.old) }
 {
     let names = name_texts(alloc, question.asked.atoms)?;
     let asked = Asked {
@@ -129,8 +137,8 @@ fn judge_answer(
     }
 }
 
-/// Reads the certificate of an answer of a context with this knowledge base, and returns whether it shows that the
-/// context accepts exactly these outputs with the heads of the rules.
+/// Reads the certificate of an answer of a context with this knowledge base, and returns whether it
+/// shows that the context accepts exactly these outputs with the heads of the rules.
 fn is_shown(
     alloc: Global,
     system: &System,
@@ -165,8 +173,9 @@ fn is_shown(
     Ok(are_parts(alloc, system, context, &views, outputs)?)
 }
 
-/// Judges each answer while it is read. Of a classical context nothing of the certificate is held but the clauses of one
-/// trace; of a program the views and the smaller sets are held as well, and of a default theory the views.
+/// Judges each answer while it is read. Of a classical context nothing of the certificate is held
+/// but the clauses of one trace; of a program the views and the smaller sets are held as well, and
+/// of a default theory the views.
 pub(crate) struct Judge;
 
 impl Keep for Judge {

@@ -2,7 +2,8 @@
 
 ghost use Rattle.mcs_check.specs.Validity.{ProvedListingsAreValid, ValidReportsFailNothing};
 
-/// The listing of a system with its proof is a valid report, if it is not longer than a report may be.
+/// The listing of a system with its proof is a valid report, if it is not longer than a report may
+/// be.
 pub fn proved_listings_are_valid()
     ensures { ProvedListingsAreValid }
 {}

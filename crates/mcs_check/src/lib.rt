@@ -1,5 +1,5 @@
-//! The check of a report on a system, without any search: its certificates are checked step by step, and its listing is
-//! compared with the one that follows from its answers alone.
+//! The check of a report on a system, without any search: its certificates are checked step by
+//! step, and its listing is compared with the one that follows from its answers alone.
 #![tactic(auto)]
 
 mod certified;

@@ -36,8 +36,8 @@ fn put(lists: &mut Vec<Vec<(Active, Vec<Vars>)>>, answer: Judged) -> Result<(), 
     Ok(())
 }
 
-/// For each context, in order, the answers to its questions, in their order: for each rule set the states that are
-/// output. The context of each answer has to be below `contexts`.
+/// For each context, in order, the answers to its questions, in their order: for each rule set the
+/// states that are output. The context of each answer has to be below `contexts`.
 fn by_context(
     alloc: Global,
     contexts: usize,
@@ -53,15 +53,17 @@ fn by_context(
     Ok(lists)
 }
 
-/// An oracle for each context of the system, in order, with the answers to its questions. No question was asked yet.
-/// The answers have to be right, and ordered by context and then by rule set.
+/// An oracle for each context of the system, in order, with the answers to its questions. No
+/// question was asked yet. The answers have to be right, and ordered by context and then by rule
+/// set.
 pub(crate) fn oracles_of(
     alloc: Global,
     system: &Arc<System>,
     answers: Vec<Judged>,
 ) -> Result<Vec<CertifiedOracle>, Memory>
     requires { AreAllRight (arc_value system.now) answers.items }
-    ensures oracles { (n : ℕ) (as' : List Answer) → AreJudged (arc_value system.now) n as' answers.items
+    ensures oracles { (n : ℕ) (as' : List Answer)
+        → AreJudged (arc_value system.now) n as' answers.items
         → IfOk result (λ oracles. oracles.items ≡ oracles_for (arc_value system.now) as') }
     ensures valid { OnOk result (IsValid (arc_value system.now)) }
 {

@@ -18,8 +18,8 @@ use mcs_work::{Task, WorkStop, work};
 use std::alloc::Global;
 use std::sync::Arc;
 
-/// The greatest number of questions of a level that may be asked. There are fewer rule sets into the contexts of any
-/// system.
+/// The greatest number of questions of a level that may be asked. There are fewer rule sets into
+/// the contexts of any system.
 const MOST_QUESTIONS: u64 = 4_294_967_295;
 
 /// `Ok` if an answer was missing; otherwise memory ran out. There are never too many questions.
@@ -36,8 +36,8 @@ fn missing(stop: WorkStop) -> Result<(), Memory>
     }
 }
 
-/// The whole listing of the system by the oracles of its contexts, or `None` if one of them lacks an answer that is
-/// needed. Little memory is needed for it as long as it is as expected.
+/// The whole listing of the system by the oracles of its contexts, or `None` if one of them lacks
+/// an answer that is needed. Little memory is needed for it as long as it is as expected.
 pub(crate) fn listing_by<'b>(
     alloc: Global,
     system: Arc<System>,
@@ -49,7 +49,8 @@ pub(crate) fn listing_by<'b>(
     requires own { AreFresh (arc_value system) oracles.items }
     ensures { IfOk result (λ listed. MatchOption listed
         (LackOne (arc_value system) oracles.items)
-        (λ sink. IsWholeListing (arc_value system) sink.text × HoldAll (arc_value system) oracles.items)) }
+        (λ sink. IsWholeListing (arc_value system) sink.text
+        × HoldAll (arc_value system) oracles.items)) }
 {
     let plan = Arc::new(alloc, Plan::of(alloc, system.clone()?)?)?;
     let gate = IdleGate;

@@ -23,7 +23,8 @@ pub fn add_formulas(
 ) -> Result<(), Memory>
     requires over { AreOver atoms.now (map (λ f. formula_of f.now) formulas.now) }
     requires room { length atoms.now ≤ known.old.vars }
-    ensures ok { OnOk result (known.new ≡ with_formulas atoms.now known.old (map (λ f. formula_of f.now) formulas.now)) }
+    ensures ok { OnOk result (known.new
+        ≡ with_formulas atoms.now known.old (map (λ f. formula_of f.now) formulas.now)) }
     ensures err { OnErr result (known.new ≡ known.old) }
 {
     let mut more = Cnf::new(alloc, known.vars());
@@ -41,7 +42,8 @@ pub(crate) fn add_assumed(
     set: Active,
 ) -> Result<(), Memory>
     requires { length (given_names given.now) ≤ known.old.vars }
-    ensures ok { OnOk result (known.new ≡ with_formulas (given_names given.now) known.old (given_with given.now set)) }
+    ensures ok { OnOk result (known.new
+        ≡ with_formulas (given_names given.now) known.old (given_with given.now set)) }
     ensures err { OnErr result (known.new ≡ known.old) }
 {
     let formulas = assumed(alloc, given.assumptions, set)?;

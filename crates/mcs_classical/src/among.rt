@@ -21,7 +21,8 @@ fn is_among(formulas: &[Formula], goal: &Formula) -> bool
 
 /// The places of the beliefs that are literally among the formulas.
 pub(crate) fn goals_among(formulas: &[Formula], asked: &Asked<'_>) -> Vars
-    ensures { result ≡ such_that (length asked.now.beliefs.now) (stands_at (map formula_of formulas.now) (asked_beliefs asked.now)) }
+    ensures { result ≡ such_that (length asked.now.beliefs.now)
+        (stands_at (map formula_of formulas.now) (asked_beliefs asked.now)) }
 {
     let goals = asked.beliefs;
     let mut places = Vars::empty();

@@ -27,7 +27,8 @@ pub fn assumed<'a>(
     set: Active,
 ) -> Result<Vec<&'a Formula>, Memory>
     requires { AllByRecursion (λ (a : declared.Assumption). a.number < 64) assumptions.now }
-    ensures { IfOk result (λ formulas. map (λ f. formula_of f.now) formulas.items ≡ assumed set assumptions.now) }
+    ensures { IfOk result (λ formulas. map (λ f. formula_of f.now) formulas.items
+        ≡ assumed set assumptions.now) }
 {
     let mut formulas = Vec::new(alloc);
     for assumption in assumptions {
@@ -38,11 +39,15 @@ pub fn assumed<'a>(
     Ok(formulas)
 }
 
-/// The numbers of which all assumptions hold if exactly the atoms at the places in `values` are true. From these
-/// assumptions, and formulas that hold under this assignment, nothing follows that does not hold under it.
+/// The numbers of which all assumptions hold if exactly the atoms at the places in `values` are
+/// true. From these assumptions, and formulas that hold under this assignment, nothing follows that
+/// does not hold under it.
 pub fn holding(given: &Given<'_>, values: Vars) -> Active
-    ensures each { AllByRecursion (λ (a : declared.Assumption). IsTrue (has result a.number) → HoldsAt (given_names given.now) values a) given.now.assumptions.now }
-    ensures all { AllByRecursion (λ (a : declared.Assumption). DoHold (given_names given.now) values a.number given.now.assumptions.now → IsTrue (has result a.number)) given.now.assumptions.now }
+    ensures each { AllByRecursion (λ (a : declared.Assumption). IsTrue (has result a.number)
+        → HoldsAt (given_names given.now) values a) given.now.assumptions.now }
+    ensures all { AllByRecursion (λ (a : declared.Assumption).
+        DoHold (given_names given.now) values a.number given.now.assumptions.now
+        → IsTrue (has result a.number)) given.now.assumptions.now }
 {
     let assumptions = given.assumptions;
     let mut held = Active::empty();

@@ -27,7 +27,8 @@ use std::alloc::Global;
 /// The state, with the number added if the entailment is a `yes`.
 fn with_yes(state: Vars, number: u32, entail: &Entail) -> Vars
     requires { number < 64 }
-    ensures { result ≡ cond (says_yes (entailment_of entail.now)) (union state (single number)) state }
+    ensures { result
+        ≡ cond (says_yes (entailment_of entail.now)) (union state (single number)) state }
 {
     match entail {
         Entail::Yes(_) => state.with(number),
@@ -35,9 +36,10 @@ fn with_yes(state: Vars, number: u32, entail: &Entail) -> Vars
     }
 }
 
-/// The one view of the beliefs that a classical context accepts: the numbers, from 0, of those that follow from the
-/// formulas; and a certificate, for each, that it follows or does not. All atoms have to be among `atoms`, of which
-/// there are at most 64, and there may be at most 64 beliefs. The clauses of the formulas are made once.
+/// The one view of the beliefs that a classical context accepts: the numbers, from 0, of those that
+/// follow from the formulas; and a certificate, for each, that it follows or does not. All atoms
+/// have to be among `atoms`, of which there are at most 64, and there may be at most 64 beliefs.
+/// The clauses of the formulas are made once.
 pub fn outputs(
     alloc: Global,
     kb: &[Formula],
@@ -50,9 +52,11 @@ pub fn outputs(
     requires kb { AreOver atoms.now (map formula_of kb.now) }
     requires beliefs { AreOver atoms.now (map formula_of beliefs.now) }
     ensures exact { IfOk result
-        (λ r. IsListing (IsAcceptedView (Classical (map formula_of kb.now)) (map formula_of beliefs.now)) StateBefore (r.0 ∷ [])) }
+        (λ r. IsListing (IsAcceptedView (Classical (map formula_of kb.now))
+        (map formula_of beliefs.now)) StateBefore (r.0 ∷ [])) }
     ensures accepted { IfOk result
-        (λ r. IsAcceptedClassical atoms.now (map formula_of kb.now) (map formula_of beliefs.now) (r.0 ∷ [])
+        (λ r. IsAcceptedClassical atoms.now (map formula_of kb.now) (map formula_of beliefs.now)
+        (r.0 ∷ [])
         (certificate_of r.1)) }
 {
     let mut known = clauses(alloc, kb, atoms)?;
@@ -68,10 +72,11 @@ pub fn outputs(
     outputs_from(alloc, &mut known, &given)
 }
 
-/// The same for formulas whose clauses are `known`, and for references to beliefs. What may be assumed plays no part.
-/// The clauses of each belief are added for the search and removed again. So `known` is as before, also if memory runs
-/// out, and can be used for the next question, with what was learnt. The assignment under which a belief does not follow
-/// is tried on the next ones before any search.
+/// The same for formulas whose clauses are `known`, and for references to beliefs. What may be
+/// assumed plays no part. The clauses of each belief are added for the search and removed again. So
+/// `known` is as before, also if memory runs out, and can be used for the next question, with what
+/// was learnt. The assignment under which a belief does not follow is tried on the next ones before
+/// any search.
 pub fn outputs_in(
     alloc: Global,
     known: &mut ClauseBase,
@@ -79,10 +84,14 @@ pub fn outputs_in(
 ) -> Result<(Vars, ClassicalCert), Memory>
     requires { length (given_names given.now) ≤ known.old.vars }
     ensures kept { known.new ≡ known.old }
-    ensures exact { IfOk result (λ r. (fs : List plain.Formula) → known.old ≡ clause_list (given_names given.now) fs → AreOver (given_names given.now) fs
-        → IsListing (IsAcceptedView (Classical fs) (given_beliefs given.now)) StateBefore (r.0 ∷ [])) }
-    ensures accepted { IfOk result (λ r. (fs : List plain.Formula) → known.old ≡ clause_list (given_names given.now) fs → AreOver (given_names given.now) fs
-        → IsAcceptedClassical (given_names given.now) fs (given_beliefs given.now) (r.0 ∷ []) (certificate_of r.1)) }
+    ensures exact { IfOk result (λ r. (fs : List plain.Formula)
+        → known.old ≡ clause_list (given_names given.now) fs → AreOver (given_names given.now) fs
+        → IsListing (IsAcceptedView (Classical fs) (given_beliefs given.now)) StateBefore
+        (r.0 ∷ [])) }
+    ensures accepted { IfOk result (λ r. (fs : List plain.Formula)
+        → known.old ≡ clause_list (given_names given.now) fs → AreOver (given_names given.now) fs
+        → IsAcceptedClassical (given_names given.now) fs (given_beliefs given.now) (r.0 ∷ [])
+        (certificate_of r.1)) }
 {
     let beliefs = given.asked.beliefs;
     let mut state = Vars::empty();
@@ -97,7 +106,8 @@ pub fn outputs_in(
     Ok((state, ClassicalCert { entails }))
 }
 
-/// The same for a list of clauses, which is preprocessed once for all beliefs, and is left unchanged.
+/// The same for a list of clauses, which is preprocessed once for all beliefs, and is left
+/// unchanged.
 pub fn outputs_from(
     alloc: Global,
     known: &mut Cnf,
@@ -105,10 +115,14 @@ pub fn outputs_from(
 ) -> Result<(Vars, ClassicalCert), Memory>
     requires { length (given_names given.now) ≤ known.old.vars }
     ensures kept { known.new ≡ known.old }
-    ensures exact { IfOk result (λ r. (fs : List plain.Formula) → known.old ≡ clause_list (given_names given.now) fs → AreOver (given_names given.now) fs
-        → IsListing (IsAcceptedView (Classical fs) (given_beliefs given.now)) StateBefore (r.0 ∷ [])) }
-    ensures accepted { IfOk result (λ r. (fs : List plain.Formula) → known.old ≡ clause_list (given_names given.now) fs → AreOver (given_names given.now) fs
-        → IsAcceptedClassical (given_names given.now) fs (given_beliefs given.now) (r.0 ∷ []) (certificate_of r.1)) }
+    ensures exact { IfOk result (λ r. (fs : List plain.Formula)
+        → known.old ≡ clause_list (given_names given.now) fs → AreOver (given_names given.now) fs
+        → IsListing (IsAcceptedView (Classical fs) (given_beliefs given.now)) StateBefore
+        (r.0 ∷ [])) }
+    ensures accepted { IfOk result (λ r. (fs : List plain.Formula)
+        → known.old ≡ clause_list (given_names given.now) fs → AreOver (given_names given.now) fs
+        → IsAcceptedClassical (given_names given.now) fs (given_beliefs given.now) (r.0 ∷ [])
+        (certificate_of r.1)) }
 {
     let mut base = ClauseBase::of(alloc, known)?;
     let shown = outputs_in(alloc, &mut base, given);

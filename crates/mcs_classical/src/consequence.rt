@@ -1,12 +1,14 @@
 //! Whether one formula follows.
 
-ghost use Rattle.std.specs.Prelude.{◌≡◌, ◌≤◌, ◌↔◌, ◌∷◌, [], List, Some, false, length, map, IsTrue, IfOk, IfSome, OnOk, OnErr};
+ghost use Rattle.std.specs.Prelude.{◌≡◌, ◌≤◌, ◌↔◌, ◌∷◌, [], List, Some, false, length, map, IsTrue};
+ghost use Rattle.std.specs.Prelude.{IfOk, IfSome, OnOk, OnErr};
 ghost use Rattle.mcs_system.specs.Faults.{has_twins};
 ghost use Rattle.mcs_system.specs.Logic.{holds, true_names, Entails};
 ghost use Rattle.mcs_system.specs.Plain as plain;
 ghost use Rattle.mcs_system.specs.Seen.{formula_of};
 ghost use Rattle.mcs_cnf.specs.ClauseLists.{clause_list, with_formulas, IsOver, AreOver};
-ghost use Rattle.mcs_cnf.specs.Entailments.{entailment_of, says_yes, IsModelAt, IsAcceptedEntailment};
+ghost use Rattle.mcs_cnf.specs.Entailments.{entailment_of, says_yes, IsModelAt};
+ghost use Rattle.mcs_cnf.specs.Entailments.{IsAcceptedEntailment};
 ghost use Rattle.mcs_classical.specs.Given.{given_names};
 ghost use Rattle.mcs_classical.specs.Models.{IsCounterexample};
 
@@ -29,7 +31,8 @@ fn push_goal(
 ) -> Result<(), Memory>
     requires goal { IsOver atoms.now (formula_of goal.now) }
     requires room { length atoms.now ≤ known.old.vars }
-    ensures ok { OnOk result (known.new ≡ with_formulas atoms.now known.old (plain.Not (formula_of goal.now) ∷ [])) }
+    ensures ok { OnOk result (known.new
+        ≡ with_formulas atoms.now known.old (plain.Not (formula_of goal.now) ∷ [])) }
     ensures err { OnErr result (known.new ≡ known.old) }
 {
     let mut more = Cnf::new(alloc, known.vars());
@@ -39,11 +42,12 @@ fn push_goal(
     added
 }
 
-/// Whether the goal follows from the formulas whose clauses are `known`, with what shows it. This is a trace that
-/// refutes the formulas with the negated goal, or the places of the atoms that are true under an assignment under which
-/// the formulas hold and the goal does not. Of what is given only the atoms count. The clauses of the goal are added for
-/// the search and removed again. So `known` is as before, also if memory runs out, and can be used for the next goal,
-/// with what was learnt.
+/// Whether the goal follows from the formulas whose clauses are `known`, with what shows it. This
+/// is a trace that refutes the formulas with the negated goal, or the places of the atoms that are
+/// true under an assignment under which the formulas hold and the goal does not. Of what is given
+/// only the atoms count. The clauses of the goal are added for the search and removed again. So
+/// `known` is as before, also if memory runs out, and can be used for the next goal, with what was
+/// learnt.
 pub fn entails_in(
     alloc: Global,
     known: &mut ClauseBase,
@@ -54,10 +58,12 @@ pub fn entails_in(
     requires room { length (given_names given.now) ≤ known.old.vars }
     ensures kept { known.new ≡ known.old }
     ensures accepted { IfOk result
-        (λ e. (fs : List plain.Formula) → known.old ≡ clause_list (given_names given.now) fs → AreOver (given_names given.now) fs
+        (λ e. (fs : List plain.Formula) → known.old ≡ clause_list (given_names given.now) fs
+        → AreOver (given_names given.now) fs
         → IsAcceptedEntailment (given_names given.now) fs (formula_of goal.now) (entailment_of e)) }
     ensures exact { IfOk result
-        (λ e. (fs : List plain.Formula) → known.old ≡ clause_list (given_names given.now) fs → AreOver (given_names given.now) fs
+        (λ e. (fs : List plain.Formula) → known.old ≡ clause_list (given_names given.now) fs
+        → AreOver (given_names given.now) fs
         → IsTrue (says_yes (entailment_of e)) ↔ Entails fs (formula_of goal.now)) }
 {
     let atoms = given.asked.atoms;
@@ -72,8 +78,8 @@ pub fn entails_in(
     }
 }
 
-/// The same without a trace: the places of the atoms that are true under an assignment under which the formulas hold
-/// and the goal does not, or `None` exactly if the goal follows.
+/// The same without a trace: the places of the atoms that are true under an assignment under which
+/// the formulas hold and the goal does not, or `None` exactly if the goal follows.
 pub fn counterexample_in(
     alloc: Global,
     known: &mut ClauseBase,
@@ -84,7 +90,8 @@ pub fn counterexample_in(
     requires room { length (given_names given.now) ≤ known.old.vars }
     ensures kept { known.new ≡ known.old }
     ensures exact { IfOk result
-        (λ found. (fs : List plain.Formula) → known.old ≡ clause_list (given_names given.now) fs → AreOver (given_names given.now) fs
+        (λ found. (fs : List plain.Formula) → known.old ≡ clause_list (given_names given.now) fs
+        → AreOver (given_names given.now) fs
         → IsCounterexample (given_names given.now) fs (formula_of goal.now) found) }
 {
     let vars = known.vars();
@@ -98,7 +105,8 @@ pub fn counterexample_in(
     }
 }
 
-/// The same as `entails_in` for a list of clauses, which is preprocessed for this goal alone, and is left unchanged.
+/// The same as `entails_in` for a list of clauses, which is preprocessed for this goal alone, and
+/// is left unchanged.
 pub fn entails_from(
     alloc: Global,
     known: &mut Cnf,
@@ -109,10 +117,12 @@ pub fn entails_from(
     requires room { length (given_names given.now) ≤ known.old.vars }
     ensures kept { known.new ≡ known.old }
     ensures accepted { IfOk result
-        (λ e. (fs : List plain.Formula) → known.old ≡ clause_list (given_names given.now) fs → AreOver (given_names given.now) fs
+        (λ e. (fs : List plain.Formula) → known.old ≡ clause_list (given_names given.now) fs
+        → AreOver (given_names given.now) fs
         → IsAcceptedEntailment (given_names given.now) fs (formula_of goal.now) (entailment_of e)) }
     ensures exact { IfOk result
-        (λ e. (fs : List plain.Formula) → known.old ≡ clause_list (given_names given.now) fs → AreOver (given_names given.now) fs
+        (λ e. (fs : List plain.Formula) → known.old ≡ clause_list (given_names given.now) fs
+        → AreOver (given_names given.now) fs
         → IsTrue (says_yes (entailment_of e)) ↔ Entails fs (formula_of goal.now)) }
 {
     let mut base = ClauseBase::of(alloc, known)?;
@@ -121,8 +131,8 @@ pub fn entails_from(
     entail
 }
 
-/// Whether the goal follows from the formulas, with what shows it. All atoms have to be among `atoms`, of which there
-/// are at most 64. `Yes` is returned exactly if the goal follows.
+/// Whether the goal follows from the formulas, with what shows it. All atoms have to be among
+/// `atoms`, of which there are at most 64. `Yes` is returned exactly if the goal follows.
 pub fn entails(
     alloc: Global,
     kb: &[Formula],
@@ -134,9 +144,11 @@ pub fn entails(
     requires kb { AreOver atoms.now (map formula_of kb.now) }
     requires goal { IsOver atoms.now (formula_of goal.now) }
     ensures accepted { IfOk result
-        (λ e. IsAcceptedEntailment atoms.now (map formula_of kb.now) (formula_of goal.now) (entailment_of e)) }
+        (λ e. IsAcceptedEntailment atoms.now (map formula_of kb.now) (formula_of goal.now)
+        (entailment_of e)) }
     ensures exact { IfOk result
-        (λ e. IsTrue (says_yes (entailment_of e)) ↔ Entails (map formula_of kb.now) (formula_of goal.now)) }
+        (λ e. IsTrue (says_yes (entailment_of e))
+        ↔ Entails (map formula_of kb.now) (formula_of goal.now)) }
 {
     let mut known = clauses(alloc, kb, atoms)?;
     let asked = Asked {
@@ -153,7 +165,8 @@ pub fn entails(
 /// The model, if the goal is false in it.
 fn refuting(model: &Option<Vars>, goal: &Formula, asked: &Asked<'_>) -> Option<Vars>
     ensures { IfSome result
-        (λ places. (model.now ≡ Some places) × (holds (true_names 0 asked.now.atoms.now places) (formula_of goal.now) ≡ false)) }
+        (λ places. (model.now ≡ Some places)
+        × (holds (true_names 0 asked.now.atoms.now places) (formula_of goal.now) ≡ false)) }
 {
     match model {
         Some(places) => {
@@ -167,8 +180,9 @@ fn refuting(model: &Option<Vars>, goal: &Formula, asked: &Asked<'_>) -> Option<V
     }
 }
 
-/// The same as `entails_in`, with a model of the formulas that may be known from an earlier goal. It is given as the
-/// places of the atoms that are true in it, and is tried on the goal before any search.
+/// The same as `entails_in`, with a model of the formulas that may be known from an earlier goal.
+/// It is given as the places of the atoms that are true in it, and is tried on the goal before any
+/// search.
 pub fn entails_beside(
     alloc: Global,
     known: &mut ClauseBase,
@@ -180,10 +194,14 @@ pub fn entails_beside(
     requires room { length (given_names given.now) ≤ known.old.vars }
     ensures kept { known.new ≡ known.old }
     ensures accepted { IfOk result
-        (λ e. (fs : List plain.Formula) → known.old ≡ clause_list (given_names given.now) fs → AreOver (given_names given.now) fs → IfSome model.now (IsModelAt (given_names given.now) fs)
+        (λ e. (fs : List plain.Formula) → known.old ≡ clause_list (given_names given.now) fs
+        → AreOver (given_names given.now) fs
+        → IfSome model.now (IsModelAt (given_names given.now) fs)
         → IsAcceptedEntailment (given_names given.now) fs (formula_of goal.now) (entailment_of e)) }
     ensures exact { IfOk result
-        (λ e. (fs : List plain.Formula) → known.old ≡ clause_list (given_names given.now) fs → AreOver (given_names given.now) fs → IfSome model.now (IsModelAt (given_names given.now) fs)
+        (λ e. (fs : List plain.Formula) → known.old ≡ clause_list (given_names given.now) fs
+        → AreOver (given_names given.now) fs
+        → IfSome model.now (IsModelAt (given_names given.now) fs)
         → IsTrue (says_yes (entailment_of e)) ↔ Entails fs (formula_of goal.now)) }
 {
     match refuting(model, goal, given.asked) {

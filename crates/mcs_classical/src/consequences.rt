@@ -9,8 +9,10 @@ ghost use Rattle.mcs_system.specs.Seen.{formula_of};
 ghost use Rattle.mcs_system.specs.Views.{Shows};
 ghost use Rattle.mcs_cnf.specs.ClauseLists.{clause_list, AreOver};
 ghost use Rattle.mcs_asked.specs.Questions.{asked_beliefs};
-ghost use Rattle.mcs_classical.specs.Consequences.{holds_goal, with_assumed, AreConsequences, IsGoalAnswer, AreGoalsTold, IsUpperConsequence};
-ghost use Rattle.mcs_classical.specs.Given.{given_names, given_beliefs, with_given, AreConsequencesOf};
+ghost use Rattle.mcs_classical.specs.Consequences.{holds_goal, with_assumed, AreConsequences};
+ghost use Rattle.mcs_classical.specs.Consequences.{IsGoalAnswer, AreGoalsTold, IsUpperConsequence};
+ghost use Rattle.mcs_classical.specs.Given.{given_names, given_beliefs, with_given};
+ghost use Rattle.mcs_classical.specs.Given.{AreConsequencesOf};
 ghost use Rattle.mcs_classical.specs.declared.assumptions.Assumption as declared;
 
 use crate::adding::add_assumed;
@@ -32,8 +34,8 @@ struct Told {
     left: Vars,
 }
 
-/// What was found to follow from formulas with sets of assumptions, among a list of goals. It is right for the
-/// formulas, assumptions and goals with which the calls were made.
+/// What was found to follow from formulas with sets of assumptions, among a list of goals. It is
+/// right for the formulas, assumptions and goals with which the calls were made.
 #[derive(Drop)]
 pub struct Consequences {
     lower: Vec<Lower>,
@@ -42,7 +44,8 @@ pub struct Consequences {
 
 /// The numbers of the assumptions.
 fn numbers_of(given: &Given<'_>) -> Active
-    ensures { AllByRecursion (λ (a : declared.Assumption). IsTrue (has result a.number)) given.now.assumptions.now }
+    ensures { AllByRecursion (λ (a : declared.Assumption). IsTrue (has result a.number))
+        given.now.assumptions.now }
 {
     let assumptions = given.assumptions;
     let mut numbers = Active::empty();
@@ -67,7 +70,8 @@ fn places_of(count: usize) -> Vars
 
 /// The places of the beliefs that hold if exactly the atoms at the places in `values` are true.
 fn goals_holding(asked: &Asked<'_>, values: Vars) -> Vars
-    ensures { result ≡ such_that (length asked.now.beliefs.now) (holds_goal (true_names 0 asked.now.atoms.now values) (asked_beliefs asked.now)) }
+    ensures { result ≡ such_that (length asked.now.beliefs.now)
+        (holds_goal (true_names 0 asked.now.atoms.now values) (asked_beliefs asked.now)) }
 {
     let goals = asked.beliefs;
     let mut places = Vars::empty();
@@ -79,9 +83,10 @@ fn goals_holding(asked: &Asked<'_>, values: Vars) -> Vars
     places
 }
 
-/// Searches whether the belief at the place follows from the formulas whose clauses are `known`. `None` is returned if
-/// it does, and otherwise the places of the beliefs that hold in the model that was found: no others can follow, and
-/// this one is none of them. The model is kept as an upper bound.
+/// Searches whether the belief at the place follows from the formulas whose clauses are `known`.
+/// `None` is returned if it does, and otherwise the places of the beliefs that hold in the model
+/// that was found: no others can follow, and this one is none of them. The model is kept as an
+/// upper bound.
 fn ask(
     alloc: Global,
     known: &mut ClauseBase,
@@ -92,10 +97,15 @@ fn ask(
     requires room { length (given_names given.now) ≤ known.old.vars }
     requires place { place < length given.now.asked.now.beliefs.now }
     ensures kept { known.new ≡ known.old }
-    ensures right { (fs : List plain.Formula) (set : ℕ) → known.old ≡ clause_list (given_names given.now) (with_given fs given.now set) → AreOver (given_names given.now) (with_given fs given.now set)
-        → AllByRecursion (IsUpperConsequence fs given.now.assumptions.now (given_beliefs given.now)) upper.old.items
-        → AllByRecursion (IsUpperConsequence fs given.now.assumptions.now (given_beliefs given.now)) upper.new.items }
-    ensures answer { IfOk result (λ answer. (fs : List plain.Formula) → known.old ≡ clause_list (given_names given.now) fs → AreOver (given_names given.now) fs
+    ensures right { (fs : List plain.Formula) (set : ℕ)
+        → known.old ≡ clause_list (given_names given.now) (with_given fs given.now set)
+        → AreOver (given_names given.now) (with_given fs given.now set)
+        → AllByRecursion (IsUpperConsequence fs given.now.assumptions.now
+        (given_beliefs given.now)) upper.old.items
+        → AllByRecursion (IsUpperConsequence fs given.now.assumptions.now
+        (given_beliefs given.now)) upper.new.items }
+    ensures answer { IfOk result (λ answer. (fs : List plain.Formula)
+        → known.old ≡ clause_list (given_names given.now) fs → AreOver (given_names given.now) fs
         → IsGoalAnswer fs (given_beliefs given.now) place answer) }
 {
     let goals = given.asked.beliefs;
@@ -113,7 +123,8 @@ fn ask(
 /// What is known of the goals, once the answer about the goal at the place is known too.
 fn with_answer(told: Told, place: u32, answer: Option<Vars>) -> Told
     requires { place < 64 }
-    ensures { (fs : List plain.Formula) (goals : List plain.Formula) → IsGoalAnswer fs goals place answer → AreGoalsTold fs goals place told
+    ensures { (fs : List plain.Formula) (goals : List plain.Formula)
+        → IsGoalAnswer fs goals place answer → AreGoalsTold fs goals place told
         → AreGoalsTold fs goals (place + 1) result }
 {
     match answer {
@@ -128,8 +139,9 @@ fn with_answer(told: Told, place: u32, answer: Option<Vars>) -> Told
     }
 }
 
-/// The beliefs that follow from the formulas whose clauses are `known`: those already known to follow, and those found to
-/// follow by searches. Each model that is found is kept, and decides later beliefs that are false in it.
+/// The beliefs that follow from the formulas whose clauses are `known`: those already known to
+/// follow, and those found to follow by searches. Each model that is found is kept, and decides
+/// later beliefs that are false in it.
 fn ask_left(
     alloc: Global,
     known: &mut ClauseBase,
@@ -139,11 +151,17 @@ fn ask_left(
 ) -> Result<Vars, Memory>
     requires { length (given_names given.now) ≤ known.old.vars }
     ensures kept { known.new ≡ known.old }
-    ensures right { (fs : List plain.Formula) (set : ℕ) → known.old ≡ clause_list (given_names given.now) (with_given fs given.now set) → AreOver (given_names given.now) (with_given fs given.now set)
-        → AllByRecursion (IsUpperConsequence fs given.now.assumptions.now (given_beliefs given.now)) upper.old.items
-        → AllByRecursion (IsUpperConsequence fs given.now.assumptions.now (given_beliefs given.now)) upper.new.items }
-    ensures exact { IfOk result (λ view. (fs : List plain.Formula) → known.old ≡ clause_list (given_names given.now) fs → AreOver (given_names given.now) fs
-        → AreGoalsTold fs (given_beliefs given.now) 0 before → Shows (Theory fs) (given_beliefs given.now) view) }
+    ensures right { (fs : List plain.Formula) (set : ℕ)
+        → known.old ≡ clause_list (given_names given.now) (with_given fs given.now set)
+        → AreOver (given_names given.now) (with_given fs given.now set)
+        → AllByRecursion (IsUpperConsequence fs given.now.assumptions.now
+        (given_beliefs given.now)) upper.old.items
+        → AllByRecursion (IsUpperConsequence fs given.now.assumptions.now
+        (given_beliefs given.now)) upper.new.items }
+    ensures exact { IfOk result (λ view. (fs : List plain.Formula)
+        → known.old ≡ clause_list (given_names given.now) fs → AreOver (given_names given.now) fs
+        → AreGoalsTold fs (given_beliefs given.now) 0 before
+        → Shows (Theory fs) (given_beliefs given.now) view) }
 {
     let goals = given.asked.beliefs;
     let mut told = before;
@@ -159,7 +177,8 @@ fn ask_left(
 impl Consequences {
     /// Nothing found yet. This is right for all formulas, assumptions and goals.
     pub fn new(alloc: Global) -> Consequences
-        ensures { (fs : List plain.Formula) (assumptions : List declared.Assumption) (goals : List plain.Formula) → AreConsequences fs assumptions goals result }
+        ensures { (fs : List plain.Formula) (assumptions : List declared.Assumption)
+            (goals : List plain.Formula) → AreConsequences fs assumptions goals result }
     {
         Consequences {
             lower: Vec::new(alloc),
@@ -167,15 +186,16 @@ impl Consequences {
         }
     }
 
-    /// What is found without a search: the beliefs that are literally among the formulas follow. This is right for these
-    /// formulas and beliefs, and for all assumptions.
+    /// What is found without a search: the beliefs that are literally among the formulas follow.
+    /// This is right for these formulas and beliefs, and for all assumptions.
     pub fn of(
         alloc: Global,
         formulas: &[Formula],
         asked: &Asked<'_>,
     ) -> Result<Consequences, Memory>
         ensures { IfOk result (λ found. (assumptions : List declared.Assumption)
-            → AreConsequences (map formula_of formulas.now) assumptions (asked_beliefs asked.now) found) }
+            → AreConsequences (map formula_of formulas.now) assumptions
+            (asked_beliefs asked.now) found) }
     {
         let mut found = Consequences::new(alloc);
         let entailed = goals_among(formulas, asked);
@@ -201,10 +221,10 @@ impl Consequences {
         }
     }
 
-    /// The places, from 0, of the beliefs that follow from the formulas, whose clauses are `known`, with the assumptions
-    /// in the set. What was found for other sets is used first, and what is found is kept. The clauses of the
-    /// assumptions are added for a search and removed again, so that `known` is as before. If memory runs out, what is
-    /// kept is still right.
+    /// The places, from 0, of the beliefs that follow from the formulas, whose clauses are `known`,
+    /// with the assumptions in the set. What was found for other sets is used first, and what is
+    /// found is kept. The clauses of the assumptions are added for a search and removed again, so
+    /// that `known` is as before. If memory runs out, what is kept is still right.
     pub fn following(
         &mut self,
         alloc: Global,
@@ -214,10 +234,14 @@ impl Consequences {
     ) -> Result<Vars, Memory>
         requires { length (given_names given.now) ≤ known.old.vars }
         ensures kept { known.new ≡ known.old }
-        ensures right { (fs : List plain.Formula) → known.old ≡ clause_list (given_names given.now) fs → AreOver (given_names given.now) fs
+        ensures right { (fs : List plain.Formula)
+            → known.old ≡ clause_list (given_names given.now) fs
+            → AreOver (given_names given.now) fs
             → AreConsequencesOf given.now fs self.old → AreConsequencesOf given.now fs self.new }
-        ensures exact { IfOk result (λ view. (fs : List plain.Formula) → known.old ≡ clause_list (given_names given.now) fs → AreOver (given_names given.now) fs
-            → AreConsequencesOf given.now fs self.old → Shows (Theory (with_given fs given.now set)) (given_beliefs given.now) view) }
+        ensures exact { IfOk result (λ view. (fs : List plain.Formula) → known.old
+            ≡ clause_list (given_names given.now) fs → AreOver (given_names given.now) fs
+            → AreConsequencesOf given.now fs self.old
+            → Shows (Theory (with_given fs given.now set)) (given_beliefs given.now) view) }
     {
         let assumed = set.common(numbers_of(given));
         let told = self.told(assumed, given.asked);

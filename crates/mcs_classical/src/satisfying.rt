@@ -15,16 +15,16 @@ use mcs_system::{Formula, Name};
 use mcs_trace::{Cnf, Trace};
 use std::alloc::Global;
 
-/// The places of the atoms that are true under an assignment that satisfies all formulas, or an accepted trace that
-/// there is no such assignment.
+/// The places of the atoms that are true under an assignment that satisfies all formulas, or an
+/// accepted trace that there is no such assignment.
 #[derive(Drop)]
 pub enum Satisfied {
     Model(Vars),
     Refuted(Trace),
 }
 
-/// An assignment that satisfies the formulas, or a trace that there is none. All atoms have to be among `atoms`, of
-/// which there are at most 64.
+/// An assignment that satisfies the formulas, or a trace that there is none. All atoms have to be
+/// among `atoms`, of which there are at most 64.
 pub fn satisfy(alloc: Global, formulas: &[Formula], atoms: &[Name]) -> Result<Satisfied, Memory>
     requires few { length atoms.now ≤ 64 }
     requires different { has_twins atoms.now ≡ false }
@@ -43,7 +43,8 @@ pub fn satisfy_from(alloc: Global, cnf: &Cnf, atoms: &[Name]) -> Result<Satisfie
     requires different { has_twins atoms.now ≡ false }
     requires room { length atoms.now ≤ cnf.now.vars }
     ensures { IfOk result
-        (λ r. (fs : List plain.Formula) → cnf.now ≡ clause_list atoms.now fs → AreOver atoms.now fs → IsSatisfiedAnswer atoms.now fs r) }
+        (λ r. (fs : List plain.Formula) → cnf.now ≡ clause_list atoms.now fs → AreOver atoms.now fs
+        → IsSatisfiedAnswer atoms.now fs r) }
 {
     match solve(alloc, cnf)? {
         Outcome::Refuted(trace) => Ok(Satisfied::Refuted(trace)),

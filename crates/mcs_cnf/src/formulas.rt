@@ -3,7 +3,8 @@
 ghost use Rattle.std.specs.Prelude.{◌≡◌, ◌<◌, ◌≤◌, ◌++◌, [], ◌∷◌, length, map, IfOk, OnOk, OnErr};
 ghost use Rattle.mcs_system.specs.Plain as plain;
 ghost use Rattle.mcs_system.specs.Seen.{formula_of};
-ghost use Rattle.mcs_cnf.specs.ClauseLists.{atom_number, taken, number, formula_clauses, with_formulas, clause_list, IsOver, AreOver};
+ghost use Rattle.mcs_cnf.specs.ClauseLists.{atom_number, taken, number, formula_clauses};
+ghost use Rattle.mcs_cnf.specs.ClauseLists.{with_formulas, clause_list, IsOver, AreOver};
 ghost use Rattle.mcs_cnf.specs.Denials.{denials_added};
 
 use crate::literals::push_unit;
@@ -25,11 +26,12 @@ pub fn atom_number(atoms: &[Name], name: &Name) -> u64
     atoms.len() as u64 + 1
 }
 
-/// Adds an occurrence of each denial that the formula begins with, and returns the number of the last one. `x` is the
-/// number of what they deny, and is returned where there is none.
+/// Adds an occurrence of each denial that the formula begins with, and returns the number of the
+/// last one. `x` is the number of what they deny, and is returned where there is none.
 fn push_denials(alloc: Global, cnf: &mut Cnf, formula: &Formula, x: u64) -> Result<u64, Memory>
     requires part { (0 < x) × (x ≤ cnf.old.vars) }
-    ensures added { IfOk result (λ _. cnf.new ≡ (denials_added (formula_of formula.now) cnf.old x).0) }
+    ensures added { IfOk result (λ _. cnf.new
+        ≡ (denials_added (formula_of formula.now) cnf.old x).0) }
     ensures number { IfOk result (λ n. n ≡ (denials_added (formula_of formula.now) cnf.old x).1) }
 {
     let mut rest = formula;
@@ -56,7 +58,8 @@ fn push_occurrences(
     ensures added { IfOk result
         (λ _. cnf.new ≡ record {
           vars = taken cnf.old.vars (formula_of formula.now);
-          clauses = cnf.old.clauses ++ formula_clauses atoms.now cnf.old.vars (formula_of formula.now);
+          clauses = cnf.old.clauses ++ formula_clauses atoms.now cnf.old.vars
+              (formula_of formula.now);
         }) }
 {
     match formula {
@@ -75,8 +78,9 @@ fn push_occurrences(
     }
 }
 
-/// Adds the clauses of one more formula over the same atoms: those of its occurrences, which take the next numbers
-/// after the variables of the list, and the clause that it is true. If memory runs out, the list is as before.
+/// Adds the clauses of one more formula over the same atoms: those of its occurrences, which take
+/// the next numbers after the variables of the list, and the clause that it is true. If memory runs
+/// out, the list is as before.
 #[tactic(auto, using(crate::proofs::NumberLemmas::numbers_fit))]
 pub fn push_formula(
     alloc: Global,
@@ -86,7 +90,8 @@ pub fn push_formula(
 ) -> Result<(), Memory>
     requires over { IsOver atoms.now (formula_of formula.now) }
     requires room { length atoms.now ≤ cnf.old.vars }
-    ensures ok { OnOk result (cnf.new ≡ with_formulas atoms.now cnf.old (formula_of formula.now ∷ [])) }
+    ensures ok { OnOk result (cnf.new
+        ≡ with_formulas atoms.now cnf.old (formula_of formula.now ∷ [])) }
     ensures err { OnErr result (cnf.new ≡ cnf.old) }
 {
     let mut own = Cnf::new(alloc, cnf.vars());
@@ -95,7 +100,8 @@ pub fn push_formula(
     cnf.append(own)
 }
 
-/// Adds the clauses of the negation of a formula over the same atoms, as `push_formula` adds those of a formula.
+/// Adds the clauses of the negation of a formula over the same atoms, as `push_formula` adds those
+/// of a formula.
 #[tactic(auto, using(crate::proofs::NumberLemmas::numbers_fit))]
 pub fn push_negation(
     alloc: Global,
@@ -116,7 +122,8 @@ pub fn push_negation(
     cnf.append(own)
 }
 
-/// Adds the clauses of the formulas, one after the other. If memory runs out, the list is as before.
+/// Adds the clauses of the formulas, one after the other. If memory runs out, the list is as
+/// before.
 pub fn push_all(
     alloc: Global,
     known: &mut Cnf,
@@ -125,7 +132,8 @@ pub fn push_all(
 ) -> Result<(), Memory>
     requires over { AreOver atoms.now (map (λ f. formula_of f.now) formulas.now) }
     requires room { length atoms.now ≤ known.old.vars }
-    ensures ok { OnOk result (known.new ≡ with_formulas atoms.now known.old (map (λ f. formula_of f.now) formulas.now)) }
+    ensures ok { OnOk result (known.new
+        ≡ with_formulas atoms.now known.old (map (λ f. formula_of f.now) formulas.now)) }
     ensures err { OnErr result (known.new ≡ known.old) }
 {
     let mut own = Cnf::new(alloc, known.vars());
@@ -135,9 +143,9 @@ pub fn push_all(
     known.append(own)
 }
 
-/// The clauses of formulas whose atoms are among `atoms` (Tseitin 1968). Atom i is variable i, from 1. Each occurrence
-/// of a subformula that is not an atom has a variable of its own, which takes the next number. The work is linear in
-/// the sizes of the formulas, times the number of atoms.
+/// The clauses of formulas whose atoms are among `atoms` (Tseitin 1968). Atom i is variable i, from
+/// 1. Each occurrence of a subformula that is not an atom has a variable of its own, which takes
+/// the next number. The work is linear in the sizes of the formulas, times the number of atoms.
 pub fn clauses(alloc: Global, formulas: &[Formula], atoms: &[Name]) -> Result<Cnf, Memory>
     requires { AreOver atoms.now (map formula_of formulas.now) }
     ensures { IfOk result (λ f. f ≡ clause_list atoms.now (map formula_of formulas.now)) }

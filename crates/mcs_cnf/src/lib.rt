@@ -1,4 +1,5 @@
-//! The clauses of formulas, and when evidence is accepted that a formula follows from others or does not.
+//! The clauses of formulas, and when evidence is accepted that a formula follows from others or
+//! does not.
 #![tactic(auto)]
 
 mod formulas;

@@ -2,7 +2,9 @@
 
 ghost use Rattle.std.specs.Prelude.{◌≡◌, ◌+◌, ◌<◌, ◌≤◌, ◌^◌, IfOk, OnErr};
 ghost use Rattle.mcs_system.specs.Seen.{formula_of};
-ghost use Rattle.mcs_cnf.specs.ClauseLists.{truth_clauses, falsity_clauses, not_clauses, and_clauses, or_clauses, implies_clauses, iff_clauses, own_clauses, IsAdded};
+ghost use Rattle.mcs_cnf.specs.ClauseLists.{truth_clauses, falsity_clauses, not_clauses};
+ghost use Rattle.mcs_cnf.specs.ClauseLists.{and_clauses, or_clauses, implies_clauses, iff_clauses};
+ghost use Rattle.mcs_cnf.specs.ClauseLists.{own_clauses, IsAdded};
 
 use crate::literals::{no, push_variable, yes};
 use mcs_base::Memory;
@@ -13,8 +15,8 @@ use std::alloc::Global;
 /// The greatest number of variables of a list.
 const MOST_VARIABLES: u64 = 0x7fff_ffff_ffff_ffff;
 
-/// The next number of a variable. If all are taken, this is reported as want of memory: no memory can hold so many
-/// clauses.
+/// The next number of a variable. If all are taken, this is reported as want of memory: no memory
+/// can hold so many clauses.
 fn next_number(cnf: &Cnf) -> Result<u64, Memory>
     ensures number { IfOk result (λ n. n ≡ cnf.now.vars + 1) }
     ensures fits { IfOk result (λ n. n < 2 ^ 63) }
@@ -25,7 +27,8 @@ fn next_number(cnf: &Cnf) -> Result<u64, Memory>
     Ok(cnf.vars() + 1)
 }
 
-/// Adds an occurrence of the constant true, and returns its number. If memory runs out, the list is as before.
+/// Adds an occurrence of the constant true, and returns its number. If memory runs out, the list is
+/// as before.
 pub fn push_truth(alloc: Global, cnf: &mut Cnf) -> Result<u64, Memory>
     ensures ok { IfOk result (IsAdded truth_clauses cnf.old cnf.new) }
     ensures err { OnErr result (cnf.new ≡ cnf.old) }
@@ -35,7 +38,8 @@ pub fn push_truth(alloc: Global, cnf: &mut Cnf) -> Result<u64, Memory>
     Ok(n)
 }
 
-/// Adds an occurrence of the constant false, and returns its number. If memory runs out, the list is as before.
+/// Adds an occurrence of the constant false, and returns its number. If memory runs out, the list
+/// is as before.
 pub fn push_falsity(alloc: Global, cnf: &mut Cnf) -> Result<u64, Memory>
     ensures ok { IfOk result (IsAdded falsity_clauses cnf.old cnf.new) }
     ensures err { OnErr result (cnf.new ≡ cnf.old) }
@@ -45,7 +49,8 @@ pub fn push_falsity(alloc: Global, cnf: &mut Cnf) -> Result<u64, Memory>
     Ok(n)
 }
 
-/// Adds an occurrence of the negation of `x`, and returns its number. If memory runs out, the list is as before.
+/// Adds an occurrence of the negation of `x`, and returns its number. If memory runs out, the list
+/// is as before.
 pub fn push_not(alloc: Global, cnf: &mut Cnf, x: u64) -> Result<u64, Memory>
     requires part { (0 < x) × (x ≤ cnf.old.vars) }
     ensures ok { IfOk result (IsAdded (λ n. not_clauses n x) cnf.old cnf.new) }
@@ -56,7 +61,8 @@ pub fn push_not(alloc: Global, cnf: &mut Cnf, x: u64) -> Result<u64, Memory>
     Ok(n)
 }
 
-/// Adds an occurrence of `x` and `y`, and returns its number. If memory runs out, the list is as before.
+/// Adds an occurrence of `x` and `y`, and returns its number. If memory runs out, the list is as
+/// before.
 pub fn push_and(alloc: Global, cnf: &mut Cnf, x: u64, y: u64) -> Result<u64, Memory>
     requires left { (0 < x) × (x ≤ cnf.old.vars) }
     requires right { (0 < y) × (y ≤ cnf.old.vars) }
@@ -72,7 +78,8 @@ pub fn push_and(alloc: Global, cnf: &mut Cnf, x: u64, y: u64) -> Result<u64, Mem
     Ok(n)
 }
 
-/// Adds an occurrence of `x` or `y`, and returns its number. If memory runs out, the list is as before.
+/// Adds an occurrence of `x` or `y`, and returns its number. If memory runs out, the list is as
+/// before.
 pub fn push_or(alloc: Global, cnf: &mut Cnf, x: u64, y: u64) -> Result<u64, Memory>
     requires left { (0 < x) × (x ≤ cnf.old.vars) }
     requires right { (0 < y) × (y ≤ cnf.old.vars) }
@@ -88,7 +95,8 @@ pub fn push_or(alloc: Global, cnf: &mut Cnf, x: u64, y: u64) -> Result<u64, Memo
     Ok(n)
 }
 
-/// Adds an occurrence of `x` implies `y`, and returns its number. If memory runs out, the list is as before.
+/// Adds an occurrence of `x` implies `y`, and returns its number. If memory runs out, the list is
+/// as before.
 pub fn push_implies(alloc: Global, cnf: &mut Cnf, x: u64, y: u64) -> Result<u64, Memory>
     requires left { (0 < x) × (x ≤ cnf.old.vars) }
     requires right { (0 < y) × (y ≤ cnf.old.vars) }
@@ -125,7 +133,8 @@ fn push_iff(alloc: Global, cnf: &mut Cnf, x: u64, y: u64) -> Result<u64, Memory>
     Ok(n)
 }
 
-/// Adds an occurrence of the formula, whose two operands have the numbers `x` and `y`, and returns its number.
+/// Adds an occurrence of the formula, whose two operands have the numbers `x` and `y`, and returns
+/// its number.
 pub(crate) fn push_sign(
     alloc: Global,
     cnf: &mut Cnf,
@@ -135,7 +144,8 @@ pub(crate) fn push_sign(
 ) -> Result<u64, Memory>
     requires left { (0 < x) × (x ≤ cnf.old.vars) }
     requires right { (0 < y) × (y ≤ cnf.old.vars) }
-    ensures ok { IfOk result (IsAdded (λ n. own_clauses (formula_of formula.now) n x y) cnf.old cnf.new) }
+    ensures ok { IfOk result (IsAdded (λ n. own_clauses (formula_of formula.now) n x y) cnf.old
+        cnf.new) }
     ensures err { OnErr result (cnf.new ≡ cnf.old) }
 {
     match formula {

@@ -8,8 +8,8 @@ use mcs_states::Oracle;
 use std::alloc::Global;
 use std::marker::PhantomData;
 
-/// Asks by a closure. It is made where the handle of threads is at hand, and where it is known that oracles may go to
-/// other threads, and calls `ask_with_help`.
+/// Asks by a closure. It is made where the handle of threads is at hand, and where it is known that
+/// oracles may go to other threads, and calls `ask_with_help`.
 #[derive(Drop)]
 pub(crate) struct CrewAsker<'a, O, F> {
     ask: &'a F,
@@ -33,7 +33,8 @@ impl<'a, O: Oracle, F: Fn(u32, O, &[Active]) -> Asked<O>> Asker for CrewAsker<'a
 
     type Of = O;
 
-    ghost asks = { λ a. AsksAll O.stands (λ asked. O.stands asked.oracle) (λ asked. asked.answers) F.pre F.post a.ask.now };
+    ghost asks = { λ a. AsksAll O.stands (λ asked. O.stands asked.oracle)
+        (λ asked. asked.answers) F.pre F.post a.ask.now };
 
     fn ask_all(&self, _alloc: Global, context: u32, oracle: O, questions: &[Active]) -> Asked<O> {
         (self.ask)(context, oracle, questions)

@@ -68,7 +68,8 @@ fn work_load<O: Fork + Send, G: Gate + Sync, R: Threads + Wait + Sync>(
     let ask = |context: u32, oracle: O, questions: &[Active]| -> Asked<O>
         requires shared { IsSync R.row × IsSync G.row × IsSend O.row }
         requires errand { IsErrand context (O.stands oracle) questions.now }
-        ensures { IsAsked context (O.stands oracle) (O.stands result.oracle) questions.now result.answers }
+        ensures { IsAsked context (O.stands oracle)
+            (O.stands result.oracle) questions.now result.answers }
     { ask_with_help(rt, alloc, gate, workforce, context, oracle, questions) };
     let asker = CrewAsker::new(&ask);
     match extent {
@@ -100,7 +101,8 @@ fn work_unless<O: Fork + Send, G: Gate + Sync, R: Threads + Wait + Sync>(
     load
 }
 
-/// Starts a thread for the load. Where none can be made, sets the flag, and the load stays here as it is.
+/// Starts a thread for the load. Where none can be made, sets the flag, and the load stays here as
+/// it is.
 pub(crate) fn start<'s, E, O: Fork + Send + 's, G: Gate + Sync, R: Threads + Wait + Sync>(
     scope: &Scope<'s, E>,
     rt: &'s R,
@@ -160,7 +162,8 @@ pub(crate) fn look_at<O: Fork + Send, G: Gate + Sync, R: Threads + Wait + Sync>(
     child: &mut Child<O>,
 ) -> Look
     requires { (was : _) × IsGiven draw.now.word was × ComesBack was child.old }
-    ensures { (was : _) → IsGiven draw.now.word was → ComesBack was child.old → ComesBack was child.new }
+    ensures { (was : _) → IsGiven draw.now.word was → ComesBack was child.old
+        → ComesBack was child.new }
 {
     match child {
         Child::Away(_) => Look {

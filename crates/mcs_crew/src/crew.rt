@@ -1,4 +1,5 @@
-//! All loads of a round at work at once: each in a thread of its own, but for those that stay with the caller.
+//! All loads of a round at work at once: each in a thread of its own, but for those that stay with
+//! the caller.
 
 ghost use Rattle.std.specs.Prelude.{◌≡◌, ◌≤◌, length, vec_capacity, vec_len};
 ghost use Rattle.std.specs.List.{AllByRecursion, AllZip};
@@ -75,7 +76,8 @@ fn look_round<O: Fork + Send, G: Gate + Sync, R: Threads + Wait + Sync>(
     children: &mut [Child<O>],
 ) -> Look
     requires { AreAtWork draw.now.word children.old }
-    ensures { (was : _) → AllByRecursion (IsGiven draw.now.word) was → AllZip ComesBack was children.old → AllZip ComesBack was children.new }
+    ensures { (was : _) → AllByRecursion (IsGiven draw.now.word) was
+        → AllZip ComesBack was children.old → AllZip ComesBack was children.new }
 {
     let mut busy = false;
     let mut worked = false;
@@ -110,8 +112,9 @@ fn extent_for<O: Oracle>(children: &[Child<O>]) -> Extent {
     }
 }
 
-/// Works the loads that are here. One alone is worked as a whole, and may wait at its inbox; several in turns, without
-/// waiting at any of their inboxes, since a letter that the one waits for may come from the other.
+/// Works the loads that are here. One alone is worked as a whole, and may wait at its inbox;
+/// several in turns, without waiting at any of their inboxes, since a letter that the one waits for
+/// may come from the other.
 fn go_round<O: Fork + Send, G: Gate + Sync, R: Threads + Wait + Sync>(
     rt: &R,
     alloc: Global,
@@ -121,7 +124,8 @@ fn go_round<O: Fork + Send, G: Gate + Sync, R: Threads + Wait + Sync>(
     children: &mut [Child<O>],
 )
     requires { AreAtWork draw.now.word children.old }
-    ensures { (was : _) → AllByRecursion (IsGiven draw.now.word) was → AllZip ComesBack was children.old → AllZip ComesBack was children.new }
+    ensures { (was : _) → AllByRecursion (IsGiven draw.now.word) was
+        → AllZip ComesBack was children.old → AllZip ComesBack was children.new }
 {
     let extent = extent_for(children);
     for _ in rt.forever() {
@@ -152,7 +156,8 @@ fn finish_all<O: Oracle, R: Threads>(
     back
 }
 
-/// Works all loads at once: the first here, each other in a thread of its own, or here if no thread can be made.
+/// Works all loads at once: the first here, each other in a thread of its own, or here if no thread
+/// can be made.
 pub(crate) fn work_all<O: Fork + Send, G: Gate + Sync, R: Threads + Wait + Sync>(
     rt: &R,
     alloc: Global,

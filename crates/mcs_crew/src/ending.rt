@@ -1,6 +1,7 @@
 //! How a round ended.
 
-ghost use Rattle.std.specs.Prelude.{◌≡◌, ◌⊎◌, true, false, Some, IfErr, IfNone, IfOk, IfSome, IsTrue};
+ghost use Rattle.std.specs.Prelude.{◌≡◌, ◌⊎◌, true, false, Some, IfErr, IfNone, IfOk, IfSome};
+ghost use Rattle.std.specs.Prelude.{IsTrue};
 ghost use Rattle.std.specs.List.{AllByRecursion};
 ghost use Rattle.mcs_node.specs.Nodes.{IsNodeData};
 ghost use Rattle.mcs_node.specs.Replay.{IsLowestHalt};
@@ -31,7 +32,8 @@ fn are_done<O: Oracle>(nodes: &[Node<O>]) -> bool
 
 /// The halt of the node, if it stopped by itself.
 fn own_halt<O: Oracle>(node: &Node<O>) -> Option<Halt>
-    ensures some { IfSome result (λ halt. (node.now.state.by_itself ≡ true) × (node.now.state.halt ≡ Some halt)) }
+    ensures some { IfSome result (λ halt. (node.now.state.by_itself ≡ true)
+        × (node.now.state.halt ≡ Some halt)) }
     ensures none { IfNone result (node.now.state.by_itself ≡ false) }
     ensures node { IsNodeData node.now }
 {
@@ -55,11 +57,12 @@ fn lowest_halt<O: Oracle>(nodes: &[Node<O>]) -> Option<Halt>
     None
 }
 
-/// How a round ended that has this total: with it if every node is done, else with the halt of the lowest node that
-/// stopped by itself. If there is none, with want of memory.
+/// How a round ended that has this total: with it if every node is done, else with the halt of the
+/// lowest node that stopped by itself. If there is none, with want of memory.
 pub(crate) fn ending<O: Oracle>(nodes: &[Node<O>], total: u64) -> Result<u64, Halt>
     ensures done { IfOk result (λ n. (n ≡ total) × AllByRecursion IsDoneNode nodes.now) }
-    ensures halt { IfErr result (λ halt. IsMemory halt ⊎ (IsHaltOf nodes.now halt × IsLowestHalt (states_of nodes.now) (Some halt))) }
+    ensures halt { IfErr result (λ halt. IsMemory halt
+        ⊎ (IsHaltOf nodes.now halt × IsLowestHalt (states_of nodes.now) (Some halt))) }
 {
     if are_done(nodes) {
         return Ok(total);

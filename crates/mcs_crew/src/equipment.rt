@@ -1,6 +1,7 @@
 //! All that a round by threads takes memory for.
 
-ghost use Rattle.std.specs.Prelude.{◌≡◌, ◌+◌, ◌*◌, ◌<◌, ◌≤◌, ℕ, [], IfOk, Some, length, map, slice_get, vec_capacity, vec_len};
+ghost use Rattle.std.specs.Prelude.{◌≡◌, ◌+◌, ◌*◌, ◌<◌, ◌≤◌, ℕ, [], IfOk, Some, length, map};
+ghost use Rattle.std.specs.Prelude.{slice_get, vec_capacity, vec_len};
 ghost use Rattle.std.specs.Arc.{arc_value};
 ghost use Rattle.std.specs.List.{AllByRecursion};
 ghost use Rattle.mcs_wire.specs.Ends.{AddressData};
@@ -24,7 +25,8 @@ use std::sync::atomic::AtomicBool;
 /// What a seat may draw: as many questions as 64 contexts have, each with at most 12 rules into it.
 const SEAT_ROOM: u64 = 64 * 4096;
 
-/// What the caller keeps of the wires and of the word while they are in use: an address of each wire, and a seat.
+/// What the caller keeps of the wires and of the word while they are in use: an address of each
+/// wire, and a seat.
 #[derive(Drop)]
 pub(crate) struct Hub {
     pub addresses: Vec<Address>,
@@ -39,7 +41,8 @@ pub(crate) struct Equipment<O: Oracle> {
     pub loads: Vec<Load<O>>,
 }
 
-/// A flag and a worker for each group, and room for the loads that are out and for those that are back.
+/// A flag and a worker for each group, and room for the loads that are out and for those that are
+/// back.
 #[derive(Drop)]
 pub(crate) struct Hall<O: Oracle> {
     pub flags: Vec<AtomicBool>,
@@ -63,8 +66,10 @@ pub(crate) fn hall_of<O: Oracle>(
     groups: u32,
     workers: u32,
 ) -> Result<Hall<O>, Memory>
-    ensures children { IfOk result (λ hall. (vec_len hall.children ≡ 0) × (groups ≤ vec_capacity hall.children)) }
-    ensures back { IfOk result (λ hall. (vec_len hall.back ≡ 0) × (groups ≤ vec_capacity hall.back)) }
+    ensures children { IfOk result (λ hall. (vec_len hall.children ≡ 0)
+        × (groups ≤ vec_capacity hall.children)) }
+    ensures back { IfOk result (λ hall. (vec_len hall.back ≡ 0)
+        × (groups ≤ vec_capacity hall.back)) }
 {
     let flags = flags_of(alloc, groups)?;
     let children = Vec::with_capacity(alloc, groups as usize)?;
@@ -77,8 +82,8 @@ pub(crate) fn hall_of<O: Oracle>(
     })
 }
 
-/// The load of the group, with this inbox and without nodes, for which it has room. Its addresses and its seat are
-/// split off the hub's.
+/// The load of the group, with this inbox and without nodes, for which it has room. Its addresses
+/// and its seat are split off the hub's.
 fn load_for<O: Oracle>(
     alloc: Global,
     plan: &Plan,
@@ -91,10 +96,13 @@ fn load_for<O: Oracle>(
     requires groups { 0 < groups }
     requires word { hub.old.seat.word ≡ draw.now.word }
     requires room { seat_room < hub.old.seat.account.left }
-    requires parts { (g : ℕ) (a : AddressData) → slice_get hub.old.addresses.items g ≡ Some a → (2 ≤ a.parts) × (a.sent ≡ []) }
-    ensures load { IfOk result (λ load. IsNewLoad plan.now groups group hub.old.seat.account.top draw.now.word hub.old.addresses.items inbox (load_of load)) }
+    requires parts { (g : ℕ) (a : AddressData) → slice_get hub.old.addresses.items g ≡ Some a
+        → (2 ≤ a.parts) × (a.sent ≡ []) }
+    ensures load { IfOk result (λ load. IsNewLoad plan.now groups group hub.old.seat.account.top
+        draw.now.word hub.old.addresses.items inbox (load_of load)) }
     ensures nodes { IfOk result (λ load. length plan.now.contexts ≤ vec_capacity load.team.nodes) }
-    ensures split { IfOk result (λ _. AreSplitOff 1 hub.old.addresses.items hub.old.seat hub.new.addresses.items hub.new.seat) }
+    ensures split { IfOk result (λ _. AreSplitOff 1 hub.old.addresses.items hub.old.seat
+        hub.new.addresses.items hub.new.seat) }
 {
     let nodes = Vec::with_capacity(alloc, plan.system().contexts().len())?;
     let addresses = split_each(alloc, &mut hub.addresses)?;
@@ -125,9 +133,13 @@ fn loads_of<O: Oracle>(
     requires word { hub.old.seat.word ≡ draw.now.word }
     requires account { hub.old.seat.account.left ≡ 1 + seat_room * groups }
     requires wires { AreWires plan.now groups groups hub.old.addresses.items inboxes.items }
-    ensures loads { IfOk result (λ loads. AreNewLoads plan.now groups groups hub.old.seat.account.top draw.now.word hub.old.addresses.items inboxes.items (map load_of loads.items)) }
-    ensures room { IfOk result (λ loads. AllByRecursion (λ load. length plan.now.contexts ≤ vec_capacity load.team.nodes) loads.items) }
-    ensures hub { IfOk result (λ _. AreSplitOff groups hub.old.addresses.items hub.old.seat hub.new.addresses.items hub.new.seat) }
+    ensures loads { IfOk result (λ loads. AreNewLoads plan.now groups groups
+        hub.old.seat.account.top draw.now.word hub.old.addresses.items inboxes.items
+        (map load_of loads.items)) }
+    ensures room { IfOk result (λ loads. AllByRecursion
+        (λ load. length plan.now.contexts ≤ vec_capacity load.team.nodes) loads.items) }
+    ensures hub { IfOk result (λ _. AreSplitOff groups hub.old.addresses.items hub.old.seat
+        hub.new.addresses.items hub.new.seat) }
 {
     let mut loads = Vec::new(alloc);
     for inbox in inboxes {
@@ -137,7 +149,8 @@ fn loads_of<O: Oracle>(
     Ok(loads)
 }
 
-/// The equipment of so many groups. The word begins with the number of the questions that were asked before.
+/// The equipment of so many groups. The word begins with the number of the questions that were
+/// asked before.
 pub(crate) fn equipment_of<O: Oracle>(
     alloc: Global,
     plan: &Arc<Plan>,
@@ -146,8 +159,12 @@ pub(crate) fn equipment_of<O: Oracle>(
 ) -> Result<Equipment<O>, Memory>
     requires groups { (0 < groups) × (groups ≤ 64) }
     requires few { asked ≤ seat_room }
-    ensures equipped { IfOk result (λ e. IsEquipment (arc_value plan.now) groups asked e.draw e.hub.addresses.items e.hub.seat (map load_of e.loads.items)) }
-    ensures room { IfOk result (λ e. AllByRecursion (λ load. length (arc_value plan.now).contexts ≤ vec_capacity load.team.nodes) e.loads.items) }
+    ensures equipped { IfOk result (λ e. IsEquipment
+        (arc_value plan.now) groups asked e.draw e.hub.addresses.items e.hub.seat
+        (map load_of e.loads.items)) }
+    ensures room { IfOk result (λ e. AllByRecursion
+        (λ load. length (arc_value plan.now).contexts
+        ≤ vec_capacity load.team.nodes) e.loads.items) }
 {
     let Wires { addresses, inboxes } = wires_of(alloc, plan, groups)?;
     let (draw, seat) = Draw::new(alloc, asked, SEAT_ROOM * groups as u64 + 1)?;

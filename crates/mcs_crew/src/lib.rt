@@ -1,5 +1,5 @@
-//! Rounds of questions that threads play: letters go through inboxes, and totals are drawn from the budget word. Threads
-//! that wait help to ask.
+//! Rounds of questions that threads play: letters go through inboxes, and totals are drawn from the
+//! budget word. Threads that wait help to ask.
 #![tactic(auto)]
 
 mod asker;

@@ -14,7 +14,8 @@ use mcs_states::{Fork, Halt, Oracle};
 use std::alloc::Global;
 use std::thread::{Threads, join};
 
-/// Asks the oracle of the context the questions, in one part more than there are threads that can help.
+/// Asks the oracle of the context the questions, in one part more than there are threads that can
+/// help.
 pub(crate) fn ask_with_help<O: Fork + Send, G: Gate + Sync, R: Threads + Sync>(
     rt: &R,
     alloc: Global,
@@ -25,7 +26,8 @@ pub(crate) fn ask_with_help<O: Fork + Send, G: Gate + Sync, R: Threads + Sync>(
     questions: &[Active],
 ) -> Asked<O>
     requires { IsErrand context (O.stands oracle) questions.now }
-    ensures { IsAsked context (O.stands oracle) (O.stands result.oracle) questions.now result.answers }
+    ensures { IsAsked context (O.stands oracle) (O.stands result.oracle) questions.now
+        result.answers }
 {
     let helpers = workforce.lend(questions.len());
     let asked = ask_in_parts(rt, alloc, gate, context, oracle, questions, helpers + 1);
@@ -33,10 +35,11 @@ pub(crate) fn ask_with_help<O: Fork + Send, G: Gate + Sync, R: Threads + Sync>(
     asked
 }
 
-/// Asks the oracle of the context the questions by so many oracles at once, of which each but the first is a fork. The
-/// answers are in order, and the oracle takes over what the others were asked: so it is as if the questions were asked
-/// in turn, whatever the number of parts. Where there is no fork, for want of memory, the questions that are left are
-/// asked in turn. The gate is called before each question.
+/// Asks the oracle of the context the questions by so many oracles at once, of which each but the
+/// first is a fork. The answers are in order, and the oracle takes over what the others were asked:
+/// so it is as if the questions were asked in turn, whatever the number of parts. Where there is no
+/// fork, for want of memory, the questions that are left are asked in turn. The gate is called
+/// before each question.
 ///
 /// If oracles halt, the halt is that of the first part that has one, or `Memory`.
 fn ask_in_parts<O: Fork + Send, G: Gate + Sync, R: Threads + Sync>(
@@ -49,7 +52,8 @@ fn ask_in_parts<O: Fork + Send, G: Gate + Sync, R: Threads + Sync>(
     parts: usize,
 ) -> Asked<O>
     requires { IsErrand context (O.stands oracle) questions.now }
-    ensures { IsAsked context (O.stands oracle) (O.stands result.oracle) questions.now result.answers }
+    ensures { IsAsked context (O.stands oracle) (O.stands result.oracle) questions.now
+        result.answers }
 {
     if parts < 2 {
         return ask_in_turn(alloc, gate, context, oracle, questions);
@@ -62,12 +66,15 @@ fn ask_in_parts<O: Fork + Send, G: Gate + Sync, R: Threads + Sync>(
     let (there, here) = join(
         rt,
         move || -> Asked<O>
-            requires { IsSync R.row × IsSync G.row × IsSend O.row × (1 < parts) × IsErrand context (O.stands other) back.now }
-            ensures { IsAsked context (O.stands other) (O.stands result.oracle) back.entry.now result.answers }
+            requires { IsSync R.row × IsSync G.row × IsSend O.row × (1 < parts)
+                × IsErrand context (O.stands other) back.now }
+            ensures { IsAsked context (O.stands other)
+                (O.stands result.oracle) back.entry.now result.answers }
         { ask_in_parts(rt, alloc, gate, context, other, back, parts - 1) },
         move || -> Asked<O>
             requires { IsErrand context (O.stands oracle) front.now }
-            ensures { IsAsked context (O.stands oracle) (O.stands result.oracle) front.entry.now result.answers }
+            ensures { IsAsked context (O.stands oracle)
+                (O.stands result.oracle) front.entry.now result.answers }
         { ask_in_turn(alloc, gate, context, oracle, front) },
     );
     join_asked(alloc, here, there)
@@ -82,7 +89,8 @@ fn ask_in_turn<O: Oracle, G: Gate>(
     questions: &[Active],
 ) -> Asked<O>
     requires { IsErrand context (O.stands oracle) questions.now }
-    ensures { IsAsked context (O.stands oracle) (O.stands result.oracle) questions.now result.answers }
+    ensures { IsAsked context (O.stands oracle) (O.stands result.oracle) questions.now
+        result.answers }
 {
     InTurn::new(gate).ask_all(alloc, context, oracle, questions)
 }
@@ -98,7 +106,8 @@ fn first_part(questions: &[Active], parts: usize) -> (&[Active], &[Active])
 /// What an oracle and its fork were asked, as what the oracle was asked alone, in turn.
 fn join_asked<O: Fork>(alloc: Global, first: Asked<O>, second: Asked<O>) -> Asked<O>
     requires { with_journal [] (O.stands second.oracle) ≡ with_journal [] (O.stands first.oracle) }
-    ensures { (context : ℕ) (before fork : OracleState) (front back : List ℕ) → fork ≡ with_journal [] before
+    ensures { (context : ℕ) (before fork : OracleState) (front back : List ℕ)
+        → fork ≡ with_journal [] before
         → IsAsked context before (O.stands first.oracle) front first.answers
         → IsAsked context fork (O.stands second.oracle) back second.answers
         → IsAsked context before (O.stands result.oracle) (front ++ back) result.answers }
@@ -115,7 +124,8 @@ fn join_asked<O: Fork>(alloc: Global, first: Asked<O>, second: Asked<O>) -> Aske
     Asked { oracle, answers }
 }
 
-/// The answers of both, or the halt of the first that has one. The oracle takes over what its fork was asked.
+/// The answers of both, or the halt of the first that has one. The oracle takes over what its fork
+/// was asked.
 fn join_answers<O: Fork>(
     alloc: Global,
     oracle: &mut O,
@@ -126,7 +136,9 @@ fn join_answers<O: Fork>(
     requires { with_journal [] (O.stands fork) ≡ with_journal [] (O.stands oracle.old) }
     ensures answers { IfOk result (AreJoined front back) }
     ensures halt { IfErr result (IsHaltOfEither front back) }
-    ensures journal { OnOk result (O.stands oracle.new ≡ with_journal ((O.stands oracle.old).journal ++ (O.stands fork).journal) (O.stands oracle.old)) }
+    ensures journal { OnOk result (O.stands oracle.new
+        ≡ with_journal ((O.stands oracle.old).journal ++ (O.stands fork).journal)
+        (O.stands oracle.old)) }
     ensures rest { with_journal [] (O.stands oracle.new) ≡ with_journal [] (O.stands oracle.old) }
 {
     oracle.absorb(alloc, fork)?;

@@ -12,8 +12,9 @@ use mcs_mesh::{Evaluation, NodeList, Played, Player, Round};
 use std::alloc::Global;
 use std::marker::PhantomData;
 
-/// Evaluates a system with worker threads. The closure plays its rounds: it is made where the handles of threads are at
-/// hand, and where it is known that oracles may go to other threads, and calls `play_in_threads`.
+/// Evaluates a system with worker threads. The closure plays its rounds: it is made where the
+/// handles of threads are at hand, and where it is known that oracles may go to other threads, and
+/// calls `play_in_threads`.
 pub type Crew<'a, N, F> = Evaluation<CrewPlayer<'a, N, F>>;
 
 /// Plays rounds by so many workers, through a closure.
@@ -47,9 +48,12 @@ impl<'a, N: NodeList, F: Fn(Round<N>) -> Played<N, Trail>> Player for CrewPlayer
 
     ghost plays_last = { true };
 
-    ghost can_play = { λ p. PlaysRounds p.workers (λ r. arc_value r.plan) (λ r. r.level) (λ r. r.budget) (λ r. r.asked) (λ r. N.seen r.nodes) (λ s. N.seen s.nodes) (λ s. s.total) (λ s. trail_of s.trail) F.pre F.post p.play.now };
+    ghost can_play = { λ p. PlaysRounds p.workers (λ r. arc_value r.plan) (λ r. r.level)
+        (λ r. r.budget) (λ r. r.asked) (λ r. N.seen r.nodes) (λ s. N.seen s.nodes) (λ s. s.total)
+        (λ s. trail_of s.trail) F.pre F.post p.play.now };
 
-    ghost leaves = { λ workers m level budget nodes total trail. IsTrail m level workers nodes total (trail_of trail) × HasEnded m level nodes total };
+    ghost leaves = { λ workers m level budget nodes total trail.
+        IsTrail m level workers nodes total (trail_of trail) × HasEnded m level nodes total };
 
     fn plays_last_level() -> bool {
         true
@@ -57,10 +61,16 @@ impl<'a, N: NodeList, F: Fn(Round<N>) -> Played<N, Trail>> Player for CrewPlayer
 
     #[tactic(auto, using(crate::proofs::ToldLemmas::has_ended))]
     fn play(&self, _alloc: Global, round: Round<N>) -> Played<N, Trail>
-        requires can { PlaysRounds self.now.workers (λ r. arc_value r.plan) (λ r. r.level) (λ r. r.budget) (λ r. r.asked) (λ r. N.seen r.nodes) (λ s. N.seen s.nodes) (λ s. s.total) (λ s. trail_of s.trail) F.pre F.post self.now.play.now }
-        requires ready { IsReadyRound (arc_value round.plan) round.level round.budget round.asked (N.seen round.nodes) }
-        ensures played { IsPlayed (arc_value round.plan) round.level round.budget (N.seen round.nodes) (N.seen result.nodes) result.total }
-        ensures left { IsTrail (arc_value round.plan) round.level self.now.workers (N.seen result.nodes) result.total (trail_of result.trail) × HasEnded (arc_value round.plan) round.level (N.seen result.nodes) result.total }
+        requires can { PlaysRounds self.now.workers (λ r. arc_value r.plan) (λ r. r.level)
+            (λ r. r.budget) (λ r. r.asked) (λ r. N.seen r.nodes) (λ s. N.seen s.nodes)
+            (λ s. s.total) (λ s. trail_of s.trail) F.pre F.post self.now.play.now }
+        requires ready { IsReadyRound (arc_value round.plan) round.level round.budget round.asked
+            (N.seen round.nodes) }
+        ensures played { IsPlayed (arc_value round.plan) round.level round.budget
+            (N.seen round.nodes) (N.seen result.nodes) result.total }
+        ensures left { IsTrail (arc_value round.plan) round.level self.now.workers
+            (N.seen result.nodes) result.total (trail_of result.trail)
+            × HasEnded (arc_value round.plan) round.level (N.seen result.nodes) result.total }
     {
         (self.play)(round)
     }

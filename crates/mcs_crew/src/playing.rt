@@ -7,7 +7,8 @@ ghost use Rattle.mcs_system.specs.Plain.{System};
 ghost use Rattle.mcs_node.specs.Nodes.{NodeData};
 ghost use Rattle.mcs_mesh.specs.Players.{IsPlayed, IsReadyRound, as_new};
 ghost use Rattle.mcs_crew.specs.Rounds.{HaveBeenPlayed, IsTold};
-ghost use Rattle.mcs_crew.specs.Trails.{IsNoTrail, IsToldHalt, IsTrail, IsTrailAfter, group_count, trail_of};
+ghost use Rattle.mcs_crew.specs.Trails.{IsNoTrail, IsToldHalt, IsTrail, IsTrailAfter, group_count};
+ghost use Rattle.mcs_crew.specs.Trails.{trail_of};
 
 use crate::crew::work_all;
 use crate::dealing::{collect, deal};
@@ -27,18 +28,22 @@ use std::alloc::Global;
 use std::sync::{Arc, Wait};
 use std::thread::Threads;
 
-/// Plays the round with so many workers, but at most one for each context. The node of context `i` is in the group `i`
-/// modulo the number of workers used. Each group is worked by a thread of its own, but for the first and those for
-/// which no thread can be made: the caller works these. Each letter goes through the inbox of its addressee's group,
-/// and each total is drawn from one word. The gate is called before each question.
+/// Plays the round with so many workers, but at most one for each context. The node of context `i`
+/// is in the group `i` modulo the number of workers used. Each group is worked by a thread of its
+/// own, but for the first and those for which no thread can be made: the caller works these. Each
+/// letter goes through the inbox of its addressee's group, and each total is drawn from one word.
+/// The gate is called before each question.
 ///
-/// Workers that have no group, wait for a letter, or have done their part, help the others: the questions of a context
-/// are asked in parts then, by forks of its oracle. That changes no answer and no journal.
+/// Workers that have no group, wait for a letter, or have done their part, help the others: the
+/// questions of a context are asked in parts then, by forks of its oracle. That changes no answer
+/// and no journal.
 ///
-/// With fewer than two workers used, the round is played in turn, and the call waits for nobody. Otherwise it may wait.
+/// With fewer than two workers used, the round is played in turn, and the call waits for nobody.
+/// Otherwise it may wait.
 ///
-/// All nodes come back in every case, and of their oracles nothing but the journals ever changes. `Spent` and `Missing`
-/// are those of the lowest node that stopped by itself. `Memory` may come back in place of any other answer.
+/// All nodes come back in every case, and of their oracles nothing but the journals ever changes.
+/// `Spent` and `Missing` are those of the lowest node that stopped by itself. `Memory` may come
+/// back in place of any other answer.
 pub fn play_in_threads<O: Fork + Send, G: Gate + Sync, R: Threads + Wait + Sync>(
     rt: &R,
     alloc: Global,
@@ -46,10 +51,14 @@ pub fn play_in_threads<O: Fork + Send, G: Gate + Sync, R: Threads + Wait + Sync>
     workers: u32,
     round: Round<Nodes<O>>,
 ) -> Played<Nodes<O>, Trail>
-    requires ready { IsReadyRound (arc_value round.plan) round.level round.budget round.asked round.nodes.list.items }
-    ensures played { IsPlayed (arc_value round.plan) round.level round.budget round.nodes.list.items result.nodes.list.items result.total }
-    ensures told { 2 ≤ group_count workers (length round.nodes.list.items) → IfErr result.total (IsToldHalt result.nodes.list.items) }
-    ensures trail { IsTrail (arc_value round.plan) round.level workers result.nodes.list.items result.total (trail_of result.trail) }
+    requires ready { IsReadyRound (arc_value round.plan) round.level round.budget round.asked
+        round.nodes.list.items }
+    ensures played { IsPlayed (arc_value round.plan) round.level round.budget
+        round.nodes.list.items result.nodes.list.items result.total }
+    ensures told { 2 ≤ group_count workers (length round.nodes.list.items)
+        → IfErr result.total (IsToldHalt result.nodes.list.items) }
+    ensures trail { IsTrail (arc_value round.plan) round.level workers result.nodes.list.items
+        result.total (trail_of result.trail) }
 {
     let groups = group_count(workers, round.plan.system().contexts().len());
     if groups < 2 {
@@ -89,8 +98,10 @@ fn play_alone<O: Oracle, G: Gate>(
     gate: &G,
     round: Round<Nodes<O>>,
 ) -> Played<Nodes<O>, Trail>
-    requires ready { IsReadyRound (arc_value round.plan) round.level round.budget round.asked round.nodes.list.items }
-    ensures played { IsPlayed (arc_value round.plan) round.level round.budget round.nodes.list.items result.nodes.list.items result.total }
+    requires ready { IsReadyRound (arc_value round.plan) round.level round.budget round.asked
+        round.nodes.list.items }
+    ensures played { IsPlayed (arc_value round.plan) round.level round.budget
+        round.nodes.list.items result.nodes.list.items result.total }
     ensures trail { IsNoTrail (trail_of result.trail) }
 {
     let Played { nodes, total, .. } = TurnPlayer::new(gate).play(alloc, round);
@@ -101,8 +112,9 @@ fn play_alone<O: Oracle, G: Gate>(
     }
 }
 
-/// Plays the round of the level by so many groups, after so many questions were asked; the workers that have no group
-/// help. All that takes memory is made, and all nodes have begun, before a letter is sent.
+/// Plays the round of the level by so many groups, after so many questions were asked; the workers
+/// that have no group help. All that takes memory is made, and all nodes have begun, before a
+/// letter is sent.
 fn play_groups<O: Fork + Send, G: Gate + Sync, R: Threads + Wait + Sync>(
     rt: &R,
     alloc: Global,
@@ -114,12 +126,15 @@ fn play_groups<O: Fork + Send, G: Gate + Sync, R: Threads + Wait + Sync>(
     groups: u32,
     nodes: &mut Vec<Node<O>>,
 ) -> Result<Ended, Memory>
-    requires ready { (budget : ℕ) × IsReadyRound (arc_value plan.now) level budget asked nodes.old.items }
+    requires ready { (budget : ℕ)
+        × IsReadyRound (arc_value plan.now) level budget asked nodes.old.items }
     requires groups { (2 ≤ groups) × (groups ≤ 64) }
     requires valid { IsValid (arc_value plan.now) }
     ensures same { map as_new nodes.new.items ≡ map as_new nodes.old.items }
-    ensures played { IfOk result (λ ended. (budget : ℕ) (ready : IsReadyRound (arc_value plan.now) level budget asked nodes.old.items)
-        → HaveBeenPlayed (arc_value plan.now) level budget asked ready.before groups nodes.new.items ended.wires.items ended.word) }
+    ensures played { IfOk result (λ ended. (budget : ℕ)
+        (ready : IsReadyRound (arc_value plan.now) level budget asked nodes.old.items)
+        → HaveBeenPlayed (arc_value plan.now) level budget asked ready.before groups
+        nodes.new.items ended.wires.items ended.word) }
 {
     let hall = hall_of(alloc, groups, workers)?;
     begin_all(alloc, level, nodes)?;
@@ -139,9 +154,11 @@ fn play_groups<O: Fork + Send, G: Gate + Sync, R: Threads + Wait + Sync>(
 /// What is told of a round that groups have played, by how its nodes have ended.
 fn told<O: Oracle>(alloc: Global, nodes: Vec<Node<O>>, ended: Ended) -> Played<Nodes<O>, Trail>
     ensures nodes { result.nodes.list ≡ nodes }
-    ensures told { (m : System) (level budget asked groups : ℕ) (first : List NodeData) (ready : IsReadyRound m level budget asked first)
+    ensures told { (m : System) (level budget asked groups : ℕ) (first : List NodeData)
+        (ready : IsReadyRound m level budget asked first)
         → map as_new nodes.items ≡ map as_new first
-        → HaveBeenPlayed m level budget asked ready.before groups nodes.items ended.wires.items ended.word
+        → HaveBeenPlayed m level budget asked ready.before groups nodes.items ended.wires.items
+        ended.word
         → IsTold m level budget groups first nodes.items result.total (trail_of result.trail) }
 {
     let Ended { wires, word } = ended;

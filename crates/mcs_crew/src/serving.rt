@@ -13,7 +13,8 @@ use mcs_states::Oracle;
 use std::alloc::Global;
 use std::sync::Wait;
 
-/// If the node waits for its grant, draws its need from the word, and grants it the total that comes back.
+/// If the node waits for its grant, draws its need from the word, and grants it the total that
+/// comes back.
 fn grant_need<A: Asker>(
     alloc: Global,
     draw: &Draw,

@@ -14,7 +14,8 @@ use mcs_states::Oracle;
 use std::alloc::Global;
 use std::sync::Wait;
 
-/// The place of a context's node among so many, which are those of its group, from the last to the first.
+/// The place of a context's node among so many, which are those of its group, from the last to the
+/// first.
 fn place_of(context: u32, nodes: usize, groups: usize) -> Option<usize>
     requires { 0 < groups }
     ensures { IfSome result (λ place. place < nodes) }
@@ -24,8 +25,8 @@ fn place_of(context: u32, nodes: usize, groups: usize) -> Option<usize>
 }
 
 impl<O: Oracle> Team<O> {
-    /// Hands the letter to its node, grants this its need, if it waits for it then, and sends what it puts out. A
-    /// letter that no node awaits is ignored.
+    /// Hands the letter to its node, grants this its need, if it waits for it then, and sends what
+    /// it puts out. A letter that no node awaits is ignored.
     fn take_in<A: Asker<Of = O>, R: Wait>(
         &mut self,
         rt: &R,
@@ -38,7 +39,8 @@ impl<O: Oracle> Team<O> {
         requires asks { A.asks asker.now }
         requires team { CanServe (team_of self.old) }
         ensures goes_on { GoesOn (team_of self.old) (team_of self.new) }
-        ensures had { HasHadOne letter (team_of self.old) (team_of self.new) ⊎ HasHadNone (team_of self.old) (team_of self.new) }
+        ensures had { HasHadOne letter (team_of self.old) (team_of self.new)
+            ⊎ HasHadNone (team_of self.old) (team_of self.new) }
     {
         let Some(place) = place_of(letter.to(), self.nodes.len(), self.addresses.len()) else {
             return;
@@ -52,7 +54,8 @@ impl<O: Oracle> Team<O> {
         requires place { place < vec_len self.old.nodes }
         requires team { CanServe (team_of self.old) }
         ensures goes_on { GoesOn (team_of self.old) (team_of self.new) }
-        ensures had { HasHadOne letter (team_of self.old) (team_of self.new) ⊎ HasHadNone (team_of self.old) (team_of self.new) }
+        ensures had { HasHadOne letter (team_of self.old) (team_of self.new)
+            ⊎ HasHadNone (team_of self.old) (team_of self.new) }
         ensures many { vec_len self.new.nodes ≡ vec_len self.old.nodes }
     {
         let node = &mut self.nodes[place];
@@ -62,8 +65,9 @@ impl<O: Oracle> Team<O> {
 }
 
 impl<O: Oracle> Load<O> {
-    /// Works the load: grants the nodes that need no letter, then takes as many letters as the nodes await, and hands
-    /// each to its node. It may wait for a letter; then, and once the load is worked off, its worker rests.
+    /// Works the load: grants the nodes that need no letter, then takes as many letters as the
+    /// nodes await, and hands each to its node. It may wait for a letter; then, and once the load
+    /// is worked off, its worker rests.
     pub fn work<A: Asker<Of = O>, R: Wait>(
         &mut self,
         rt: &R,
@@ -101,8 +105,8 @@ impl<O: Oracle> Load<O> {
         self.team.begin(rt, alloc, draw, asker);
     }
 
-    /// Does a part of the work without waiting for a letter: the begin, or the next letter if there is one. Returns
-    /// whether it did anything.
+    /// Does a part of the work without waiting for a letter: the begin, or the next letter if there
+    /// is one. Returns whether it did anything.
     pub fn work_on<A: Asker<Of = O>, R: Wait>(
         &mut self,
         rt: &R,

@@ -6,8 +6,9 @@ use mcs_draw::Closed;
 use mcs_wire::Settled;
 use std::alloc::Global;
 
-/// What is to be seen of a round: its wires, one for each group, in order, and the word that totals were drawn from.
-/// There is nothing to be seen if fewer than two workers were used, or after want of memory.
+/// What is to be seen of a round: its wires, one for each group, in order, and the word that totals
+/// were drawn from. There is nothing to be seen if fewer than two workers were used, or after want
+/// of memory.
 #[derive(Drop)]
 pub struct Trail {
     pub wires: Vec<Settled>,

@@ -13,10 +13,12 @@ use mcs_wire::{Address, Ends, Inbox, wire};
 use std::alloc::Global;
 use std::sync::Arc;
 
-/// How many letters the nodes of the group await: one from each context that supplies one of theirs.
+/// How many letters the nodes of the group await: one from each context that supplies one of
+/// theirs.
 pub(crate) fn awaited(plan: &Plan, group: u32, groups: u32) -> usize
     requires { 0 < groups }
-    ensures { (order : List ℕ) → IsImportOrder plan.now order → result ≡ awaited_by plan.now order groups group (length plan.now.contexts) }
+    ensures { (order : List ℕ) → IsImportOrder plan.now order
+        → result ≡ awaited_by plan.now order groups group (length plan.now.contexts) }
 {
     let mut count = 0;
     for i in 0..plan.system().contexts().len() as u32 {
@@ -27,8 +29,8 @@ pub(crate) fn awaited(plan: &Plan, group: u32, groups: u32) -> usize
     count
 }
 
-/// The wire of the group. Its inbox holds all letters that the group awaits, and it has an address for each group, and
-/// one that stays with the caller.
+/// The wire of the group. Its inbox holds all letters that the group awaits, and it has an address
+/// for each group, and one that stays with the caller.
 fn wire_of(alloc: Global, plan: &Arc<Plan>, group: u32, groups: u32) -> Result<Ends, Memory>
     requires { (0 < groups) × (groups ≤ 64) }
     ensures { IfOk result (λ ends. AreEnds (arc_value plan.now) groups ends.address ends.inbox) }
@@ -47,7 +49,8 @@ pub(crate) struct Wires {
 /// A wire for each of so many groups.
 pub(crate) fn wires_of(alloc: Global, plan: &Arc<Plan>, groups: u32) -> Result<Wires, Memory>
     requires { (0 < groups) × (groups ≤ 64) }
-    ensures { IfOk result (λ wires. AreWires (arc_value plan.now) groups groups wires.addresses.items wires.inboxes.items) }
+    ensures { IfOk result (λ wires. AreWires (arc_value plan.now) groups groups
+        wires.addresses.items wires.inboxes.items) }
 {
     let mut addresses = Vec::new(alloc);
     let mut inboxes = Vec::new(alloc);

@@ -7,8 +7,9 @@ use std::sync::atomic::{AtomicUsize, Ordering};
 /// For so many questions one thread more may help.
 const QUESTIONS_A_HELPER: usize = 32;
 
-/// The workers of a round, and how many threads are at work for it. A thread that reads the number knows nothing of it.
-/// It is only for the choice in how many parts questions are asked, and each choice has the same answers.
+/// The workers of a round, and how many threads are at work for it. A thread that reads the number
+/// knows nothing of it. It is only for the choice in how many parts questions are asked, and each
+/// choice has the same answers.
 #[derive(Drop)]
 pub(crate) struct Workforce {
     workers: usize,
@@ -34,8 +35,8 @@ impl Workforce {
         self.busy.fetch_add(1, Ordering::SeqCst);
     }
 
-    /// How many threads may help with so many questions: as many as workers rest, but at most one for each
-    /// `QUESTIONS_A_HELPER` of them. They count as busy until they are released.
+    /// How many threads may help with so many questions: as many as workers rest, but at most one
+    /// for each `QUESTIONS_A_HELPER` of them. They count as busy until they are released.
     pub fn lend(&self, questions: usize) -> usize
         ensures { result ≤ questions / QUESTIONS_A_HELPER }
     {

@@ -45,8 +45,8 @@ pub(crate) fn says_yes(entail: &Entail) -> bool
     }
 }
 
-/// The number, from 1, of what stands at the index. Certificates have no numbers from 2^32 on: there, and only there,
-/// the answer is want of memory.
+/// The number, from 1, of what stands at the index. Certificates have no numbers from 2^32 on:
+/// there, and only there, the answer is want of memory.
 fn numbered(index: usize) -> Result<u32, Memory>
     ensures number { IfOk result (λ n. n ≡ index + 1) }
     ensures none { OnErr result (2 ^ 32 ≤ index + 1) }
@@ -67,8 +67,10 @@ fn refutes_from(
     requires over { IsOver (theory_names theory.now) (formula_of formula.now) }
     requires room { length (theory_names theory.now) ≤ known.old.vars }
     ensures kept { known.new ≡ known.old }
-    ensures accepted { IfOk result (λ e. (fs : List plain.Formula) → AreClausesOf (theory_names theory.now) fs known.old
-        → IsAcceptedEntailment (theory_names theory.now) fs (plain.Not (formula_of formula.now)) (entailment_of e)) }
+    ensures accepted { IfOk result (λ e. (fs : List plain.Formula)
+        → AreClausesOf (theory_names theory.now) fs known.old
+        → IsAcceptedEntailment (theory_names theory.now) fs (plain.Not (formula_of formula.now))
+        (entailment_of e)) }
 {
     let goal = Formula::Not(Box::new(alloc, formula.copy(alloc)?)?);
     let given = Given {
@@ -90,7 +92,8 @@ pub(crate) fn ask_justs(
     requires over { AreOver (theory_names theory.now) (map formula_of justs.now) }
     requires room { length (theory_names theory.now) ≤ known.old.vars }
     ensures kept { known.new ≡ known.old }
-    ensures told { IfOk result (λ told. (fs : List plain.Formula) → AreClausesOf (theory_names theory.now) fs known.old
+    ensures told { IfOk result (λ told. (fs : List plain.Formula)
+        → AreClausesOf (theory_names theory.now) fs known.old
         → IsToldOfJusts (theory_names theory.now) fs (map formula_of justs.now) told) }
 {
     let mut allowed = Vec::new(alloc);
@@ -116,7 +119,8 @@ pub(crate) fn ask_default(
     requires over { IsOverDefault (theory_names theory.now) (default_of default.now) }
     requires room { length (theory_names theory.now) ≤ known.old.vars }
     ensures kept { known.new ≡ known.old }
-    ensures told { IfOk result (λ told. (fs : List plain.Formula) → AreClausesOf (theory_names theory.now) fs known.old
+    ensures told { IfOk result (λ told. (fs : List plain.Formula)
+        → AreClausesOf (theory_names theory.now) fs known.old
         → IsToldOfDefault (theory_names theory.now) fs (default_of default.now) number told) }
 {
     let given = Given {

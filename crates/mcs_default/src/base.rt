@@ -27,8 +27,8 @@ use mcs_classical::{Given, assumed};
 use mcs_system::{Name, TheoryItem};
 use std::alloc::Global;
 
-/// A default theory that is asked for its extensions with one set of assumptions after the other: the clauses of its
-/// facts, ready for searches, and what was found with these sets.
+/// A default theory that is asked for its extensions with one set of assumptions after the other:
+/// the clauses of its facts, ready for searches, and what was found with these sets.
 #[derive(Drop)]
 pub struct TheoryBase {
     findings: Findings,
@@ -46,11 +46,13 @@ struct Selected {
 }
 
 impl TheoryBase {
-    /// The theory of these items, with which nothing was found yet. All atoms are among these, at most 64.
+    /// The theory of these items, with which nothing was found yet. All atoms are among these, at
+    /// most 64.
     pub fn new(alloc: Global, items: &[TheoryItem], atoms: &[Name]) -> Result<TheoryBase, Memory>
         requires few { length atoms.now ≤ 64 }
         requires items { AreOverItems atoms.now (map item_of items.now) }
-        ensures { IfOk result (λ base. (given : List declared.Assumption) → IsTheoryBase atoms.now (map item_of items.now) given base) }
+        ensures { IfOk result (λ base. (given : List declared.Assumption)
+            → IsTheoryBase atoms.now (map item_of items.now) given base) }
     {
         let facts = facts_base(alloc, items, atoms)?;
         Ok(TheoryBase {
@@ -67,8 +69,10 @@ impl TheoryBase {
         ensures lower { self.new.lower ≡ self.old.lower }
         ensures upper { self.new.upper ≡ self.old.upper }
         ensures conflicts { self.new.conflicts ≡ self.old.conflicts }
-        ensures right { OnOk result ((names : List plain.Name) (items : List plain.Item) (given : List declared.Assumption) → IsTheoryBase names items given self.old
-            → IsLower (items_with items given set) said → AreRightFindings names (items_with items given set) self.new.findings) }
+        ensures right { OnOk result ((names : List plain.Name) (items : List plain.Item)
+            (given : List declared.Assumption) → IsTheoryBase names items given self.old
+            → IsLower (items_with items given set) said
+            → AreRightFindings names (items_with items given set) self.new.findings) }
     {
         select_lower(&self.lower, set, &mut self.findings.lower)?;
         self.findings.lower.push(said)?;
@@ -81,10 +85,13 @@ impl TheoryBase {
         })
     }
 
-    /// Keeps what was found with this set of assumptions, beside what was selected; where memory runs out, a part of
-    /// it.
+    /// Keeps what was found with this set of assumptions, beside what was selected; where memory
+    /// runs out, a part of it.
     fn keep(&mut self, selected: Selected, given: &Given<'_>, set: Active) -> Result<(), Memory>
-        ensures { (items : List plain.Item) → IsTheoryBase (given_names given.now) items given.now.assumptions.now self.old → AreRightFindings (given_names given.now) (items_with items given.now.assumptions.now set) self.old.findings
+        ensures { (items : List plain.Item) → IsTheoryBase
+            (given_names given.now) items given.now.assumptions.now self.old
+            → AreRightFindings (given_names given.now)
+            (items_with items given.now.assumptions.now set) self.old.findings
             → IsTheoryBase (given_names given.now) items given.now.assumptions.now self.new }
     {
         keep_lower(&self.findings.lower, selected.lower, set, &mut self.lower)?;
@@ -97,10 +104,11 @@ impl TheoryBase {
         )
     }
 
-    /// The views of the extensions of the theory with some of the assumptions as facts: those whose numbers are in the
-    /// set. The view of an extension is the set of the numbers, from 0, of the beliefs that it has. Each view is listed
-    /// once, in the order of states. There are at most 10 defaults. What is found serves for the sets that come later;
-    /// where memory runs out, what is kept stays right.
+    /// The views of the extensions of the theory with some of the assumptions as facts: those whose
+    /// numbers are in the set. The view of an extension is the set of the numbers, from 0, of the
+    /// beliefs that it has. Each view is listed once, in the order of states. There are at most 10
+    /// defaults. What is found serves for the sets that come later; where memory runs out, what is
+    /// kept stays right.
     pub fn list_extensions(
         &mut self,
         alloc: Global,
@@ -110,9 +118,13 @@ impl TheoryBase {
     ) -> Result<Vec<Vars>, Memory>
         requires few_defaults { length (defaults_of (map item_of items.now)) ≤ 10 }
         requires items { AreOverItems (given_names given.now) (map item_of items.now) }
-        requires base { IsTheoryBase (given_names given.now) (map item_of items.now) given.now.assumptions.now self.old }
-        ensures base { IsTheoryBase (given_names given.now) (map item_of items.now) given.now.assumptions.now self.new }
-        ensures exact { IfOk result (λ views. IsListing (IsAcceptedView (with_heads (DefaultTheory (map item_of items.now)) (given_with given.now set)) (given_beliefs given.now)) StateBefore views.items) }
+        requires base { IsTheoryBase (given_names given.now)
+            (map item_of items.now) given.now.assumptions.now self.old }
+        ensures base { IsTheoryBase (given_names given.now)
+            (map item_of items.now) given.now.assumptions.now self.new }
+        ensures exact { IfOk result (λ views. IsListing
+            (IsAcceptedView (with_heads (DefaultTheory (map item_of items.now))
+            (given_with given.now set)) (given_beliefs given.now)) StateBefore views.items) }
     {
         let heads = assumed(alloc, given.assumptions, set)?;
         let said = lower_of_said(alloc, items, &heads)?;

@@ -6,7 +6,8 @@ ghost use Rattle.mcs_system.specs.Logic.{Entails};
 ghost use Rattle.mcs_system.specs.Plain as plain;
 ghost use Rattle.mcs_system.specs.Seen.{formula_of};
 ghost use Rattle.mcs_evidence.specs.Defaults.{generated};
-ghost use Rattle.mcs_default.specs.Searches.{IsLower, IsUpper, IsSupportedAt, IsUnsupportedAt, IsAllowedAt, IsBlockedAt, IsConflict};
+ghost use Rattle.mcs_default.specs.Searches.{IsLower, IsUpper, IsSupportedAt, IsUnsupportedAt};
+ghost use Rattle.mcs_default.specs.Searches.{IsAllowedAt, IsBlockedAt, IsConflict};
 
 use mcs_base::{Memory, Vars};
 use mcs_sat::ClauseBase;
@@ -24,7 +25,8 @@ pub(crate) struct Lower {
     pub(crate) blocked: Vars,
 }
 
-/// What the consequents of a set of defaults are not enough for, nor those of any smaller set: an assignment shows it.
+/// What the consequents of a set of defaults are not enough for, nor those of any smaller set: an
+/// assignment shows it.
 #[derive(Clone, Copy)]
 pub(crate) struct Upper {
     /// The places of the atoms that are true under the assignment. The facts hold under it.
@@ -72,7 +74,8 @@ impl Findings {
 /// Whether it was found that the default at the index is supported by the set.
 pub(crate) fn is_supported(lower: &[Lower], set: Vars, index: u32) -> bool
     requires { index < 64 }
-    ensures { (items : List plain.Item) → AllByRecursion (IsLower items) lower.now → IsTrue result → IsSupportedAt items set index }
+    ensures { (items : List plain.Item) → AllByRecursion (IsLower items) lower.now → IsTrue result
+        → IsSupportedAt items set index }
 {
     for found in lower {
         if found.supported.has(index) && found.set.within(set) {
@@ -85,7 +88,8 @@ pub(crate) fn is_supported(lower: &[Lower], set: Vars, index: u32) -> bool
 /// Whether it was found that the default at the index is blocked by the set.
 pub(crate) fn is_blocked(lower: &[Lower], set: Vars, index: u32) -> bool
     requires { index < 64 }
-    ensures { (items : List plain.Item) → AllByRecursion (IsLower items) lower.now → IsTrue result → IsBlockedAt items set index }
+    ensures { (items : List plain.Item) → AllByRecursion (IsLower items) lower.now → IsTrue result
+        → IsBlockedAt items set index }
 {
     for found in lower {
         if found.blocked.has(index) && found.set.within(set) {
@@ -98,7 +102,9 @@ pub(crate) fn is_blocked(lower: &[Lower], set: Vars, index: u32) -> bool
 /// Whether it was found that the default at the index is not supported by the set.
 pub(crate) fn is_unsupported(upper: &[Upper], set: Vars, index: u32) -> bool
     requires { index < 64 }
-    ensures { (names : List plain.Name) (items : List plain.Item) → AllByRecursion (IsUpper names items) upper.now → IsTrue result → IsUnsupportedAt items set index }
+    ensures { (names : List plain.Name) (items : List plain.Item)
+        → AllByRecursion (IsUpper names items) upper.now → IsTrue result
+        → IsUnsupportedAt items set index }
 {
     for found in upper {
         if !found.supported.has(index) && set.within(found.set) {
@@ -111,7 +117,9 @@ pub(crate) fn is_unsupported(upper: &[Upper], set: Vars, index: u32) -> bool
 /// Whether it was found that the default at the index is not blocked by the set.
 pub(crate) fn is_allowed(upper: &[Upper], set: Vars, index: u32) -> bool
     requires { index < 64 }
-    ensures { (names : List plain.Name) (items : List plain.Item) → AllByRecursion (IsUpper names items) upper.now → IsTrue result → IsAllowedAt items set index }
+    ensures { (names : List plain.Name) (items : List plain.Item)
+        → AllByRecursion (IsUpper names items) upper.now → IsTrue result
+        → IsAllowedAt items set index }
 {
     for found in upper {
         if found.allowed.has(index) && set.within(found.set) {
@@ -123,7 +131,8 @@ pub(crate) fn is_allowed(upper: &[Upper], set: Vars, index: u32) -> bool
 
 /// Whether it was found that the facts and the consequents of the set contradict each other.
 pub(crate) fn has_conflict(conflicts: &[Vars], set: Vars) -> bool
-    ensures { (items : List plain.Item) → AllByRecursion (IsConflict items) conflicts.now → IsTrue result → IsConflict items set }
+    ensures { (items : List plain.Item) → AllByRecursion (IsConflict items) conflicts.now
+        → IsTrue result → IsConflict items set }
 {
     for conflict in conflicts {
         if conflict.within(set) {
@@ -135,7 +144,8 @@ pub(crate) fn has_conflict(conflicts: &[Vars], set: Vars) -> bool
 
 /// Whether it was found that they do not.
 pub(crate) fn is_consistent(upper: &[Upper], set: Vars) -> bool
-    ensures { (names : List plain.Name) (items : List plain.Item) → AllByRecursion (IsUpper names items) upper.now → IsTrue result → ¬ IsConflict items set }
+    ensures { (names : List plain.Name) (items : List plain.Item)
+        → AllByRecursion (IsUpper names items) upper.now → IsTrue result → ¬ IsConflict items set }
 {
     for found in upper {
         if set.within(found.set) {
@@ -145,11 +155,12 @@ pub(crate) fn is_consistent(upper: &[Upper], set: Vars) -> bool
     false
 }
 
-/// Whether it was found that the formula does not follow from the facts and the consequents of the set: an assignment
-/// under which all of these hold denies it.
+/// Whether it was found that the formula does not follow from the facts and the consequents of the
+/// set: an assignment under which all of these hold denies it.
 pub(crate) fn is_denied(upper: &[Upper], atoms: &[Name], set: Vars, formula: &Formula) -> bool
     requires { length atoms.now ≤ 64 }
-    ensures { (items : List plain.Item) → AllByRecursion (IsUpper atoms.now items) upper.now → IsTrue result → ¬ Entails (generated items set) (formula_of formula.now) }
+    ensures { (items : List plain.Item) → AllByRecursion (IsUpper atoms.now items) upper.now
+        → IsTrue result → ¬ Entails (generated items set) (formula_of formula.now) }
 {
     for found in upper {
         if set.within(found.set) && !holds_at(atoms, found.values, formula) {

@@ -35,7 +35,8 @@ pub(crate) enum Grounding {
     Stuck(u32, Vec<Entail>),
 }
 
-/// Defaults one after the other, by their numbers, and what shows of each that its prerequisite follows.
+/// Defaults one after the other, by their numbers, and what shows of each that its prerequisite
+/// follows.
 #[derive(Drop)]
 struct Order {
     numbers: Vec<u32>,
@@ -54,7 +55,8 @@ impl Order {
     }
 
     fn push(&mut self, number: u32, pre: Entail) -> Result<(), Memory>
-        ensures numbers { OnOk result (self.new.numbers.items ≡ self.old.numbers.items ++ number ∷ []) }
+        ensures numbers { OnOk result (self.new.numbers.items
+            ≡ self.old.numbers.items ++ number ∷ []) }
         ensures pres { OnOk result (self.new.pres.items ≡ self.old.pres.items ++ pre ∷ []) }
     {
         self.pres.push(pre)?;
@@ -63,11 +65,13 @@ impl Order {
     }
 }
 
-/// Asks of each default that is left whether its prerequisite follows, up to the first of which it does.
+/// Asks of each default that is left whether its prerequisite follows, up to the first of which it
+/// does.
 fn ask_next(alloc: Global, known: &mut Cnf, theory: &Theory<'_>, left: Vars) -> Result<Next, Memory>
     requires room { length (theory_names theory.now) ≤ known.old.vars }
     ensures kept { known.new ≡ known.old }
-    ensures told { IfOk result (λ told. (fs : List plain.Formula) → AreClausesOf (theory_names theory.now) fs known.old
+    ensures told { IfOk result (λ told. (fs : List plain.Formula)
+        → AreClausesOf (theory_names theory.now) fs known.old
         → IsToldNext (theory_names theory.now) fs (theory_defaults theory.now) left told) }
     ensures in_range { IfOk result (IsNextInRange (length theory.now.defaults.now) left) }
 {
@@ -99,7 +103,8 @@ fn ask_order(
     requires room { length (theory_names theory.now) ≤ known.old.vars }
     requires set { Within set (all_of (theory_defaults theory.now)) }
     ensures grown { OnOk result (HasMoreFormulas (theory_names theory.now) known.old known.new) }
-    ensures told { IfOk result (λ told. (fs : List plain.Formula) → AreClausesOf (theory_names theory.now) fs known.old
+    ensures told { IfOk result (λ told. (fs : List plain.Formula)
+        → AreClausesOf (theory_names theory.now) fs known.old
         → IsToldOfOrder (theory_names theory.now) fs (theory_defaults theory.now) set told) }
 {
     let defaults = theory.defaults;
@@ -137,7 +142,8 @@ pub(crate) fn tell_order(
     requires room { length (theory_names theory.now) ≤ known.old.vars }
     requires set { Within set (all_of (theory_defaults theory.now)) }
     ensures kept { OnOk result (known.new ≡ known.old) }
-    ensures told { IfOk result (λ told. (fs : List plain.Formula) → AreClausesOf (theory_names theory.now) fs known.old
+    ensures told { IfOk result (λ told. (fs : List plain.Formula)
+        → AreClausesOf (theory_names theory.now) fs known.old
         → IsToldOfOrder (theory_names theory.now) fs (theory_defaults theory.now) set told) }
 {
     let vars = known.vars();

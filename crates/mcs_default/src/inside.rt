@@ -22,7 +22,8 @@ pub(crate) enum Inside {
     Allowed(Vec<Entail>),
 }
 
-/// Asks of each default of the set whether the negation of a justification follows, up to the first that fails.
+/// Asks of each default of the set whether the negation of a justification follows, up to the first
+/// that fails.
 fn ask_inside(
     alloc: Global,
     known: &mut Cnf,
@@ -31,7 +32,8 @@ fn ask_inside(
 ) -> Result<Inside, Memory>
     requires room { length (theory_names theory.now) ≤ known.old.vars }
     ensures kept { known.new ≡ known.old }
-    ensures told { IfOk result (λ told. (fs : List plain.Formula) → AreClausesOf (theory_names theory.now) fs known.old
+    ensures told { IfOk result (λ told. (fs : List plain.Formula)
+        → AreClausesOf (theory_names theory.now) fs known.old
         → IsToldInside (theory_names theory.now) fs (theory_defaults theory.now) set told) }
 {
     let defaults = theory.defaults;
@@ -59,8 +61,10 @@ pub(crate) fn tell_inside(
 ) -> Result<Inside, Memory>
     requires room { length (theory_names theory.now) ≤ known.old.vars }
     ensures kept { OnOk result (known.new ≡ known.old) }
-    ensures told { IfOk result (λ told. (fs : List plain.Formula) → AreClausesOf (theory_names theory.now) fs known.old
-        → IsToldInside (theory_names theory.now) (fs ++ consequents (theory_defaults theory.now) set) (theory_defaults theory.now) set told) }
+    ensures told { IfOk result (λ told. (fs : List plain.Formula)
+        → AreClausesOf (theory_names theory.now) fs known.old
+        → IsToldInside (theory_names theory.now) (fs
+        ++ consequents (theory_defaults theory.now) set) (theory_defaults theory.now) set told) }
 {
     let vars = known.vars();
     let count = known.clauses().len();

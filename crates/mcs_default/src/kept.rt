@@ -26,8 +26,8 @@ pub(crate) struct KeptUpper {
     pub(crate) upper: Upper,
 }
 
-/// A set of defaults with whose consequents the facts and a set of assumptions contradict each other, and so with each
-/// larger set of assumptions.
+/// A set of defaults with whose consequents the facts and a set of assumptions contradict each
+/// other, and so with each larger set of assumptions.
 #[derive(Clone, Copy)]
 pub(crate) struct KeptConflict {
     pub(crate) assumed: Active,
@@ -40,7 +40,8 @@ pub(crate) fn select_lower(
     assumed: Active,
     lower: &mut Vec<Lower>,
 ) -> Result<(), Memory>
-    ensures { OnOk result ((items : List plain.Item) (given : List declared.Assumption) → AllByRecursion (IsKeptLower items given) kept.now
+    ensures { OnOk result ((items : List plain.Item) (given : List declared.Assumption)
+        → AllByRecursion (IsKeptLower items given) kept.now
         → AllByRecursion (IsLower (items_with items given assumed)) lower.new.items) }
 {
     lower.clear();
@@ -58,7 +59,8 @@ pub(crate) fn select_upper(
     assumed: Active,
     upper: &mut Vec<Upper>,
 ) -> Result<(), Memory>
-    ensures { OnOk result ((names : List plain.Name) (items : List plain.Item) (given : List declared.Assumption) → AllByRecursion (IsKeptUpper names items given) kept.now
+    ensures { OnOk result ((names : List plain.Name) (items : List plain.Item)
+        (given : List declared.Assumption) → AllByRecursion (IsKeptUpper names items given) kept.now
         → AllByRecursion (IsUpper names (items_with items given assumed)) upper.new.items) }
 {
     upper.clear();
@@ -76,7 +78,8 @@ pub(crate) fn select_conflicts(
     assumed: Active,
     conflicts: &mut Vec<Vars>,
 ) -> Result<(), Memory>
-    ensures { OnOk result ((items : List plain.Item) (given : List declared.Assumption) → AllByRecursion (IsKeptConflict items given) kept.now
+    ensures { OnOk result ((items : List plain.Item) (given : List declared.Assumption)
+        → AllByRecursion (IsKeptConflict items given) kept.now
         → AllByRecursion (IsConflict (items_with items given assumed)) conflicts.new.items) }
 {
     conflicts.clear();
@@ -88,15 +91,18 @@ pub(crate) fn select_conflicts(
     Ok(())
 }
 
-/// Keeps what was found with this set of assumptions, from the index on; where memory runs out, the first ones of it.
+/// Keeps what was found with this set of assumptions, from the index on; where memory runs out, the
+/// first ones of it.
 pub(crate) fn keep_lower(
     lower: &[Lower],
     from: usize,
     assumed: Active,
     kept: &mut Vec<KeptLower>,
 ) -> Result<(), Memory>
-    ensures { (items : List plain.Item) (given : List declared.Assumption) → AllByRecursion (IsLower (items_with items given assumed)) lower.now
-        → AllByRecursion (IsKeptLower items given) kept.old.items → AllByRecursion (IsKeptLower items given) kept.new.items }
+    ensures { (items : List plain.Item) (given : List declared.Assumption)
+        → AllByRecursion (IsLower (items_with items given assumed)) lower.now
+        → AllByRecursion (IsKeptLower items given) kept.old.items
+        → AllByRecursion (IsKeptLower items given) kept.new.items }
 {
     for index in from..lower.len() {
         kept.push(KeptLower {
@@ -114,8 +120,12 @@ pub(crate) fn keep_upper(
     given: &Given<'_>,
     kept: &mut Vec<KeptUpper>,
 ) -> Result<(), Memory>
-    ensures { (items : List plain.Item) (set : ℕ) → AllByRecursion (IsUpper (given_names given.now) (items_with items given.now.assumptions.now set)) upper.now
-        → AllByRecursion (IsKeptUpper (given_names given.now) items given.now.assumptions.now) kept.old.items → AllByRecursion (IsKeptUpper (given_names given.now) items given.now.assumptions.now) kept.new.items }
+    ensures { (items : List plain.Item) (set : ℕ)
+        → AllByRecursion (IsUpper (given_names given.now)
+        (items_with items given.now.assumptions.now set)) upper.now
+        → AllByRecursion (IsKeptUpper (given_names given.now) items given.now.assumptions.now)
+        kept.old.items → AllByRecursion (IsKeptUpper
+        (given_names given.now) items given.now.assumptions.now) kept.new.items }
 {
     for index in from..upper.len() {
         let found = upper[index];
@@ -134,8 +144,10 @@ pub(crate) fn keep_conflicts(
     assumed: Active,
     kept: &mut Vec<KeptConflict>,
 ) -> Result<(), Memory>
-    ensures { (items : List plain.Item) (given : List declared.Assumption) → AllByRecursion (IsConflict (items_with items given assumed)) conflicts.now
-        → AllByRecursion (IsKeptConflict items given) kept.old.items → AllByRecursion (IsKeptConflict items given) kept.new.items }
+    ensures { (items : List plain.Item) (given : List declared.Assumption)
+        → AllByRecursion (IsConflict (items_with items given assumed)) conflicts.now
+        → AllByRecursion (IsKeptConflict items given) kept.old.items
+        → AllByRecursion (IsKeptConflict items given) kept.new.items }
 {
     for index in from..conflicts.len() {
         kept.push(KeptConflict {

@@ -34,7 +34,8 @@ pub(crate) struct Known {
     pub(crate) blocked: Vars,
 }
 
-/// The sets of defaults that have all that is taken, and nothing that is not in `all`, with what is known of the two.
+/// The sets of defaults that have all that is taken, and nothing that is not in `all`, with what is
+/// known of the two.
 #[derive(Clone, Copy)]
 pub(crate) struct Node {
     pub(crate) taken: Known,
@@ -56,10 +57,12 @@ impl Known {
         }
     }
 
-    /// What is known of a set by which everything follows, where these defaults have no justification.
+    /// What is known of a set by which everything follows, where these defaults have no
+    /// justification.
     fn of_conflict(set: Vars, free: Vars) -> Known
         ensures set { result.set ≡ set }
-        ensures right { (items : List plain.Item) → free ≡ without_justs (defaults_of items) → IsConflict items set → IsKnown items result }
+        ensures right { (items : List plain.Item) → free ≡ without_justs (defaults_of items)
+            → IsConflict items set → IsKnown items result }
     {
         let all = Vars::numbered(TEN_DEFAULTS);
         Known {
@@ -74,7 +77,8 @@ impl Known {
     /// With what is known of a smaller set.
     fn with_lower(self, found: &Lower) -> Known
         ensures set { result.set ≡ self.set }
-        ensures right { (items : List plain.Item) → IsKnown items self → IsLower items found.now → IsKnown items result }
+        ensures right { (items : List plain.Item) → IsKnown items self → IsLower items found.now
+            → IsKnown items result }
     {
         if !found.set.within(self.set) {
             return self;
@@ -91,7 +95,8 @@ impl Known {
     /// With what an assignment shows of a larger set.
     fn with_upper(self, found: &Upper) -> Known
         ensures set { result.set ≡ self.set }
-        ensures right { (names : List plain.Name) (items : List plain.Item) → IsKnown items self → IsUpper names items found.now → IsKnown items result }
+        ensures right { (names : List plain.Name) (items : List plain.Item) → IsKnown items self
+            → IsUpper names items found.now → IsKnown items result }
     {
         if !self.set.within(found.set) {
             return self;
@@ -109,7 +114,8 @@ impl Known {
     /// With what is known of all smaller sets.
     fn with_all_lower(self, lower: &[Lower]) -> Known
         ensures set { result.set ≡ self.set }
-        ensures right { (items : List plain.Item) → IsKnown items self → AllByRecursion (IsLower items) lower.now → IsKnown items result }
+        ensures right { (items : List plain.Item) → IsKnown items self
+            → AllByRecursion (IsLower items) lower.now → IsKnown items result }
     {
         let mut known = self;
         for found in lower {
@@ -121,7 +127,8 @@ impl Known {
     /// With what all assignments show.
     fn with_all_upper(self, upper: &[Upper]) -> Known
         ensures set { result.set ≡ self.set }
-        ensures right { (names : List plain.Name) (items : List plain.Item) → IsKnown items self → AllByRecursion (IsUpper names items) upper.now → IsKnown items result }
+        ensures right { (names : List plain.Name) (items : List plain.Item) → IsKnown items self
+            → AllByRecursion (IsUpper names items) upper.now → IsKnown items result }
     {
         let mut known = self;
         for found in upper {
@@ -159,10 +166,12 @@ pub(crate) fn known_of(search: &Search<'_>, set: Vars) -> Known
         .with_all_upper(&findings.upper)
 }
 
-/// The defaults of which it is known that they leave it open that a set between these two generates an extension.
+/// The defaults of which it is known that they leave it open that a set between these two generates
+/// an extension.
 pub(crate) fn known_open(taken: Known, all: Known) -> Vars
     requires { Within taken.set all.set }
-    ensures { (items : List plain.Item) → IsKnown items taken → IsKnown items all → (k : ℕ) → has result k ≡ true → IsOpenAt items taken.set all.set k }
+    ensures { (items : List plain.Item) → IsKnown items taken → IsKnown items all → (k : ℕ)
+        → has result k ≡ true → IsOpenAt items taken.set all.set k }
 {
     let undecided = all.set.minus(taken.set);
     let inside = taken.set.common(all.supported.common(taken.allowed));
@@ -173,7 +182,8 @@ pub(crate) fn known_open(taken: Known, all: Known) -> Vars
 /// The defaults of which it is known that by them no set between these two generates an extension.
 pub(crate) fn known_closed(taken: Known, all: Known) -> Vars
     ensures { (items : List plain.Item) → IsKnown items taken → IsKnown items all
-        → (k : ℕ) → has result k ≡ true → (d : plain.Default) → IsDefaultAt items k d → ¬ IsOpenAt items taken.set all.set k }
+        → (k : ℕ) → has result k ≡ true → (d : plain.Default) → IsDefaultAt items k d
+        → ¬ IsOpenAt items taken.set all.set k }
 {
     let inside = taken.set.common(all.unsupported.union(taken.blocked));
     let outside = taken.supported.common(all.allowed).minus(all.set);

@@ -1,4 +1,5 @@
-//! The extensions of default theories (Reiter 1980), seen through beliefs, and what shows that they are all.
+//! The extensions of default theories (Reiter 1980), seen through beliefs, and what shows that they
+//! are all.
 #![tactic(auto)]
 
 mod asked;

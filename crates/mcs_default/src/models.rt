@@ -21,7 +21,8 @@ pub(crate) enum Part {
     Consequent,
 }
 
-/// Whether this part of the default holds where exactly those of the atoms are true whose places are in the set.
+/// Whether this part of the default holds where exactly those of the atoms are true whose places
+/// are in the set.
 fn holds(default: &Default, part: Part, atoms: &[Name], values: Vars) -> bool
     requires { length atoms.now ≤ 64 }
     ensures { result ≡ holds_part (true_names 0 atoms.now values) part (default_of default.now) }
@@ -35,7 +36,9 @@ fn holds(default: &Default, part: Part, atoms: &[Name], values: Vars) -> bool
 
 /// The defaults of which this part holds there.
 fn holding(theory: &Theory<'_>, part: Part, values: Vars) -> Vars
-    ensures { result ≡ such_that (length theory.now.defaults.now) (holds_part_at (true_names 0 (theory_names theory.now) values) part (theory_defaults theory.now)) }
+    ensures { result ≡ such_that (length theory.now.defaults.now)
+        (holds_part_at (true_names 0 (theory_names theory.now) values) part
+        (theory_defaults theory.now)) }
 {
     let defaults = theory.defaults;
     let mut places = Vars::empty();
@@ -50,9 +53,15 @@ fn holding(theory: &Theory<'_>, part: Part, values: Vars) -> Vars
 /// What this assignment, under which the facts hold, shows.
 pub(crate) fn upper_at(theory: &Theory<'_>, values: Vars) -> Upper
     ensures values { result.values ≡ values }
-    ensures set { result.set ≡ such_that (length theory.now.defaults.now) (holds_part_at (true_names 0 (theory_names theory.now) values) parts.Consequent (theory_defaults theory.now)) }
-    ensures supported { result.supported ≡ such_that (length theory.now.defaults.now) (holds_part_at (true_names 0 (theory_names theory.now) values) parts.Prerequisite (theory_defaults theory.now)) }
-    ensures allowed { result.allowed ≡ such_that (length theory.now.defaults.now) (holds_part_at (true_names 0 (theory_names theory.now) values) parts.Justifications (theory_defaults theory.now)) }
+    ensures set { result.set ≡ such_that (length theory.now.defaults.now)
+        (holds_part_at (true_names 0 (theory_names theory.now) values) parts.Consequent
+        (theory_defaults theory.now)) }
+    ensures supported { result.supported ≡ such_that (length theory.now.defaults.now)
+        (holds_part_at (true_names 0 (theory_names theory.now) values) parts.Prerequisite
+        (theory_defaults theory.now)) }
+    ensures allowed { result.allowed ≡ such_that (length theory.now.defaults.now)
+        (holds_part_at (true_names 0 (theory_names theory.now) values) parts.Justifications
+        (theory_defaults theory.now)) }
 {
     Upper {
         values,

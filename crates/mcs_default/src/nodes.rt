@@ -27,7 +27,9 @@ fn applies(
     requires index { index < length search.old.theory.now.defaults.now }
     ensures kept { IsSameTheory search.old search.new }
     ensures exact { IfOk result (λ b. (items : List plain.Item) → IsSearchOf items search.old
-        → (d : plain.Default) → IsDefaultAt items index d → IsTrue b ↔ (Entails (generated items supporting) d.pre × IsAllowedBy (generated items allowing) d)) }
+        → (d : plain.Default) → IsDefaultAt items index d
+        → IsTrue b ↔ (Entails (generated items supporting) d.pre
+        × IsAllowedBy (generated items allowing) d)) }
 {
     if supports(alloc, search, supporting, index)? {
         return allows(alloc, search, allowing, index);
@@ -35,9 +37,10 @@ fn applies(
     Ok(false)
 }
 
-/// Whether the default at the index leaves it open that a set between what is taken and `all` generates an extension.
-/// If the default is taken, it is not blocked by what is taken, and it is supported by `all`. If it is out, it was not
-/// found that each such set supports it and none blocks it.
+/// Whether the default at the index leaves it open that a set between what is taken and `all`
+/// generates an extension. If the default is taken, it is not blocked by what is taken, and it is
+/// supported by `all`. If it is out, it was not found that each such set supports it and none
+/// blocks it.
 fn is_open(
     alloc: Global,
     search: &mut Search<'_>,
@@ -70,13 +73,14 @@ fn has_below(set: Vars, count: usize) -> bool
     }
 }
 
-/// Whether each default leaves it open that a set between these two generates an extension. It is searched for only
-/// where what is known of the two sets does not tell it.
+/// Whether each default leaves it open that a set between these two generates an extension. It is
+/// searched for only where what is known of the two sets does not tell it.
 pub(crate) fn are_open(alloc: Global, search: &mut Search<'_>, node: Node) -> Result<bool, Memory>
     requires { IsNode search.old node }
     ensures kept { IsSameTheory search.old search.new }
     ensures exact { IfOk result (λ b. (items : List plain.Item) → IsSearchOf items search.old
-        → IsTrue b ↔ ((k : ℕ) → k < length search.old.theory.now.defaults.now → IsOpenAt items node.taken.set node.all.set k)) }
+        → IsTrue b ↔ ((k : ℕ) → k < length search.old.theory.now.defaults.now
+        → IsOpenAt items node.taken.set node.all.set k)) }
 {
     let Node { taken, all } = node;
     let defaults = search.theory.defaults;
@@ -101,7 +105,8 @@ fn next_supported(
     left: Vars,
 ) -> Result<Option<u32>, Memory>
     ensures kept { IsSameTheory search.old search.new }
-    ensures left { IfOk result (λ next. IfSome next (λ k. (k < length search.old.theory.now.defaults.now) × IsTrue (has left k))) }
+    ensures left { IfOk result (λ next. IfSome next
+        (λ k. (k < length search.old.theory.now.defaults.now) × IsTrue (has left k))) }
     ensures exact { IfOk result (λ next. (items : List plain.Item) → IsSearchOf items search.old
         → IsNextOf items set left next) }
 {
@@ -115,8 +120,8 @@ fn next_supported(
     Ok(None)
 }
 
-/// Whether the prerequisites of the defaults of the set follow one after the other, each from the facts and the
-/// consequents of those before it.
+/// Whether the prerequisites of the defaults of the set follow one after the other, each from the
+/// facts and the consequents of those before it.
 pub(crate) fn is_grounded(alloc: Global, search: &mut Search<'_>, set: Vars) -> Result<bool, Memory>
     ensures kept { IsSameTheory search.old search.new }
     ensures exact { IfOk result (λ b. (items : List plain.Item) → IsSearchOf items search.old

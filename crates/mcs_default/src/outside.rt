@@ -1,4 +1,5 @@
-//! Whether a default outside a set applies by the facts and the consequents of the set, and what is believed if not.
+//! Whether a default outside a set applies by the facts and the consequents of the set, and what is
+//! believed if not.
 
 ghost use Rattle.std.specs.Prelude.{◌≡◌, ◌≤◌, ◌++◌, List, length, IfOk, OnOk};
 ghost use Rattle.mcs_system.specs.Plain as plain;
@@ -41,7 +42,8 @@ fn ask_outside(
 ) -> Result<Others, Memory>
     requires room { length (theory_names theory.now) ≤ known.old.vars }
     ensures kept { known.new ≡ known.old }
-    ensures told { IfOk result (λ told. (fs : List plain.Formula) → AreClausesOf (theory_names theory.now) fs known.old
+    ensures told { IfOk result (λ told. (fs : List plain.Formula)
+        → AreClausesOf (theory_names theory.now) fs known.old
         → IsToldOutside (theory_names theory.now) fs (theory_defaults theory.now) set told) }
 {
     let defaults = theory.defaults;
@@ -62,8 +64,10 @@ fn ask_outside(
 fn ask_rest(alloc: Global, known: &mut Cnf, theory: &Theory<'_>, set: Vars) -> Result<Rest, Memory>
     requires room { length (theory_names theory.now) ≤ known.old.vars }
     ensures kept { known.new ≡ known.old }
-    ensures told { IfOk result (λ told. (fs : List plain.Formula) → AreClausesOf (theory_names theory.now) fs known.old
-        → IsToldOfRest (theory_names theory.now) fs (theory_defaults theory.now) (theory_beliefs theory.now) set told) }
+    ensures told { IfOk result (λ told. (fs : List plain.Formula)
+        → AreClausesOf (theory_names theory.now) fs known.old
+        → IsToldOfRest (theory_names theory.now) fs (theory_defaults theory.now)
+        (theory_beliefs theory.now) set told) }
 {
     let given = Given {
         asked: theory.asked,
@@ -90,8 +94,11 @@ pub(crate) fn tell_rest(
 ) -> Result<Rest, Memory>
     requires room { length (theory_names theory.now) ≤ known.old.vars }
     ensures kept { OnOk result (known.new ≡ known.old) }
-    ensures told { IfOk result (λ told. (fs : List plain.Formula) → AreClausesOf (theory_names theory.now) fs known.old
-        → IsToldOfRest (theory_names theory.now) (fs ++ consequents (theory_defaults theory.now) set) (theory_defaults theory.now) (theory_beliefs theory.now) set told) }
+    ensures told { IfOk result (λ told. (fs : List plain.Formula)
+        → AreClausesOf (theory_names theory.now) fs known.old
+        → IsToldOfRest (theory_names theory.now) (fs
+        ++ consequents (theory_defaults theory.now) set) (theory_defaults theory.now)
+        (theory_beliefs theory.now) set told) }
 {
     let vars = known.vars();
     let count = known.clauses().len();

@@ -27,8 +27,8 @@ use mcs_sat::ClauseBase;
 use mcs_system::{Formula, same_formula};
 use std::alloc::Global;
 
-/// The places of the atoms that are true where the facts, whose clauses are `known`, and the consequents of the set
-/// hold, and the goal does not; `None` exactly where it follows.
+/// The places of the atoms that are true where the facts, whose clauses are `known`, and the
+/// consequents of the set hold, and the goal does not; `None` exactly where it follows.
 fn counterexample(
     alloc: Global,
     known: &mut ClauseBase,
@@ -39,8 +39,10 @@ fn counterexample(
     requires goal { IsOver (theory_names theory.now) (formula_of goal.now) }
     requires room { length (theory_names theory.now) ≤ known.old.vars }
     ensures kept { known.new ≡ known.old }
-    ensures exact { IfOk result (λ found. (fs : List plain.Formula) → AreClausesOf (theory_names theory.now) fs known.old
-        → IsCounterexample (theory_names theory.now) (fs ++ consequents (theory_defaults theory.now) set) (formula_of goal.now) found) }
+    ensures exact { IfOk result (λ found. (fs : List plain.Formula)
+        → AreClausesOf (theory_names theory.now) fs known.old
+        → IsCounterexample (theory_names theory.now)
+        (fs ++ consequents (theory_defaults theory.now) set) (formula_of goal.now) found) }
 {
     let vars = known.vars();
     let count = known.count();
@@ -54,8 +56,8 @@ fn counterexample(
     found
 }
 
-/// Whether the goal follows from the facts and the consequents of the set. Where it does not, an assignment shows that:
-/// what else this shows is kept.
+/// Whether the goal follows from the facts and the consequents of the set. Where it does not, an
+/// assignment shows that: what else this shows is kept.
 pub(crate) fn follows(
     alloc: Global,
     search: &mut Search<'_>,
@@ -79,7 +81,8 @@ pub(crate) fn follows(
 
 /// Whether the formula is the consequent of a default of the set, word for word.
 fn is_consequent(theory: &Theory<'_>, set: Vars, formula: &Formula) -> bool
-    ensures { (items : List plain.Item) → theory_defaults theory.now ≡ defaults_of items → IsTrue result → Entails (generated items set) (formula_of formula.now) }
+    ensures { (items : List plain.Item) → theory_defaults theory.now ≡ defaults_of items
+        → IsTrue result → Entails (generated items set) (formula_of formula.now) }
 {
     let defaults = theory.defaults;
     for (index, default) in defaults.iter().enumerate() {
@@ -90,8 +93,8 @@ fn is_consequent(theory: &Theory<'_>, set: Vars, formula: &Formula) -> bool
     false
 }
 
-/// Whether the belief follows from the facts and the consequents of the set. It is asked only where neither the set
-/// has it as a consequent nor what was found denies it.
+/// Whether the belief follows from the facts and the consequents of the set. It is asked only where
+/// neither the set has it as a consequent nor what was found denies it.
 pub(crate) fn is_believed(
     alloc: Global,
     search: &mut Search<'_>,
@@ -141,7 +144,8 @@ fn allows_all(
     requires over { AreOver (theory_names search.old.theory.now) (map formula_of justs.now) }
     ensures kept { IsSameTheory search.old search.new }
     ensures exact { IfOk result (λ b. (items : List plain.Item) → IsSearchOf items search.old
-        → IsTrue b ↔ AllByRecursion (λ j. ¬ Entails (generated items set) (plain.Not j)) (map formula_of justs.now)) }
+        → IsTrue b ↔ AllByRecursion (λ j. ¬ Entails (generated items set) (plain.Not j))
+        (map formula_of justs.now)) }
 {
     for just in justs {
         if refutes(alloc, search, set, just)? {
@@ -151,7 +155,8 @@ fn allows_all(
     Ok(true)
 }
 
-/// Whether the prerequisite of the default at the index follows from the facts and the consequents of the set.
+/// Whether the prerequisite of the default at the index follows from the facts and the consequents
+/// of the set.
 pub(crate) fn supports(
     alloc: Global,
     search: &mut Search<'_>,
@@ -161,7 +166,8 @@ pub(crate) fn supports(
     requires index { index < length search.old.theory.now.defaults.now }
     ensures kept { IsSameTheory search.old search.new }
     ensures exact { IfOk result (λ b. (items : List plain.Item) → IsSearchOf items search.old
-        → (d : plain.Default) → IsDefaultAt items index d → IsTrue b ↔ Entails (generated items set) d.pre) }
+        → (d : plain.Default) → IsDefaultAt items index d
+        → IsTrue b ↔ Entails (generated items set) d.pre) }
 {
     if is_supported(&search.findings.lower, set, index) {
         return Ok(true);
@@ -193,8 +199,8 @@ fn entails_all(alloc: Global, search: &mut Search<'_>, set: Vars) -> Result<bool
     is_conflict
 }
 
-/// The set, by which everything follows, without the default at the index if everything follows all the same. It is
-/// asked only where nothing that was found tells that it does not.
+/// The set, by which everything follows, without the default at the index if everything follows all
+/// the same. It is asked only where nothing that was found tells that it does not.
 fn without_needless(
     alloc: Global,
     search: &mut Search<'_>,
@@ -202,9 +208,11 @@ fn without_needless(
     index: u32,
 ) -> Result<Vars, Memory>
     requires index { index < length search.old.theory.now.defaults.now }
-    requires conflict { (items : List plain.Item) → IsSearchOf items search.old → IsConflict items set }
+    requires conflict { (items : List plain.Item) → IsSearchOf items search.old
+        → IsConflict items set }
     ensures kept { IsSameTheory search.old search.new }
-    ensures conflict { IfOk result (λ least. (items : List plain.Item) → IsSearchOf items search.old → IsConflict items least) }
+    ensures conflict { IfOk result (λ least. (items : List plain.Item)
+        → IsSearchOf items search.old → IsConflict items least) }
 {
     if !set.has(index) {
         return Ok(set);
@@ -221,9 +229,11 @@ fn without_needless(
 
 /// A part of the set by which everything follows, of which nothing more can be left out.
 fn least_conflict(alloc: Global, search: &mut Search<'_>, set: Vars) -> Result<Vars, Memory>
-    requires conflict { (items : List plain.Item) → IsSearchOf items search.old → IsConflict items set }
+    requires conflict { (items : List plain.Item) → IsSearchOf items search.old
+        → IsConflict items set }
     ensures kept { IsSameTheory search.old search.new }
-    ensures conflict { IfOk result (λ least. (items : List plain.Item) → IsSearchOf items search.old → IsConflict items least) }
+    ensures conflict { IfOk result (λ least. (items : List plain.Item)
+        → IsSearchOf items search.old → IsConflict items least) }
 {
     let defaults = search.theory.defaults;
     let mut least = set;
@@ -233,8 +243,8 @@ fn least_conflict(alloc: Global, search: &mut Search<'_>, set: Vars) -> Result<V
     Ok(least)
 }
 
-/// Whether the facts and the consequents of the set contradict each other. Where they do, a least part that does is
-/// kept.
+/// Whether the facts and the consequents of the set contradict each other. Where they do, a least
+/// part that does is kept.
 fn contradicts(alloc: Global, search: &mut Search<'_>, set: Vars) -> Result<bool, Memory>
     ensures kept { IsSameTheory search.old search.new }
     ensures exact { IfOk result (λ b. (items : List plain.Item) → IsSearchOf items search.old
@@ -254,7 +264,8 @@ fn contradicts(alloc: Global, search: &mut Search<'_>, set: Vars) -> Result<bool
     Ok(true)
 }
 
-/// Whether no negation of a justification of the default at the index follows, by asking where it is not known.
+/// Whether no negation of a justification of the default at the index follows, by asking where it
+/// is not known.
 fn allows_by_asking(
     alloc: Global,
     search: &mut Search<'_>,
@@ -264,7 +275,8 @@ fn allows_by_asking(
     requires index { index < length search.old.theory.now.defaults.now }
     ensures kept { IsSameTheory search.old search.new }
     ensures exact { IfOk result (λ b. (items : List plain.Item) → IsSearchOf items search.old
-        → (d : plain.Default) → IsDefaultAt items index d → IsTrue b ↔ IsAllowedBy (generated items set) d) }
+        → (d : plain.Default) → IsDefaultAt items index d
+        → IsTrue b ↔ IsAllowedBy (generated items set) d) }
 {
     if is_allowed(&search.findings.upper, set, index) {
         return Ok(true);
@@ -284,8 +296,8 @@ fn allows_by_asking(
     Ok(is_allowed)
 }
 
-/// Whether no negation of a justification of the default at the index follows from the facts and the consequents of the
-/// set.
+/// Whether no negation of a justification of the default at the index follows from the facts and
+/// the consequents of the set.
 pub(crate) fn allows(
     alloc: Global,
     search: &mut Search<'_>,
@@ -295,7 +307,8 @@ pub(crate) fn allows(
     requires index { index < length search.old.theory.now.defaults.now }
     ensures kept { IsSameTheory search.old search.new }
     ensures exact { IfOk result (λ b. (items : List plain.Item) → IsSearchOf items search.old
-        → (d : plain.Default) → IsDefaultAt items index d → IsTrue b ↔ IsAllowedBy (generated items set) d) }
+        → (d : plain.Default) → IsDefaultAt items index d
+        → IsTrue b ↔ IsAllowedBy (generated items set) d) }
 {
     if is_allowed(&search.findings.upper, set, index) {
         return Ok(true);

@@ -8,10 +8,14 @@ ghost use Rattle.mcs_default.specs.SearchProofs.{CanBeAsked-prop};
 use crate::asked::Theory;
 use crate::findings::Findings;
 
-/// What is asked of a default theory, with the clauses of its facts and what was found of sets of its defaults.
+/// What is asked of a default theory, with the clauses of its facts and what was found of sets of
+/// its defaults.
 #[derive(Drop)]
 pub(crate) struct Search<'a> {
     pub(crate) theory: &'a Theory<'a>,
     pub(crate) findings: Findings,
-    ghost ready: { CanBeAsked theory.now.asked.now.atoms.now (map (λ d. default_of d.now) theory.now.defaults.now) findings } by { CanBeAsked-prop theory.now.asked.now.atoms.now (map (λ d. default_of d.now) theory.now.defaults.now) findings },
+    ghost ready: { CanBeAsked theory.now.asked.now.atoms.now
+        (map (λ d. default_of d.now) theory.now.defaults.now) findings } by { CanBeAsked-prop
+            theory.now.asked.now.atoms.now (map (λ d. default_of d.now)
+            theory.now.defaults.now) findings },
 }

@@ -24,7 +24,8 @@ fn push_facts(
 ) -> Result<(), Memory>
     requires over { AreOverItems atoms.now (map item_of items.now) }
     requires room { length atoms.now ≤ known.old.vars }
-    ensures { OnOk result (known.new ≡ with_formulas atoms.now known.old (facts_of (map item_of items.now))) }
+    ensures { OnOk result (known.new
+        ≡ with_formulas atoms.now known.old (facts_of (map item_of items.now))) }
 {
     for item in items {
         match item {
@@ -45,7 +46,8 @@ pub(crate) fn facts(
     requires few { length atoms.now ≤ 64 }
     requires items { AreOverItems atoms.now (map item_of items.now) }
     requires added { AreOver atoms.now (map (λ f. formula_of f.now) added.now) }
-    ensures { IfOk result (λ known. known ≡ clause_list atoms.now (facts_of (map item_of items.now) ++ map (λ f. formula_of f.now) added.now)) }
+    ensures { IfOk result (λ known. known ≡ clause_list atoms.now
+        (facts_of (map item_of items.now) ++ map (λ f. formula_of f.now) added.now)) }
 {
     let mut known = Cnf::new(alloc, atoms.len() as u64);
     push_facts(alloc, &mut known, items, atoms)?;
@@ -61,7 +63,8 @@ pub(crate) fn push_consequents(
     set: Vars,
 ) -> Result<(), Memory>
     requires room { length (theory_names theory.now) ≤ known.old.vars }
-    ensures { OnOk result (known.new ≡ with_formulas (theory_names theory.now) known.old (consequents (theory_defaults theory.now) set)) }
+    ensures { OnOk result (known.new ≡ with_formulas (theory_names theory.now) known.old
+        (consequents (theory_defaults theory.now) set)) }
 {
     let defaults = theory.defaults;
     for (index, default) in defaults.iter().enumerate() {
@@ -80,7 +83,8 @@ pub(crate) fn append_consequents(
     set: Vars,
 ) -> Result<(), Memory>
     requires room { length (theory_names theory.now) ≤ known.old.vars }
-    ensures ok { OnOk result (known.new ≡ with_formulas (theory_names theory.now) known.old (consequents (theory_defaults theory.now) set)) }
+    ensures ok { OnOk result (known.new ≡ with_formulas (theory_names theory.now) known.old
+        (consequents (theory_defaults theory.now) set)) }
     ensures err { OnErr result (known.new ≡ known.old) }
 {
     let mut more = Cnf::new(alloc, known.vars());
@@ -98,7 +102,8 @@ pub(crate) fn facts_base(
 ) -> Result<ClauseBase, Memory>
     requires few { length atoms.now ≤ 64 }
     requires items { AreOverItems atoms.now (map item_of items.now) }
-    ensures { IfOk result (λ known. known ≡ clause_list atoms.now (facts_of (map item_of items.now))) }
+    ensures { IfOk result (λ known. known
+        ≡ clause_list atoms.now (facts_of (map item_of items.now))) }
 {
     let mut cnf = Cnf::new(alloc, atoms.len() as u64);
     push_facts(alloc, &mut cnf, items, atoms)?;

@@ -4,7 +4,8 @@ ghost use Rattle.std.specs.Prelude.{◌≡◌, ◌≤◌, List, length, IfOk, On
 ghost use Rattle.mcs_sets.specs.Sets.{Within};
 ghost use Rattle.mcs_system.specs.Plain as plain;
 ghost use Rattle.mcs_evidence.specs.Theories.{all_of};
-ghost use Rattle.mcs_default.specs.Asked.{theory_names, theory_beliefs, theory_defaults, AreItemsOf};
+ghost use Rattle.mcs_default.specs.Asked.{theory_names, theory_beliefs, theory_defaults};
+ghost use Rattle.mcs_default.specs.Asked.{AreItemsOf};
 ghost use Rattle.mcs_default.specs.Told.{IsToldOfJustsIn, IsToldOrder, IsSetJudged};
 
 use crate::asked::Theory;
@@ -40,8 +41,10 @@ fn judge_grounded(
 ) -> Result<Judged, Memory>
     requires room { length (theory_names theory.now) ≤ known.old.vars }
     ensures kept { OnOk result (known.new ≡ known.old) }
-    ensures judged { IfOk result (λ judged. (items : List plain.Item) → AreItemsOf theory.now known.old items
-        → IsToldOfJustsIn (theory_names theory.now) items set parts.justs.items → IsToldOrder (theory_names theory.now) items set parts.order.items parts.pres.items
+    ensures judged { IfOk result (λ judged. (items : List plain.Item)
+        → AreItemsOf theory.now known.old items
+        → IsToldOfJustsIn (theory_names theory.now) items set parts.justs.items
+        → IsToldOrder (theory_names theory.now) items set parts.order.items parts.pres.items
         → IsSetJudged (theory_names theory.now) items (theory_beliefs theory.now) set judged) }
 {
     match tell_rest(alloc, known, theory, set) {
@@ -84,8 +87,10 @@ fn judge_allowed(
     requires room { length (theory_names theory.now) ≤ known.old.vars }
     requires set { Within set (all_of (theory_defaults theory.now)) }
     ensures kept { OnOk result (known.new ≡ known.old) }
-    ensures judged { IfOk result (λ judged. (items : List plain.Item) → AreItemsOf theory.now known.old items
-        → IsToldOfJustsIn (theory_names theory.now) items set justs.items → IsSetJudged (theory_names theory.now) items (theory_beliefs theory.now) set judged) }
+    ensures judged { IfOk result (λ judged. (items : List plain.Item)
+        → AreItemsOf theory.now known.old items
+        → IsToldOfJustsIn (theory_names theory.now) items set justs.items
+        → IsSetJudged (theory_names theory.now) items (theory_beliefs theory.now) set judged) }
 {
     match tell_order(alloc, known, theory, set) {
         Ok(Grounding::Stuck(closed, pres)) => {
@@ -107,8 +112,9 @@ fn judge_allowed(
     }
 }
 
-/// The verdict on the set: the first of its defaults that fails; or else those that are not grounded; or else the first
-/// default outside that applies; and else it generates an extension. The clauses of the facts are `known`.
+/// The verdict on the set: the first of its defaults that fails; or else those that are not
+/// grounded; or else the first default outside that applies; and else it generates an extension.
+/// The clauses of the facts are `known`.
 pub(crate) fn judge(
     alloc: Global,
     known: &mut Cnf,
@@ -118,7 +124,8 @@ pub(crate) fn judge(
     requires room { length (theory_names theory.now) ≤ known.old.vars }
     requires set { Within set (all_of (theory_defaults theory.now)) }
     ensures kept { OnOk result (known.new ≡ known.old) }
-    ensures judged { IfOk result (λ judged. (items : List plain.Item) → AreItemsOf theory.now known.old items
+    ensures judged { IfOk result (λ judged. (items : List plain.Item)
+        → AreItemsOf theory.now known.old items
         → IsSetJudged (theory_names theory.now) items (theory_beliefs theory.now) set judged) }
 {
     match tell_inside(alloc, known, theory, set)? {

@@ -19,15 +19,17 @@ const LENGTH: usize = 115;
 /// What is told of a text that is cut.
 #[derive(Clone, Copy)]
 enum Outcome {
-    /// What is listed: of a text that is cut before the first context, after one, after the other, or after a rule.
+    /// What is listed: of a text that is cut before the first context, after one, after the other,
+    /// or after a rule.
     Listed(&'static str),
     /// The number of a fault, and its offset.
     Fault(u8, usize),
 }
 
-/// From which length up to which the text is cut, and what is told of it, where that is not that its end is a fault. A
-/// fault before the end is of the name that is left of a word, where no name may stand; of the `:` that is left of a `:-`;
-/// and of the name of a context that is cut, or of what is left of a `not`, where no context has the name.
+/// From which length up to which the text is cut, and what is told of it, where that is not that
+/// its end is a fault. A fault before the end is of the name that is left of a word, where no name
+/// may stand; of the `:` that is left of a `:-`; and of the name of a context that is cut, or of
+/// what is left of a `not`, where no context has the name.
 const CUTS: [(usize, usize, Outcome); 20] = [
     (
         0,

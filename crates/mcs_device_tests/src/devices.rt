@@ -33,8 +33,9 @@ const MADE: &str =
 
 const USAGE: &str = "mcs: usage: mcs JOB FILE [REPORT] [--budget N] [--workers N] [--proof]\n";
 
-/// Words over two files `f` and `r`, the first of which begins with so many line feeds, or over no file; how many calls
-/// the run makes on the shelf, and how many writes, of at most so many bytes each; and how it ends where no device fails.
+/// Words over two files `f` and `r`, the first of which begins with so many line feeds, or over no
+/// file; how many calls the run makes on the shelf, and how many writes, of at most so many bytes
+/// each; and how it ends where no device fails.
 struct Job {
     words: &'static str,
     has_files: bool,
@@ -50,8 +51,8 @@ struct Job {
 }
 
 const JOBS: [Job; 11] = [
-    // A file of 5047 bytes is opened; 4096 bytes of it are read, then what is left, and then nothing. One that is
-    // shorter is read at once, and an empty one has nothing to read.
+    // A file of 5047 bytes is opened; 4096 bytes of it are read, then what is left, and then
+    // nothing. One that is shorter is read at once, and an empty one has nothing to read.
     Job {
         words: "equilibria f",
         has_files: true,
@@ -211,8 +212,8 @@ impl Job {
         }
     }
 
-    /// How the run ends where the call and the write with these numbers fail. There is none with the number 0, nor one
-    /// past the last.
+    /// How the run ends where the call and the write with these numbers fail. There is none with
+    /// the number 0, nor one past the last.
     fn end(&self, call: usize, write: usize) -> End<'static> {
         if 0 < call && call <= self.calls {
             (5, b"", "mcs: read fault\n")
@@ -223,8 +224,8 @@ impl Job {
         }
     }
 
-    /// Whether the run ends so where a call or a write fails: the call with this number, up to one past the last, and
-    /// then the writes.
+    /// Whether the run ends so where a call or a write fails: the call with this number, up to one
+    /// past the last, and then the writes.
     fn is_told<R: Threads + Wait + Sync>(
         &self,
         rt: &R,

@@ -9,14 +9,15 @@ use std::thread::Threads;
 /// How `check` of a valid report ends.
 const VALID: End<'static> = (0, b"valid\n", "");
 
-/// Lines of a report, from the first number up to the second, counted from 1; what is put in their place, before the
-/// first of them where there are none; and the line and the test at which the report then fails. It is valid where there
-/// are none.
+/// Lines of a report, from the first number up to the second, counted from 1; what is put in their
+/// place, before the first of them where there are none; and the line and the test at which the
+/// report then fails. It is valid where there are none.
 type Change = (usize, usize, &'static str, Option<(usize, &'static str)>);
 
 const UNCHANGED: Change = (1, 0, "", None);
 
-/// The text of a system, a valid report on it, the number of the last line of the listing in the report, and changes.
+/// The text of a system, a valid report on it, the number of the last line of the listing in the
+/// report, and changes.
 struct Case {
     system: &'static str,
     report: &'static str,
@@ -25,9 +26,10 @@ struct Case {
 }
 
 impl Case {
-    /// The change with this number, counted from 0; after these none; and then those that put another line in the place
-    /// of each. A line of the listing is told by its own number, one after it at the latest by that. It is so of the line
-    /// that ends the listing, which is not changed.
+    /// The change with this number, counted from 0; after these none; and then those that put
+    /// another line in the place of each. A line of the listing is told by its own number, one
+    /// after it at the latest by that. It is so of the line that ends the listing, which is not
+    /// changed.
     fn change_at(&self, number: usize) -> Change {
         if let Some(change) = self.changes.get(number) {
             return *change;
@@ -111,7 +113,8 @@ pub const TOLD_REPORT: &str =
 
 /// Lines of that report, what is put in their place, and what is found then.
 const CHANGES: [Change; 21] = [
-    // What is found first: in the listing, in an answer's certificate, of an answer that is needed, in the grammar.
+    // What is found first: in the listing, in an answer's certificate, of an answer that is needed,
+    // in the grammar.
     (4, 4, "", Some((4, "listing"))),
     (
         3,
@@ -162,14 +165,15 @@ const CHANGES: [Change; 21] = [
     ),
 ];
 
-/// A default theory without extensions: the one default applies where it is left out, and is blocked where it is taken.
+/// A default theory without extensions: the one default applies where it is left out, and is
+/// blocked where it is taken.
 const THEORY: &str = "context c1 default { true : p / ~p. }";
 
 const THEORY_REPORT: &str =
     "mcs 1: 1 contexts, 0 rules, 0 variables\ninconsistent\nexplanation 1: {}\nend: 0 equilibria, 0 diagnoses, 1 explanations, need 1\nproof\nanswer c1 {}\nset {}\napplied 1\nyes\nstep by 4 2 1\nno {p}\nset {1}\nblocked 1 1\nyes\nstep by 8 6 5 1 3\ndone\nend of proof\n";
 
-/// Lines of that report, what is put in their place, and what is found then: an empty set of atoms, another trace, a
-/// set of defaults that is left out, or claimed to be ungrounded.
+/// Lines of that report, what is put in their place, and what is found then: an empty set of atoms,
+/// another trace, a set of defaults that is left out, or claimed to be ungrounded.
 const THEORY_CHANGES: [Change; 5] = [
     (11, 11, "no {}\n", Some((6, "certificate"))),
     (15, 15, "step by 8 6 5 1 4\n", Some((6, "certificate"))),
@@ -222,7 +226,8 @@ fn is_proved<R: Threads + Wait + Sync>(
     Ok((status == Ok(0)) & !is_noted & (is_valid == Ok(true)))
 }
 
-/// Systems of all kinds, consistent and not: choices, a set of defaults of each verdict, an unsatisfiable context.
+/// Systems of all kinds, consistent and not: choices, a set of defaults of each verdict, an
+/// unsatisfiable context.
 const SYSTEMS: [&str; 7] = [
     "",
     CONTRADICTION,

@@ -7,7 +7,8 @@ use std::alloc::Global;
 use std::sync::Wait;
 use std::thread::Threads;
 
-/// Which call of the shelf and which write of the sink fail, counted from 1, and how many bytes a write takes.
+/// Which call of the shelf and which write of the sink fail, counted from 1, and how many bytes a
+/// write takes.
 #[derive(Clone, Copy)]
 pub struct Devices {
     pub failing_call: u64,

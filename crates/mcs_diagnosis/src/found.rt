@@ -1,7 +1,8 @@
 //! The diagnoses of one level.
 
 ghost use Rattle.std.specs.Prelude.{◌≡◌, false, IfOk, IfErr, OnOk};
-ghost use Rattle.mcs_states.specs.Evaluators.{KeepsRest, HasDone, HasHalted, HasHaltCause, IsHaltOf};
+ghost use Rattle.mcs_states.specs.Evaluators.{KeepsRest, HasDone, HasHalted, HasHaltCause};
+ghost use Rattle.mcs_states.specs.Evaluators.{IsHaltOf};
 ghost use Rattle.mcs_sets.specs.Sets.{size};
 ghost use Rattle.mcs_system.specs.Repairs.{IsDiagnosis};
 ghost use Rattle.mcs_diagnosis.specs.Diagnoses.{AreShownDiagnoses, ShowsFirstState, active_in};
@@ -13,7 +14,8 @@ use mcs_states::{Evaluator, Halt};
 use mcs_system::System;
 use std::alloc::Global;
 
-// The rules that are active in the state: those that apply, without the removed and with the forced ones.
+// The rules that are active in the state: those that apply, without the removed and with the forced
+// ones.
 fn active(system: &System, pair: Pair, state: Vars) -> Active
     ensures { result ≡ active_in system.now pair state }
 {
@@ -23,7 +25,8 @@ fn active(system: &System, pair: Pair, state: Vars) -> Active
         .union(pair.forced())
 }
 
-// The diagnosis with its first state and its active rules, found by a call of the level of its marks.
+// The diagnosis with its first state and its active rules, found by a call of the level of its
+// marks.
 fn show<E: Evaluator>(
     alloc: Global,
     evaluator: &mut E,
@@ -35,8 +38,10 @@ fn show<E: Evaluator>(
     requires diagnosis { IsDiagnosis system.now pair }
     ensures pair { IfOk result (λ shown. shown.pair ≡ pair) }
     ensures shown { IfOk result (λ shown. ShowsFirstState system.now shown) }
-    ensures done { OnOk result (HasDone (E.stands evaluator.old) (E.stands evaluator.new) (size pair)) }
-    ensures halt { IfErr result (HasHalted (E.stands evaluator.old) (E.stands evaluator.new) (size pair)) }
+    ensures done { OnOk result (HasDone (E.stands evaluator.old) (E.stands evaluator.new)
+        (size pair)) }
+    ensures halt { IfErr result (HasHalted (E.stands evaluator.old) (E.stands evaluator.new)
+        (size pair)) }
     ensures rest { KeepsRest (E.stands evaluator.old) (E.stands evaluator.new) }
 {
     let state = least_state(alloc, evaluator, pair)?.unwrap();
@@ -47,8 +52,8 @@ fn show<E: Evaluator>(
     })
 }
 
-/// The minimal diagnoses with exactly `level` marks, in the order of pairs, each with its first state and its active
-/// rules.
+/// The minimal diagnoses with exactly `level` marks, in the order of pairs, each with its first
+/// state and its active rules.
 pub fn diagnoses_of<E: Evaluator>(
     alloc: Global,
     evaluator: &mut E,

@@ -14,8 +14,8 @@ use std::alloc::Global;
 use std::marker::Model;
 use std::sync::Arc;
 
-/// The minimal diagnoses of a system, by the number of their marks. The model is the evaluator and the number of the
-/// next level.
+/// The minimal diagnoses of a system, by the number of their marks. The model is the evaluator and
+/// the number of the next level.
 pub struct Levels<E: Evaluator> {
     evaluator: E,
     system: Arc<System>,
@@ -32,7 +32,8 @@ impl<E: Evaluator> Model for Levels<E> {
 
     ghost view = { λ l. record { evaluator = l.evaluator; level = l.level } };
 
-    ghost invariant = { λ l. IsCourse (E.stands l.evaluator) (arc_value l.system) l.level l.consistent };
+    ghost invariant = { λ l. IsCourse (E.stands l.evaluator)
+        (arc_value l.system) l.level l.consistent };
 }
 
 impl<E: Evaluator> Levels<E> {
@@ -58,16 +59,17 @@ impl<E: Evaluator> Levels<E> {
         self.level > 0 && self.consistent || self.level as usize > self.system.bridges().len()
     }
 
-    /// The minimal diagnoses of the next level, in the order of pairs. `Over` is returned exactly after level 0 of a
-    /// consistent system, or after the level with as many marks as there are rules; no question is asked then. `Spent`
-    /// and `Missing` are returned for the causes that a call of this level has; the evaluator has then halted with
-    /// them.
+    /// The minimal diagnoses of the next level, in the order of pairs. `Over` is returned exactly
+    /// after level 0 of a consistent system, or after the level with as many marks as there are
+    /// rules; no question is asked then. `Spent` and `Missing` are returned for the causes that a
+    /// call of this level has; the evaluator has then halted with them.
     pub fn next(&mut self, alloc: Global) -> Result<Level, Halt>
         requires { (E.stands self.old.evaluator).halted ≡ false }
         ensures level { IfOk result (IsLevel (E.stands self.old.evaluator).system self.old.level) }
         ensures taken { IfOk result (HasTaken E.stands self.old self.new) }
         ensures cause { IfErr result (HasHaltCause (E.stands self.old.evaluator) self.old.level) }
-        ensures not_past { OnErr result (¬ IsPast (E.stands self.old.evaluator).system self.old.level) }
+        ensures not_past { OnErr result (¬ IsPast
+            (E.stands self.old.evaluator).system self.old.level) }
         ensures told { IfErr result (IsHaltOf (E.stands self.new.evaluator)) }
         ensures stays { OnErr result (self.new.level ≡ self.old.level) }
         ensures rest { KeepsRest (E.stands self.old.evaluator) (E.stands self.new.evaluator) }

@@ -17,7 +17,8 @@ impl TableRule<(), View, Terms> for Budget {
     ghost first = { first_view };
 }
 
-/// A draw: its amount is subtracted from what is left, and the new total becomes the greatest total of the seat.
+/// A draw: its amount is subtracted from what is left, and the new total becomes the greatest total
+/// of the seat.
 pub struct Draws;
 
 impl Play<(), View> for Draws {

@@ -1,5 +1,5 @@
-//! The budget word: several threads draw from one word. Each draw adds its amount in one atomic step and returns the
-//! new total.
+//! The budget word: several threads draw from one word. Each draw adds its amount in one atomic
+//! step and returns the new total.
 #![tactic(auto)]
 
 mod account;

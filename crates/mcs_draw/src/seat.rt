@@ -6,7 +6,8 @@ use crate::account::View;
 use atomic_table::Seat as Token;
 use std::marker::Model;
 
-/// A share of what may be drawn from a word. `Draw::new` makes the first seat, and `Draw::split` each other one.
+/// A share of what may be drawn from a word. `Draw::new` makes the first seat, and `Draw::split`
+/// each other one.
 #[derive(Drop)]
 pub struct Seat {
     pub(crate) token: Token<(), View>,

@@ -28,11 +28,13 @@ fn two_threads_draw_a_thousand_times(rt: HostRuntime) -> Result<(), Fail> {
         &rt,
         || -> Seat
             requires { one.word ≡ draw.word }
-            ensures { (result.word ≡ one.word) × (result.account.left ≡ 0) × (result.account.drawn ≡ one.account.left + one.account.drawn) }
+            ensures { (result.word ≡ one.word) × (result.account.left ≡ 0)
+                × (result.account.drawn ≡ one.account.left + one.account.drawn) }
         { draw_all(&draw, one) },
         || -> Seat
             requires { two.word ≡ draw.word }
-            ensures { (result.word ≡ two.word) × (result.account.left ≡ 0) × (result.account.drawn ≡ two.account.left + two.account.drawn) }
+            ensures { (result.word ≡ two.word) × (result.account.left ≡ 0)
+                × (result.account.drawn ≡ two.account.left + two.account.drawn) }
         { draw_all(&draw, two) },
     );
     draw.join(&mut one, two);

@@ -1,8 +1,10 @@
 //! Conflict analysis: what is learnt from a clause that is false.
 
-ghost use Rattle.std.specs.Prelude.{◌≡◌, [], ◌∷◌, ◌+◌, ◌≤◌, ◌⊎◌, ℤ, List, length, slice_get, Some, IfOk, OnOk};
+ghost use Rattle.std.specs.Prelude.{◌≡◌, [], ◌∷◌, ◌+◌, ◌≤◌, ◌⊎◌, ℤ, List, length, slice_get, Some};
+ghost use Rattle.std.specs.Prelude.{IfOk, OnOk};
 ghost use Rattle.mcs_engine.specs.Trails.{IsFalseAt, IsTrail};
-ghost use Rattle.mcs_engine.specs.Learning.{AreImplied, GoesOnByReasons, IsLate, IsLearnt, IsSingle};
+ghost use Rattle.mcs_engine.specs.Learning.{AreImplied, GoesOnByReasons, IsLate, IsLearnt};
+ghost use Rattle.mcs_engine.specs.Learning.{IsSingle};
 ghost use Rattle.mcs_engine.specs.Marking.{IsMarkedChain, IsMarkedWithin, IsSingleMark};
 
 use crate::marks::{clause_of, is_any_marked, mark_all, resolve_at};
@@ -12,8 +14,9 @@ use mcs_base::{Memory, Rows};
 use mcs_trace::Step;
 use std::alloc::Global;
 
-/// Resolves the marked clause, which is false, with the reason of the latest of its literals, and so on, until exactly
-/// one of its literals became false at the place `start` or later. Appends the numbers of the reasons to the chain.
+/// Resolves the marked clause, which is false, with the reason of the latest of its literals, and
+/// so on, until exactly one of its literals became false at the place `start` or later. Appends the
+/// numbers of the reasons to the chain.
 fn resolve_back(
     clauses: &Rows<i64>,
     trail: &Trail,
@@ -22,12 +25,17 @@ fn resolve_back(
     marks: &mut Vec<bool>,
 ) -> Result<(), Memory>
     requires trail { IsTrail clauses.now trail.now }
-    requires marked { IsMarkedChain clauses.now trail.now.entries.items chain.old.items marks.old.items }
-    requires late { (length trail.now.entries.items ≤ start) ⊎ IsMarkedWithin marks.old.items start (length trail.now.entries.items) }
+    requires marked { IsMarkedChain clauses.now trail.now.entries.items chain.old.items
+        marks.old.items }
+    requires late { (length trail.now.entries.items ≤ start)
+        ⊎ IsMarkedWithin marks.old.items start (length trail.now.entries.items) }
     requires implied { AreImplied trail.now.entries.items start }
-    ensures marked { OnOk result (IsMarkedChain clauses.now trail.now.entries.items chain.new.items marks.new.items) }
-    ensures single { OnOk result (start + 1 ≤ length trail.now.entries.items → IsSingleMark start marks.new.items) }
-    ensures reasons { OnOk result (GoesOnByReasons clauses.now trail.now.entries.items chain.old.items chain.new.items) }
+    ensures marked { OnOk result (IsMarkedChain clauses.now trail.now.entries.items chain.new.items
+        marks.new.items) }
+    ensures single { OnOk result (start + 1 ≤ length trail.now.entries.items
+        → IsSingleMark start marks.new.items) }
+    ensures reasons { OnOk result (GoesOnByReasons clauses.now trail.now.entries.items
+        chain.old.items chain.new.items) }
 {
     let mut bound = trail.entries.len();
     while bound > start {
@@ -43,8 +51,9 @@ fn resolve_back(
     Ok(())
 }
 
-/// The step that follows from a false clause and the reasons of its literals. Exactly one literal of the learnt clause
-/// became false at the place `start` or later. If the trail ends before `start`, the learnt clause is empty.
+/// The step that follows from a false clause and the reasons of its literals. Exactly one literal
+/// of the learnt clause became false at the place `start` or later. If the trail ends before
+/// `start`, the learnt clause is empty.
 pub fn analyse(
     alloc: Global,
     clauses: &Rows<i64>,
@@ -54,12 +63,16 @@ pub fn analyse(
 ) -> Result<Step, Memory>
     requires trail { IsTrail clauses.now trail.now }
     requires conflict { IsFalseAt clauses.now trail.now.entries.items index }
-    requires late { (c : List ℤ) → slice_get clauses.now index ≡ Some c → IsLate trail.now.entries.items start c }
+    requires late { (c : List ℤ) → slice_get clauses.now index ≡ Some c
+        → IsLate trail.now.entries.items start c }
     requires implied { AreImplied trail.now.entries.items start }
     ensures learnt { IfOk result (IsLearnt clauses.now trail.now.entries.items) }
-    ensures single { IfOk result (λ step. start + 1 ≤ length trail.now.entries.items → IsSingle trail.now.entries.items start step.clause) }
-    ensures empty { IfOk result (λ step. length trail.now.entries.items ≤ start → step.clause ≡ []) }
-    ensures chain { IfOk result (λ step. GoesOnByReasons clauses.now trail.now.entries.items ((index + 1) ∷ []) step.chain.items) }
+    ensures single { IfOk result (λ step. start + 1 ≤ length trail.now.entries.items
+        → IsSingle trail.now.entries.items start step.clause) }
+    ensures empty { IfOk result (λ step. length trail.now.entries.items ≤ start
+        → step.clause ≡ []) }
+    ensures chain { IfOk result (λ step. GoesOnByReasons clauses.now trail.now.entries.items
+        ((index + 1) ∷ []) step.chain.items) }
 {
     let mut marks = vec![in alloc; false; trail.entries.len()]?;
     mark_all(trail, clauses.row(index), &mut marks);

@@ -10,7 +10,8 @@ use std::alloc::Global;
 /// The greatest number of values in a block.
 pub(crate) const BLOCK: usize = 512;
 
-/// Values by indices. They are in blocks of neighbouring indices. A block without a value takes no memory.
+/// Values by indices. They are in blocks of neighbouring indices. A block without a value takes no
+/// memory.
 #[derive(Drop)]
 pub struct Blocks<T: Copy> {
     pub blocks: Vec<Vec<T>>,
@@ -52,7 +53,8 @@ impl<T: Copy> Blocks<T> {
         false
     }
 
-    /// Sets the value at the index. If the block ends before it, it is filled up to there with `filler`.
+    /// Sets the value at the index. If the block ends before it, it is filled up to there with
+    /// `filler`.
     pub fn set(&mut self, index: usize, value: T, filler: T) -> Result<(), Memory> {
         if self.replace(index, value) {
             return Ok(());

@@ -1,6 +1,7 @@
 //! The chains of the clauses of a solver.
 
-ghost use Rattle.std.specs.Prelude.{◌≡◌, List, [], ◌∷◌, ◌++◌, ◌+◌, ◌<◌, take, length, slice_get, Some, OnOk, OnErr};
+ghost use Rattle.std.specs.Prelude.{◌≡◌, List, [], ◌∷◌, ◌++◌, ◌+◌, ◌<◌, take, length, slice_get};
+ghost use Rattle.std.specs.Prelude.{Some, OnOk, OnErr};
 ghost use Rattle.mcs_engine.specs.Chains.{AreSpaced, IsCut};
 ghost use Rattle.mcs_engine.specs.Stores.{given_count};
 
@@ -8,8 +9,8 @@ use mcs_base::{Memory, Rows};
 use std::alloc::Global;
 use std::marker::Model;
 
-/// For each clause its chain, which is empty if the clause was given. Only the chains of learnt clauses are stored,
-/// each with the index of its clause. The model is the list of all chains.
+/// For each clause its chain, which is empty if the clause was given. Only the chains of learnt
+/// clauses are stored, each with the index of its clause. The model is the list of all chains.
 #[derive(Drop)]
 pub struct Chains {
     count: usize,
@@ -39,8 +40,8 @@ fn before(indices: &[usize], index: usize) -> usize
     }
 }
 
-/// How many of the learnt clauses, whose indices ascend, come before the given clause that follows `number` other given
-/// ones.
+/// How many of the learnt clauses, whose indices ascend, come before the given clause that follows
+/// `number` other given ones.
 fn before_given(learnt: &[usize], number: usize) -> usize
     requires { AreSpaced learnt.now }
     ensures { IsCut learnt.now result (number + result) }

@@ -5,8 +5,8 @@ ghost use Rattle.mcs_engine.specs.Trails.{ArePlaced, AreCovered, IsClauseFinding
 
 use crate::trail::Trail;
 
-/// The state of a clause. `Open`: a literal of it is true, or at least two have no value. `Forced`: this literal has no
-/// value, and all others are false. `Conflict`: all literals are false.
+/// The state of a clause. `Open`: a literal of it is true, or at least two have no value. `Forced`:
+/// this literal has no value, and all others are false. `Conflict`: all literals are false.
 #[derive(Drop)]
 pub(crate) enum Finding {
     Open,

@@ -7,7 +7,8 @@ ghost use Rattle.mcs_engine.specs.Learning.{IsLatestOf, IsLatest};
 
 use crate::trail::Trail;
 
-/// The place at which the last of some literals became false, and how many places were enough for the others.
+/// The place at which the last of some literals became false, and how many places were enough for
+/// the others.
 #[derive(Clone, Copy)]
 pub struct Latest {
     pub place: usize,
@@ -17,7 +18,8 @@ pub struct Latest {
 /// The latest of the places so far and of one more.
 fn joined(found: Option<Latest>, place: usize) -> Latest
     requires { IfSome found (λ l. l.place + 1 < 2 ^ 64) }
-    ensures { MatchOption found (result ≡ record { place = place; others = 0 }) (λ l. IsLatestOf l place result) }
+    ensures { MatchOption found (result ≡ record { place = place; others = 0 })
+        (λ l. IsLatestOf l place result) }
 {
     match found {
         None => Latest { place, others: 0 },
@@ -39,13 +41,14 @@ fn joined(found: Option<Latest>, place: usize) -> Latest
     }
 }
 
-/// The latest of the places at which the literals became false, or `None` exactly if there are no literals. All of them
-/// have to be false.
+/// The latest of the places at which the literals became false, or `None` exactly if there are no
+/// literals. All of them have to be false.
 pub fn latest_of(trail: &Trail, literals: &[i64]) -> Option<Latest>
     requires placed { ArePlaced trail.now.entries.items trail.now.positions.items }
     requires clause { IsClause literals.now }
     requires all_false { IsFalse trail.now.entries.items literals.now }
-    ensures { MatchOption result (literals.now ≡ []) (IsLatest trail.now.entries.items literals.now) }
+    ensures { MatchOption result (literals.now ≡ [])
+        (IsLatest trail.now.entries.items literals.now) }
 {
     let mut found = None;
     for literal in literals {

@@ -1,5 +1,5 @@
-//! What a search is made of: the clauses and what each watches, the literals that are true, unit propagation, and what is
-//! learnt from a conflict.
+//! What a search is made of: the clauses and what each watches, the literals that are true, unit
+//! propagation, and what is learnt from a conflict.
 #![tactic(auto)]
 
 mod analysis;

@@ -1,20 +1,23 @@
 //! Lists of indices, one for each literal, allocated only if needed.
 
-ghost use Rattle.std.specs.Prelude.{◌≡◌, ◌≢◌, ℕ, ◌<◌, ◌++◌, ◌∷◌, [], length, swap_remove, slice_get, Some, OnOk, OnErr};
+ghost use Rattle.std.specs.Prelude.{◌≡◌, ◌≢◌, ℕ, ◌<◌, ◌++◌, ◌∷◌, [], length, swap_remove};
+ghost use Rattle.std.specs.Prelude.{slice_get, Some, OnOk, OnErr};
 ghost use Rattle.mcs_engine.specs.Lists.{list_at, row_at};
 
 use crate::blocks::{BLOCK, make_rows};
 use mcs_base::Memory;
 use std::alloc::Global;
 
-/// For each place of a literal a list of indices. The lists are in blocks of neighbouring places. A block reaches as
-/// far as the last place to whose list an index was added; a block without an index takes no memory.
+/// For each place of a literal a list of indices. The lists are in blocks of neighbouring places. A
+/// block reaches as far as the last place to whose list an index was added; a block without an
+/// index takes no memory.
 #[derive(Drop)]
 pub struct Lists {
     blocks: Vec<Vec<Vec<usize>>>,
 }
 
-/// Appends the index. The first allocation has room for two: two clauses watch most literals of the parts of a formula.
+/// Appends the index. The first allocation has room for two: two clauses watch most literals of the
+/// parts of a formula.
 fn add_index(indices: &mut Vec<usize>, index: usize) -> Result<(), Memory>
     ensures ok { OnOk result (indices.new.items ≡ indices.old.items ++ index ∷ []) }
     ensures err { OnErr result (indices.new.items ≡ indices.old.items) }

@@ -1,12 +1,14 @@
 //! A false clause, as marks at the places of the trail at which its literals became false.
 
-ghost use Rattle.std.specs.Prelude.{◌≡◌, ◌≢◌, ◌≤◌, ◌<◌, ◌⊎◌, ◌↔◌, ℕ, length, unsigned_abs, IfOk, OnOk};
+ghost use Rattle.std.specs.Prelude.{◌≡◌, ◌≢◌, ◌≤◌, ◌<◌, ◌⊎◌, ◌↔◌, ℕ, length, unsigned_abs, IfOk};
+ghost use Rattle.std.specs.Prelude.{OnOk};
 ghost use Rattle.std.specs.Bool.{MatchBool};
 ghost use Rattle.mcs_base.specs.Listings.{IsListing};
 ghost use Rattle.mcs_trace.specs.Clauses.{IsClause, LiteralBefore};
 ghost use Rattle.mcs_engine.specs.Trails.{AreCovered, ArePlaced, IsTrail, literal_at, reason_at};
 ghost use Rattle.mcs_engine.specs.Learning.{GoesOnByReasons};
-ghost use Rattle.mcs_engine.specs.Marking.{AreUnmarked, IsVariableMarked, IsMarkedChain, IsMarkedWithin, IsMetAt, IsOfMarks, IsTakenOff};
+ghost use Rattle.mcs_engine.specs.Marking.{AreUnmarked, IsVariableMarked, IsMarkedChain};
+ghost use Rattle.mcs_engine.specs.Marking.{IsMarkedWithin, IsMetAt, IsOfMarks, IsTakenOff};
 
 use crate::trail::Trail;
 use mcs_base::{Memory, Rows};
@@ -20,7 +22,8 @@ fn mark_one(trail: &Trail, literal: i64, marks: &mut Vec<bool>)
     requires sized { length marks.old.items ≡ length trail.now.entries.items }
     ensures sized { length marks.new.items ≡ length marks.old.items }
     ensures exactly { (p : ℕ) → p < length trail.now.entries.items
-        → IsVariableMarked marks.new.items p ↔ (IsVariableMarked marks.old.items p ⊎ (unsigned_abs (literal_at trail.now.entries.items p) ≡ unsigned_abs literal)) }
+        → IsVariableMarked marks.new.items p ↔ (IsVariableMarked marks.old.items p
+        ⊎ (unsigned_abs (literal_at trail.now.entries.items p) ≡ unsigned_abs literal)) }
 {
     let Some(place) = trail.position(literal) else {
         return;
@@ -36,7 +39,8 @@ pub(crate) fn mark_all(trail: &Trail, literals: &[i64], marks: &mut Vec<bool>)
     requires sized { length marks.old.items ≡ length trail.now.entries.items }
     ensures sized { length marks.new.items ≡ length marks.old.items }
     ensures exactly { (p : ℕ) → p < length trail.now.entries.items
-        → IsVariableMarked marks.new.items p ↔ (IsVariableMarked marks.old.items p ⊎ IsMetAt trail.now.entries.items literals.now p) }
+        → IsVariableMarked marks.new.items p ↔ (IsVariableMarked marks.old.items p
+        ⊎ IsMetAt trail.now.entries.items literals.now p) }
 {
     for literal in literals {
         mark_one(trail, *literal, marks);
@@ -76,8 +80,8 @@ pub(crate) fn is_any_marked(marks: &[bool], from: usize, to: usize) -> bool
     false
 }
 
-/// Resolves the marked clause with the reason of the literal at the place, and appends the number of the reason to the
-/// chain.
+/// Resolves the marked clause with the reason of the literal at the place, and appends the number
+/// of the reason to the chain.
 pub(crate) fn resolve_at(
     clauses: &Rows<i64>,
     trail: &Trail,
@@ -86,13 +90,16 @@ pub(crate) fn resolve_at(
     marks: &mut Vec<bool>,
 ) -> Result<(), Memory>
     requires trail { IsTrail clauses.now trail.now }
-    requires marked { IsMarkedChain clauses.now trail.now.entries.items chain.old.items marks.old.items }
+    requires marked { IsMarkedChain clauses.now trail.now.entries.items chain.old.items
+        marks.old.items }
     requires here { IsVariableMarked marks.old.items place }
     requires within { place < length trail.now.entries.items }
     requires implied { reason_at trail.now.entries.items place ≢ 0 }
-    ensures marked { OnOk result (IsMarkedChain clauses.now trail.now.entries.items chain.new.items marks.new.items) }
+    ensures marked { OnOk result (IsMarkedChain clauses.now trail.now.entries.items chain.new.items
+        marks.new.items) }
     ensures off { OnOk result (IsTakenOff marks.old.items marks.new.items place) }
-    ensures reasons { OnOk result (GoesOnByReasons clauses.now trail.now.entries.items chain.old.items chain.new.items) }
+    ensures reasons { OnOk result (GoesOnByReasons clauses.now trail.now.entries.items
+        chain.old.items chain.new.items) }
 {
     let cause = trail.entries[place].reason;
     chain.push(cause)?;
@@ -105,7 +112,8 @@ pub(crate) fn resolve_at(
 pub(crate) fn clause_of(alloc: Global, trail: &Trail, marks: &[bool]) -> Result<Clause, Memory>
     requires placed { ArePlaced trail.now.entries.items trail.now.positions.items }
     requires sized { length marks.now ≡ length trail.now.entries.items }
-    ensures { IfOk result (IsListing (IsOfMarks trail.now.entries.items marks.now (length marks.now)) LiteralBefore) }
+    ensures { IfOk result (IsListing (IsOfMarks trail.now.entries.items marks.now
+        (length marks.now)) LiteralBefore) }
 {
     let mut clause = Clause::empty(alloc);
     for place in 0..marks.len() {

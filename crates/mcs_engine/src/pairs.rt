@@ -1,6 +1,7 @@
 //! The watched literals of each clause, by the index of the clause.
 
-ghost use Rattle.std.specs.Prelude.{◌≡◌, ◌≢◌, ◌+◌, ◌<◌, ◌^◌, ◌++◌, ◌∷◌, [], length, set, take, slice_get, Some, OnOk, OnErr};
+ghost use Rattle.std.specs.Prelude.{◌≡◌, ◌≢◌, ◌+◌, ◌<◌, ◌^◌, ◌++◌, ◌∷◌, [], length, set, take};
+ghost use Rattle.std.specs.Prelude.{slice_get, Some, OnOk, OnErr};
 ghost use Rattle.mcs_engine.specs.Pairs.{no_pair};
 
 use crate::watches::{NO_PAIR, Pair};
@@ -8,8 +9,8 @@ use mcs_base::Memory;
 use std::alloc::Global;
 use std::marker::Model;
 
-/// For each clause the pair of literals that it watches. A clause that watches nothing has a pair of no literals; it
-/// takes no memory before the first clause that watches something.
+/// For each clause the pair of literals that it watches. A clause that watches nothing has a pair
+/// of no literals; it takes no memory before the first clause that watches something.
 #[derive(Drop)]
 pub struct Pairs {
     none: usize,

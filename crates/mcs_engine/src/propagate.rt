@@ -1,13 +1,16 @@
 //! Unit propagation with two watched literals.
 
-ghost use Rattle.std.specs.Prelude.{◌≡◌, ◌≢◌, ℕ, ℤ, ◌≤◌, ◌⊎◌, List, neg_ℤ, length, slice_get, MatchOption, IfOk};
+ghost use Rattle.std.specs.Prelude.{◌≡◌, ◌≢◌, ℕ, ℤ, ◌≤◌, ◌⊎◌, List, neg_ℤ, length, slice_get};
+ghost use Rattle.std.specs.Prelude.{MatchOption, IfOk};
 ghost use Rattle.std.specs.Bool.{MatchBool};
 ghost use Rattle.mcs_base.specs.Listings.{IsAmong};
 ghost use Rattle.mcs_trace.specs.Clauses.{IsClause, IsLiteral, place};
 ghost use Rattle.mcs_engine.specs.declared.state.Reach.{Reach};
 ghost use Rattle.mcs_engine.specs.Lists.{list_at};
-ghost use Rattle.mcs_engine.specs.Trails.{AreCovered, ArePlaced, GrowsOnLevel, IsFalseAt, IsOn, IsClauseSatisfied, IsTrail};
-ghost use Rattle.mcs_engine.specs.Watching.{AreMoved, AreSettled, AreSpared, AreVisited, AreWatched, IsLong, IsReached, IsClauseSeen};
+ghost use Rattle.mcs_engine.specs.Trails.{AreCovered, ArePlaced, GrowsOnLevel, IsFalseAt, IsOn};
+ghost use Rattle.mcs_engine.specs.Trails.{IsClauseSatisfied, IsTrail};
+ghost use Rattle.mcs_engine.specs.Watching.{AreMoved, AreSettled, AreSpared, AreVisited};
+ghost use Rattle.mcs_engine.specs.Watching.{AreWatched, IsLong, IsReached, IsClauseSeen};
 
 use crate::examine::{Finding, examine};
 use crate::trail::Trail;
@@ -15,8 +18,9 @@ use crate::watches::{Pair, Watches};
 use mcs_base::{Memory, Rows};
 use mcs_trace::place;
 
-/// The result of visiting a clause after one of its literals became false. `Satisfied`: a literal of it is true.
-/// `Gone`: it does not watch the literal any more. `Conflict`: all its literals are false.
+/// The result of visiting a clause after one of its literals became false. `Satisfied`: a literal
+/// of it is true. `Gone`: it does not watch the literal any more. `Conflict`: all its literals are
+/// false.
 #[derive(Drop)]
 pub(crate) enum Seen {
     Satisfied,
@@ -63,9 +67,12 @@ fn visit(
     ensures sized { length watches.new.pairs ≡ length watches.old.pairs }
     ensures spared { AreSpared watches.old.pairs watches.new.pairs }
     ensures reached { (r : Reach) → r.visited ≤ length trail.old.entries.items
-        → IsReached clauses.now watches.old trail.old.entries.items r → IsReached clauses.now watches.new trail.old.entries.items r }
-    ensures list { list_at watches.new.lists (place literal) ≡ list_at watches.old.lists (place literal) }
-    ensures seen { IfOk result (IsClauseSeen clauses.now watches.new trail.new.entries.items index literal) }
+        → IsReached clauses.now watches.old trail.old.entries.items r
+        → IsReached clauses.now watches.new trail.old.entries.items r }
+    ensures list { list_at watches.new.lists (place literal)
+        ≡ list_at watches.old.lists (place literal) }
+    ensures seen { IfOk result (IsClauseSeen clauses.now watches.new trail.new.entries.items index
+        literal) }
 {
     if index >= watches.pairs.len() {
         return Ok(Seen::Gone);
@@ -92,8 +99,8 @@ fn visit(
     Ok(Seen::Satisfied)
 }
 
-/// Visits the clauses that watch the literal, which is false. Returns the index of a clause that is false, if one is
-/// found.
+/// Visits the clauses that watch the literal, which is false. Returns the index of a clause that is
+/// false, if one is found.
 fn visit_list(
     clauses: &Rows<i64>,
     watches: &mut Watches,
@@ -114,7 +121,8 @@ fn visit_list(
     ensures sized { length watches.new.pairs ≡ length watches.old.pairs }
     ensures spared { AreSpared watches.old.pairs watches.new.pairs }
     ensures reached { (r : Reach) → r.visited ≤ length trail.old.entries.items
-        → IsReached clauses.now watches.old trail.old.entries.items r → IsReached clauses.now watches.new trail.old.entries.items r }
+        → IsReached clauses.now watches.old trail.old.entries.items r
+        → IsReached clauses.now watches.new trail.old.entries.items r }
     ensures found { IfOk result (λ found. MatchOption found
         (AreVisited clauses.now watches.new trail.new.entries.items literal)
         (IsFalseAt clauses.now trail.new.entries.items)) }
@@ -134,8 +142,8 @@ fn visit_list(
     Ok(None)
 }
 
-/// Visits the clauses that watch the literals that became false from the place `from` on, and those that then become
-/// false. Returns the index of a clause that is false, if one is found.
+/// Visits the clauses that watch the literals that became false from the place `from` on, and those
+/// that then become false. Returns the index of a clause that is false, if one is found.
 pub fn visit_from(
     clauses: &Rows<i64>,
     watches: &mut Watches,
@@ -156,10 +164,17 @@ pub fn visit_from(
     ensures spared { AreSpared watches.old.pairs watches.new.pairs }
     ensures bound { from.new ≤ length trail.new.entries.items }
     ensures reached { (r : Reach) → r.visited ≤ length trail.old.entries.items
-        → IsReached clauses.now watches.old trail.old.entries.items r → IsReached clauses.now watches.new trail.old.entries.items r }
+        → IsReached clauses.now watches.old trail.old.entries.items r
+        → IsReached clauses.now watches.new trail.old.entries.items r }
     ensures now { (settled : ℕ)
-        → IsReached clauses.now watches.old trail.old.entries.items (record { entries = length trail.old.entries.items; visited = from.old; settled = settled })
-        → IsReached clauses.now watches.new trail.new.entries.items (record { entries = length trail.new.entries.items; visited = from.new; settled = settled }) }
+        → IsReached clauses.now watches.old trail.old.entries.items
+        (record { entries = length trail.old.entries.items; visited = from.old; settled = settled })
+        → IsReached clauses.now watches.new trail.new.entries.items
+        (record {
+          entries = length trail.new.entries.items;
+          visited = from.new;
+          settled = settled;
+        }) }
     ensures found { IfOk result (λ found. MatchOption found
         (from.new ≡ length trail.new.entries.items)
         (IsFalseAt clauses.now trail.new.entries.items)) }
@@ -175,7 +190,8 @@ pub fn visit_from(
     Ok(None)
 }
 
-/// If all literals but one of the clause with this index are false, makes that one true. Returns whether all are false.
+/// If all literals but one of the clause with this index are false, makes that one true. Returns
+/// whether all are false.
 pub fn settle(
     clauses: &Rows<i64>,
     trail: &mut Trail,
@@ -188,7 +204,8 @@ pub fn settle(
     ensures grows { GrowsOnLevel level trail.old.entries.items trail.new.entries.items }
     ensures found { IfOk result (λ found. MatchBool found
         (IsFalseAt clauses.now trail.new.entries.items index)
-        ((c : List ℤ) → slice_get clauses.now index ≡ Some c → ¬ IsLong c → IsClauseSatisfied trail.new.entries.items c)) }
+        ((c : List ℤ) → slice_get clauses.now index ≡ Some c → ¬ IsLong c
+        → IsClauseSatisfied trail.new.entries.items c)) }
 {
     if index >= clauses.len() {
         return Ok(false);
@@ -203,8 +220,8 @@ pub fn settle(
     }
 }
 
-/// Propagates through the clauses with the indices from `from` on. Returns the index of a clause that is false, if one
-/// is found.
+/// Propagates through the clauses with the indices from `from` on. Returns the index of a clause
+/// that is false, if one is found.
 pub fn settle_from(
     clauses: &Rows<i64>,
     indices: &[usize],

@@ -1,12 +1,14 @@
 //! The state of a solver.
 
-ghost use Rattle.std.specs.Prelude.{◌≡◌, ◌+◌, ◌<◌, ◌≤◌, ◌^◌, ◌++◌, ◌∷◌, [], length, unsigned_abs, Some, IfOk, OnOk, OnErr, IfSome};
+ghost use Rattle.std.specs.Prelude.{◌≡◌, ◌+◌, ◌<◌, ◌≤◌, ◌^◌, ◌++◌, ◌∷◌, [], length, unsigned_abs};
+ghost use Rattle.std.specs.Prelude.{Some, IfOk, OnOk, OnErr, IfSome};
 ghost use Rattle.mcs_trace.specs.Clauses.{IsClause, IsLiteral};
 ghost use Rattle.mcs_trace.specs.Traces.{IsChainResolvent};
 ghost use Rattle.mcs_engine.specs.Trails.{ArePlaced, IsFalse, StandsNowhere};
 ghost use Rattle.mcs_engine.specs.Watching.{KeepsLists, IsPushed};
 ghost use Rattle.mcs_engine.specs.Learning.{IsSingle};
-ghost use Rattle.mcs_engine.specs.States.{IsBack, IsDecided, IsFull, IsLastLevel, IsLearntBack, IsState, IsTurn, IsUnchanged, SameClauses};
+ghost use Rattle.mcs_engine.specs.States.{IsBack, IsDecided, IsFull, IsLastLevel, IsLearntBack};
+ghost use Rattle.mcs_engine.specs.States.{IsState, IsTurn, IsUnchanged, SameClauses};
 
 use crate::chains::Chains;
 use crate::latest::{Latest, latest_of};
@@ -15,8 +17,9 @@ use crate::watches::{Pair, Watches};
 use mcs_base::{Memory, Rows};
 use std::alloc::Global;
 
-/// How far propagation had come when a level began: how many literals were true, for how many of them the clauses that
-/// watch their negation were visited, and how many short clauses were settled.
+/// How far propagation had come when a level began: how many literals were true, for how many of
+/// them the clauses that watch their negation were visited, and how many short clauses were
+/// settled.
 #[derive(Clone, Copy)]
 pub struct Reach {
     pub entries: usize,
@@ -24,8 +27,9 @@ pub struct Reach {
     pub settled: usize,
 }
 
-/// How far propagation had come, at level 0, when clauses were settled: how many clauses there were, how many literals
-/// were true, and for how many of these the clauses that watch their negation were visited.
+/// How far propagation had come, at level 0, when clauses were settled: how many clauses there
+/// were, how many literals were true, and for how many of these the clauses that watch their
+/// negation were visited.
 #[derive(Clone, Copy)]
 pub struct Kept {
     pub count: usize,
@@ -40,9 +44,10 @@ pub const NOTHING: Kept = Kept {
     visited: 0,
 };
 
-/// The state of a solver. It has the clauses, with the chains of those that were learnt; the trail of true literals;
-/// the watched literals; and the reach of each level above 0. It also has for how many true literals the clauses were
-/// visited, how many short clauses were settled, and what is kept of this for when clauses are removed.
+/// The state of a solver. It has the clauses, with the chains of those that were learnt; the trail
+/// of true literals; the watched literals; and the reach of each level above 0. It also has for how
+/// many true literals the clauses were visited, how many short clauses were settled, and what is
+/// kept of this for when clauses are removed.
 #[derive(Drop)]
 pub struct State {
     pub clauses: Rows<i64>,
@@ -80,8 +85,8 @@ impl State {
     }
 }
 
-/// Appends a clause with its chain. It watches the pair; without a pair it has to be a clause of fewer than two
-/// literals.
+/// Appends a clause with its chain. It watches the pair; without a pair it has to be a clause of
+/// fewer than two literals.
 pub(crate) fn push_clause(
     clauses: &mut Rows<i64>,
     chains: &mut Chains,
@@ -149,7 +154,8 @@ pub fn back(state: &mut State, level: usize)
     ensures same { SameClauses state.old state.new }
     ensures full { IsFull state.old → IsFull state.new }
     ensures back { IsBack state.old state.new level }
-    ensures stays { length state.old.levels.items ≤ level → state.new.trail.entries.items ≡ state.old.trail.entries.items }
+    ensures stays { length state.old.levels.items ≤ level
+        → state.new.trail.entries.items ≡ state.old.trail.entries.items }
 {
     if level < state.levels.len() {
         let reach = state.levels[level];
@@ -160,8 +166,8 @@ pub fn back(state: &mut State, level: usize)
     }
 }
 
-/// Where a learnt clause leads back: the greatest level of its literals other than the last one that became false, the
-/// place of the latest of these others, and what the clause watches then.
+/// Where a learnt clause leads back: the greatest level of its literals other than the last one
+/// that became false, the place of the latest of these others, and what the clause watches then.
 #[derive(Clone, Copy)]
 pub struct Turn {
     pub level: usize,
@@ -169,10 +175,12 @@ pub struct Turn {
     pub pair: Option<Pair>,
 }
 
-/// Where a learnt clause leads back, given the latest of its literals. Without others it leads back to level 0.
+/// Where a learnt clause leads back, given the latest of its literals. Without others it leads back
+/// to level 0.
 pub fn turn_of(trail: &Trail, latest: Latest) -> Turn
     requires placed { ArePlaced trail.now.entries.items trail.now.positions.items }
-    requires latest { (latest.place < length trail.now.entries.items) × (latest.others ≤ latest.place) }
+    requires latest { (latest.place < length trail.now.entries.items)
+        × (latest.others ≤ latest.place) }
     ensures { IsTurn trail.now.entries.items latest result }
 {
     if latest.others == 0 {
@@ -193,19 +201,21 @@ pub fn turn_of(trail: &Trail, latest: Latest) -> Turn
     }
 }
 
-/// Learns the clause, which is false, with its chain, and goes back to the greatest level of its literals other than
-/// the one of the last level.
+/// Learns the clause, which is false, with its chain, and goes back to the greatest level of its
+/// literals other than the one of the last level.
 pub fn learn(state: &mut State, literals: &[i64], chain: &[u64]) -> Result<(), Memory>
     requires state { IsState state.old }
     requires clause { IsClause literals.now }
     requires all_false { IsFalse state.old.trail.entries.items literals.now }
     requires chain { IsChainResolvent state.old.clauses chain.now literals.now }
-    requires single { (r : Reach) → IsLastLevel state.old.levels.items r → IsSingle state.old.trail.entries.items r.entries literals.now }
+    requires single { (r : Reach) → IsLastLevel state.old.levels.items r
+        → IsSingle state.old.trail.entries.items r.entries literals.now }
     requires some { 0 < length state.old.levels.items }
     requires full { IsFull state.old }
     ensures kept { IsState state.new }
     ensures full { IsFull state.new }
-    ensures positions { length state.new.trail.positions.items ≡ length state.old.trail.positions.items }
+    ensures positions { length state.new.trail.positions.items
+        ≡ length state.old.trail.positions.items }
     ensures learnt { OnOk result (IsLearntBack state.old state.new literals.now chain.now) }
     ensures err { OnErr result (IsUnchanged state.old state.new) }
 {

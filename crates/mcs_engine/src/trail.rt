@@ -1,15 +1,19 @@
 //! The trail: the literals that are true, in their order.
 
-ghost use Rattle.std.specs.Prelude.{◌≡◌, ℕ, ◌++◌, ◌∷◌, [], ◌<◌, ◌≤◌, ◌+◌, ◌^◌, length, unsigned_abs, neg_ℤ, take, ◌↔◌, IsTrue, MatchOption, IfOk, OnOk, OnErr};
+ghost use Rattle.std.specs.Prelude.{◌≡◌, ℕ, ◌++◌, ◌∷◌, [], ◌<◌, ◌≤◌, ◌+◌, ◌^◌, length};
+ghost use Rattle.std.specs.Prelude.{unsigned_abs, neg_ℤ, take, ◌↔◌, IsTrue, MatchOption, IfOk};
+ghost use Rattle.std.specs.Prelude.{OnOk, OnErr};
 ghost use Rattle.std.specs.Bool.{MatchBool};
 ghost use Rattle.mcs_trace.specs.Clauses.{IsLiteral};
-ghost use Rattle.mcs_engine.specs.Trails.{ArePlaced, AreAssigned, StandsAt, StandsNowhere, IsOn, literal_at, reason_at};
+ghost use Rattle.mcs_engine.specs.Trails.{ArePlaced, AreAssigned, StandsAt, StandsNowhere, IsOn};
+ghost use Rattle.mcs_engine.specs.Trails.{literal_at, reason_at};
 
 use mcs_base::Memory;
 use std::alloc::Global;
 
-/// A literal that is true; its reason, which is 0 for a decision, and otherwise the number of a clause whose other
-/// literals were false before it; and its level, the number of decisions up to it.
+/// A literal that is true; its reason, which is 0 for a decision, and otherwise the number of a
+/// clause whose other literals were false before it; and its level, the number of decisions up to
+/// it.
 #[derive(Clone, Copy)]
 pub struct Entry {
     pub literal: i64,
@@ -63,7 +67,8 @@ impl Trail {
         requires within { unsigned_abs literal < length self.now.positions.items }
         ensures { MatchOption result
             (StandsNowhere self.now.entries.items (unsigned_abs literal))
-            (λ value. MatchBool value (IsOn self.now.entries.items literal) (IsOn self.now.entries.items (neg_ℤ literal))) }
+            (λ value. MatchBool value (IsOn self.now.entries.items literal)
+            (IsOn self.now.entries.items (neg_ℤ literal))) }
     {
         let position = self.position(literal)?;
         Some(self.entries[position].literal == literal)
@@ -105,7 +110,8 @@ impl Trail {
         requires within { unsigned_abs literal < length self.old.positions.items }
         requires free { StandsNowhere self.old.entries.items (unsigned_abs literal) }
         ensures entries { OnOk result
-            (self.new.entries.items ≡ self.old.entries.items ++ record { literal = literal; reason = reason; level = level } ∷ []) }
+            (self.new.entries.items ≡ self.old.entries.items
+            ++ record { literal = literal; reason = reason; level = level } ∷ []) }
         ensures placed { ArePlaced self.new.entries.items self.new.positions.items }
         ensures err { OnErr result (self.new.entries.items ≡ self.old.entries.items) }
         ensures positions { length self.new.positions.items ≡ length self.old.positions.items }
@@ -142,7 +148,8 @@ impl Trail {
     pub fn explained_within(&self, number: usize) -> usize
         ensures bound { result ≤ length self.now.entries.items }
         ensures reasons { (i : ℕ) → i < result → reason_at self.now.entries.items i ≤ number }
-        ensures first { result < length self.now.entries.items → number < reason_at self.now.entries.items result }
+        ensures first { result < length self.now.entries.items
+            → number < reason_at self.now.entries.items result }
     {
         for (place, entry) in self.entries.iter().enumerate() {
             if entry.reason > number as u64 {
@@ -159,7 +166,8 @@ impl Trail {
         requires from { 0 < from }
         ensures { MatchOption result
             (AreAssigned self.now.entries.items from (length self.now.positions.items))
-            (λ l. IsLiteral l × (unsigned_abs l < length self.now.positions.items) × StandsNowhere self.now.entries.items (unsigned_abs l)) }
+            (λ l. IsLiteral l × (unsigned_abs l < length self.now.positions.items)
+            × StandsNowhere self.now.entries.items (unsigned_abs l)) }
     {
         for variable in from..self.positions.len() {
             let literal = variable as i64;

@@ -1,6 +1,7 @@
 //! The watched literals: which clauses watch a literal.
 
-ghost use Rattle.std.specs.Prelude.{◌≡◌, ◌≢◌, ℕ, ℤ, ◌+◌, ◌<◌, ◌^◌, [], length, take, MatchOption, OnOk, OnErr, IfSome, filter, ltb};
+ghost use Rattle.std.specs.Prelude.{◌≡◌, ◌≢◌, ℕ, ℤ, ◌+◌, ◌<◌, ◌^◌, [], length, take, MatchOption};
+ghost use Rattle.std.specs.Prelude.{OnOk, OnErr, IfSome, filter, ltb};
 ghost use Rattle.mcs_trace.specs.Clauses.{IsLiteral, place};
 ghost use Rattle.mcs_engine.specs.Lists.{list_at};
 ghost use Rattle.mcs_engine.specs.Watching.{KeepsLists, IsInList, IsOf, IsPairOf, IsPushed};
@@ -39,9 +40,9 @@ impl Pair {
     }
 }
 
-/// For each of the first clauses, by its index, the two literals that it watches. For each literal, by its place, the
-/// indices of clauses, among them those that watch it. Also the indices of clauses, among them those of fewer than two
-/// literals.
+/// For each of the first clauses, by its index, the two literals that it watches. For each literal,
+/// by its place, the indices of clauses, among them those that watch it. Also the indices of
+/// clauses, among them those of fewer than two literals.
 #[derive(Drop)]
 pub struct Watches {
     pub pairs: Pairs,
@@ -68,15 +69,16 @@ impl Watches {
         requires literal { IsLiteral literal }
         ensures listed { OnOk result (IsInList self.new.lists literal index) }
         ensures kept { (l : ℤ) (i : ℕ) → IsInList self.old.lists l i → IsInList self.new.lists l i }
-        ensures others { (p : ℕ) → p ≢ place literal → list_at self.new.lists p ≡ list_at self.old.lists p }
+        ensures others { (p : ℕ) → p ≢ place literal
+            → list_at self.new.lists p ≡ list_at self.old.lists p }
         ensures pairs { self.new.pairs ≡ self.old.pairs }
         ensures short { self.new.short.items ≡ self.old.short.items }
     {
         self.lists.push(place(literal) as usize, index)
     }
 
-    /// Adds the next clause, which watches the pair; without a pair it has fewer than two literals. If memory runs out,
-    /// no clause is added.
+    /// Adds the next clause, which watches the pair; without a pair it has fewer than two literals.
+    /// If memory runs out, no clause is added.
     pub fn push(&mut self, pair: Option<Pair>) -> Result<(), Memory>
         requires literals { IfSome pair (λ p. IsLiteral p.first × IsLiteral p.second) }
         requires fits { length self.old.pairs + 1 < 2 ^ 64 }
@@ -103,8 +105,8 @@ impl Watches {
         Ok(())
     }
 
-    /// Keeps the first `count` clauses, and the short ones among them. Indices of other clauses in the lists are
-    /// skipped.
+    /// Keeps the first `count` clauses, and the short ones among them. Indices of other clauses in
+    /// the lists are skipped.
     pub fn cut(&mut self, count: usize)
         ensures pairs { self.new.pairs ≡ take count self.old.pairs }
         ensures short { self.new.short.items ≡ filter (λ i. ltb i count) self.old.short.items }

@@ -34,8 +34,12 @@ pub fn classical_views(
     requires formulas { AreOver asked.now.atoms.now (map formula_of formulas.now) }
     requires heads { AreOver asked.now.atoms.now (map (λ f. formula_of f.now) heads.now) }
     ensures { IfOk result (λ shown. MatchOption shown
-        ((views : List ℕ) → ¬ IsAcceptedClassical asked.now.atoms.now (map formula_of formulas.now ++ map (λ f. formula_of f.now) heads.now) (asked_beliefs asked.now) views (certificate_of cert.now))
-        (λ views. IsAcceptedClassical asked.now.atoms.now (map formula_of formulas.now ++ map (λ f. formula_of f.now) heads.now) (asked_beliefs asked.now) views.items (certificate_of cert.now))) }
+        ((views : List ℕ) → ¬ IsAcceptedClassical asked.now.atoms.now
+        (map formula_of formulas.now ++ map (λ f. formula_of f.now) heads.now)
+        (asked_beliefs asked.now) views (certificate_of cert.now))
+        (λ views. IsAcceptedClassical asked.now.atoms.now
+        (map formula_of formulas.now ++ map (λ f. formula_of f.now) heads.now)
+        (asked_beliefs asked.now) views.items (certificate_of cert.now))) }
 {
     let premises = formulas_with(alloc, formulas, heads)?;
     let mut known = clauses_of(alloc, asked, &premises)?;

@@ -1,7 +1,8 @@
-//! Checks that formulas follow from others, or that they do not: a trace is checked, and under an assignment the
-//! formulas are evaluated.
+//! Checks that formulas follow from others, or that they do not: a trace is checked, and under an
+//! assignment the formulas are evaluated.
 
-ghost use Rattle.std.specs.Prelude.{◌≡◌, ℕ, ◌≤◌, ◌↔◌, List, length, map, IsTrue, IfOk, IfSome, MatchOption};
+ghost use Rattle.std.specs.Prelude.{◌≡◌, ℕ, ◌≤◌, ◌↔◌, List, length, map, IsTrue, IfOk, IfSome};
+ghost use Rattle.std.specs.Prelude.{MatchOption};
 ghost use Rattle.mcs_sets.specs.Sets.{has};
 ghost use Rattle.mcs_system.specs.Logic.{holds_all, true_names};
 ghost use Rattle.mcs_system.specs.Plain as plain;
@@ -9,7 +10,8 @@ ghost use Rattle.mcs_system.specs.Seen.{formula_of};
 ghost use Rattle.mcs_trace.specs.Traces.{inferences_of};
 ghost use Rattle.mcs_cnf.specs.ClauseLists.{clause_list, IsOver};
 ghost use Rattle.mcs_cnf.specs.Classical.{HasYes, AreShown};
-ghost use Rattle.mcs_cnf.specs.Entailments.{Yes, entailment_of, says_yes, IsAcceptedEntailment, IsModelAt, IsRefuted};
+ghost use Rattle.mcs_cnf.specs.Entailments.{Yes, entailment_of, says_yes, IsAcceptedEntailment};
+ghost use Rattle.mcs_cnf.specs.Entailments.{IsModelAt, IsRefuted};
 ghost use Rattle.mcs_evidence.specs.Defaults.{IsEntailmentShown, IsDenied, AreDenied};
 ghost use Rattle.mcs_evidence.specs.Programs.{IsInRange};
 ghost use Rattle.mcs_asked.specs.Questions.{asked_beliefs};
@@ -28,8 +30,8 @@ pub fn is_in_range(atoms: &[Name], places: u64) -> bool
     atoms.len() >= 64 || places < 1 << atoms.len()
 }
 
-/// Whether the trace refutes the formulas whose clauses are `known`, together with the negated goal. The clauses of the
-/// goal are added for the test and removed again.
+/// Whether the trace refutes the formulas whose clauses are `known`, together with the negated
+/// goal. The clauses of the goal are added for the test and removed again.
 fn is_refuted_by(
     alloc: Global,
     known: &mut Cnf,
@@ -40,8 +42,10 @@ fn is_refuted_by(
     requires goal { IsOver atoms.now (formula_of goal.now) }
     requires room { length atoms.now ≤ known.old.vars }
     ensures kept { known.new ≡ known.old }
-    ensures exact { IfOk result (λ yes. (fs : List plain.Formula) → known.old ≡ clause_list atoms.now fs
-        → IsTrue yes ↔ IsAcceptedEntailment atoms.now fs (formula_of goal.now) (Yes (inferences_of trace.now))) }
+    ensures exact { IfOk result (λ yes. (fs : List plain.Formula)
+        → known.old ≡ clause_list atoms.now fs
+        → IsTrue yes ↔ IsAcceptedEntailment atoms.now fs (formula_of goal.now)
+        (Yes (inferences_of trace.now))) }
 {
     let vars = known.vars();
     let count = known.clauses().len();
@@ -54,16 +58,19 @@ fn is_refuted_by(
 /// Whether the formulas hold if exactly the atoms at these places are true.
 fn hold_at(atoms: &[Name], values: Vars, formulas: &[&Formula]) -> bool
     requires few { length atoms.now ≤ 64 }
-    ensures { result ≡ holds_all (true_names 0 atoms.now values) (map (λ f. formula_of f.now) formulas.now) }
+    ensures { result
+        ≡ holds_all (true_names 0 atoms.now values) (map (λ f. formula_of f.now) formulas.now) }
 {
     formulas.iter().all(|f| holds_at(atoms, values, f))
 }
 
-/// Whether the places are those of atoms, and the formulas hold if exactly these are true. `model` may be such a set
-/// that was found before.
+/// Whether the places are those of atoms, and the formulas hold if exactly these are true. `model`
+/// may be such a set that was found before.
 fn is_model_at(asked: &Asked<'_>, premises: &[&Formula], places: u64, model: &Option<Vars>) -> bool
-    requires known { IfSome model.now (IsModelAt asked.now.atoms.now (map (λ f. formula_of f.now) premises.now)) }
-    ensures { IsTrue result ↔ IsModelAt asked.now.atoms.now (map (λ f. formula_of f.now) premises.now) places }
+    requires known { IfSome model.now (IsModelAt asked.now.atoms.now
+        (map (λ f. formula_of f.now) premises.now)) }
+    ensures { IsTrue result
+        ↔ IsModelAt asked.now.atoms.now (map (λ f. formula_of f.now) premises.now) places }
 {
     let values = Vars::numbered(places);
     if *model == Some(values) {
@@ -83,8 +90,10 @@ fn is_refuted_at(
     places: u64,
     model: &Option<Vars>,
 ) -> bool
-    requires known { IfSome model.now (IsModelAt asked.now.atoms.now (map (λ f. formula_of f.now) premises.now)) }
-    ensures { IsTrue result ↔ IsRefuted asked.now.atoms.now (map (λ f. formula_of f.now) premises.now) (formula_of goal.now) places }
+    requires known { IfSome model.now (IsModelAt asked.now.atoms.now
+        (map (λ f. formula_of f.now) premises.now)) }
+    ensures { IsTrue result ↔ IsRefuted asked.now.atoms.now
+        (map (λ f. formula_of f.now) premises.now) (formula_of goal.now) places }
 {
     if !is_model_at(asked, premises, places, model) {
         return false;
@@ -103,8 +112,10 @@ pub fn shows(
     requires goal { IsOver atoms.now (formula_of goal.now) }
     requires room { length atoms.now ≤ known.old.vars }
     ensures kept { known.new ≡ known.old }
-    ensures exact { IfOk result (λ yes. (fs : List plain.Formula) → known.old ≡ clause_list atoms.now fs
-        → IsTrue yes ↔ IsEntailmentShown atoms.now fs (formula_of goal.now) (entailment_of entail.now)) }
+    ensures exact { IfOk result (λ yes. (fs : List plain.Formula)
+        → known.old ≡ clause_list atoms.now fs
+        → IsTrue yes
+        ↔ IsEntailmentShown atoms.now fs (formula_of goal.now) (entailment_of entail.now)) }
 {
     match entail {
         Entail::Yes(trace) => is_refuted_by(alloc, known, goal, atoms, trace),
@@ -112,7 +123,8 @@ pub fn shows(
     }
 }
 
-/// Whether it is shown that the goal does not follow from the formulas. `model` may be a known model of these.
+/// Whether it is shown that the goal does not follow from the formulas. `model` may be a known
+/// model of these.
 pub fn denies(
     asked: &Asked<'_>,
     premises: &[&Formula],
@@ -120,8 +132,11 @@ pub fn denies(
     entail: &Entail,
     model: &Option<Vars>,
 ) -> bool
-    requires known { IfSome model.now (IsModelAt asked.now.atoms.now (map (λ f. formula_of f.now) premises.now)) }
-    ensures { IsTrue result ↔ IsDenied asked.now.atoms.now (map (λ f. formula_of f.now) premises.now) (formula_of goal.now) (entailment_of entail.now) }
+    requires known { IfSome model.now (IsModelAt asked.now.atoms.now
+        (map (λ f. formula_of f.now) premises.now)) }
+    ensures { IsTrue result ↔ IsDenied asked.now.atoms.now
+        (map (λ f. formula_of f.now) premises.now) (formula_of goal.now)
+        (entailment_of entail.now) }
 {
     match entail {
         Entail::Yes(_) => false,
@@ -136,7 +151,9 @@ pub fn deny(
     goals: &[&Formula],
     entails: &[Entail],
 ) -> bool
-    ensures { IsTrue result ↔ AreDenied asked.now.atoms.now (map (λ f. formula_of f.now) premises.now) (map (λ f. formula_of f.now) goals.now) (map entailment_of entails.now) }
+    ensures { IsTrue result ↔ AreDenied asked.now.atoms.now
+        (map (λ f. formula_of f.now) premises.now) (map (λ f. formula_of f.now) goals.now)
+        (map entailment_of entails.now) }
 {
     if goals.len() != entails.len() {
         return false;
@@ -176,8 +193,8 @@ fn places_with_yes(entails: &[Entail]) -> Vars
     places
 }
 
-/// The places of the beliefs that follow from the formulas, whose clauses are `known`, if it is shown of each belief that
-/// it does or that it does not.
+/// The places of the beliefs that follow from the formulas, whose clauses are `known`, if it is
+/// shown of each belief that it does or that it does not.
 pub fn shown_places(
     alloc: Global,
     known: &mut Cnf,
@@ -185,11 +202,14 @@ pub fn shown_places(
     premises: &[&Formula],
     entails: &[Entail],
 ) -> Result<Option<Vars>, Memory>
-    requires made { known.old ≡ clause_list asked.now.atoms.now (map (λ f. formula_of f.now) premises.now) }
+    requires made { known.old
+        ≡ clause_list asked.now.atoms.now (map (λ f. formula_of f.now) premises.now) }
     ensures kept { known.new ≡ known.old }
     ensures exact { IfOk result (λ view. MatchOption view
-        ((places : ℕ) → ¬ AreShown asked.now.atoms.now (map (λ f. formula_of f.now) premises.now) (asked_beliefs asked.now) places (map entailment_of entails.now))
-        (λ places. AreShown asked.now.atoms.now (map (λ f. formula_of f.now) premises.now) (asked_beliefs asked.now) places (map entailment_of entails.now))) }
+        ((places : ℕ) → ¬ AreShown asked.now.atoms.now (map (λ f. formula_of f.now) premises.now)
+        (asked_beliefs asked.now) places (map entailment_of entails.now))
+        (λ places. AreShown asked.now.atoms.now (map (λ f. formula_of f.now) premises.now)
+        (asked_beliefs asked.now) places (map entailment_of entails.now))) }
 {
     let beliefs = asked.beliefs;
     if entails.len() != beliefs.len() {

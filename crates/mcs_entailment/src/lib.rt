@@ -1,5 +1,5 @@
-//! Whether certificates show that formulas follow from others, or do not, and what a classical context believes: decided
-//! without a search, by checking traces and evaluating formulas.
+//! Whether certificates show that formulas follow from others, or do not, and what a classical
+//! context believes: decided without a search, by checking traces and evaluating formulas.
 #![tactic(auto)]
 
 mod classical;

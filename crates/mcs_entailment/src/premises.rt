@@ -14,7 +14,8 @@ use std::alloc::Global;
 /// The clauses of the formulas.
 pub fn clauses_of(alloc: Global, asked: &Asked<'_>, formulas: &[&Formula]) -> Result<Cnf, Memory>
     requires { AreOver asked.now.atoms.now (map (λ f. formula_of f.now) formulas.now) }
-    ensures { IfOk result (λ known. known ≡ clause_list asked.now.atoms.now (map (λ f. formula_of f.now) formulas.now)) }
+    ensures { IfOk result (λ known. known
+        ≡ clause_list asked.now.atoms.now (map (λ f. formula_of f.now) formulas.now)) }
 {
     let mut known = Cnf::new(alloc, asked.atoms.len() as u64);
     push_all(alloc, &mut known, formulas, asked.atoms)?;
@@ -27,7 +28,8 @@ pub fn formulas_with<'f>(
     formulas: &'f [Formula],
     added: &[&'f Formula],
 ) -> Result<Vec<&'f Formula>, Memory>
-    ensures { IfOk result (λ all. map (λ f. formula_of f.now) all.items ≡ map formula_of formulas.now ++ map (λ f. formula_of f.now) added.now) }
+    ensures { IfOk result (λ all. map (λ f. formula_of f.now) all.items
+        ≡ map formula_of formulas.now ++ map (λ f. formula_of f.now) added.now) }
 {
     let mut all = lend(alloc, formulas)?;
     all.extend_from_slice(added)?;
@@ -36,7 +38,8 @@ pub fn formulas_with<'f>(
 
 /// References to the formulas.
 pub fn lend(alloc: Global, formulas: &[Formula]) -> Result<Vec<&Formula>, Memory>
-    ensures { IfOk result (λ all. map (λ f. formula_of f.now) all.items ≡ map formula_of formulas.now) }
+    ensures { IfOk result (λ all. map (λ f. formula_of f.now) all.items
+        ≡ map formula_of formulas.now) }
 {
     let mut all = Vec::new(alloc);
     for formula in formulas {

@@ -2,7 +2,8 @@
 
 ghost use Rattle.mcs_equilibria.specs.First.{SelfSupportComesFirst};
 
-/// A system with a rule that supports itself has two states, and the one that contains its variable is the first.
+/// A system with a rule that supports itself has two states, and the one that contains its variable
+/// is the first.
 pub fn self_support_comes_first()
     ensures { SelfSupportComesFirst }
 {}

@@ -41,7 +41,8 @@ fn of_formulas(alloc: Global) -> Result<AnswerCert, Fail> {
     Ok(AnswerCert::Classical(ClassicalCert { entails }))
 }
 
-/// What shows of one of the sets of two defaults whether it generates an extension: each shows it in its own way.
+/// What shows of one of the sets of two defaults whether it generates an extension: each shows it
+/// in its own way.
 enum Verdict {
     Blocked,
     Applied,
@@ -136,8 +137,9 @@ const PROGRAM: &str =
     "answer c1 {r1, r2}\nstate {c1:a, c1:b}\nstate {}\nmodel {a}\nstep 1 -2 by 3\nsmaller {}\nsmaller {b}\nnone\n\
 step by 4\ndone\n{b}";
 
-/// Whether the lines of an answer, and then the set of the second atom, are this text: the answer of the first context
-/// with each rule into it, where a state with all its variables and the empty state are put out.
+/// Whether the lines of an answer, and then the set of the second atom, are this text: the answer
+/// of the first context with each rule into it, where a state with all its variables and the empty
+/// state are put out.
 #[tactic(auto, using(mcs_system::proofs::ContextSets::rules_into_known))]
 fn is_written(
     alloc: Global,

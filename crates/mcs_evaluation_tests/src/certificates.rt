@@ -31,14 +31,15 @@ const TOLD: &str = "context c classical {} bridge r: c:a if not c:a.";
 /// One fact, which is read.
 const ONE: &str = "context c1 program { a. } context c2 classical {} bridge r: c2:b if c1:a.";
 
-/// Two defaults, of which the first gives the prerequisite of the second, which has two justifications; and what is
-/// read of the theory.
+/// Two defaults, of which the first gives the prerequisite of the second, which has two
+/// justifications; and what is read of the theory.
 const BIRD: &str = "context c1 default { bird. bird : flies / flies. flies : wings, ~ill / wings. }
 context c2 classical { flies. }
 bridge r: c2:x if c1:flies.";
 
-/// What a certificate of a context with one fact says of its one belief. Clause 1 is the fact; clauses 2 and 3 say that
-/// variable 2 is the negation of variable 1, that of the fact; clause 4 is that the negation holds.
+/// What a certificate of a context with one fact says of its one belief. Clause 1 is the fact;
+/// clauses 2 and 3 say that variable 2 is the negation of variable 1, that of the fact; clause 4 is
+/// that the negation holds.
 enum Claim {
     /// It follows, by this trace.
     Follows(&'static str),
@@ -82,7 +83,8 @@ fn is_accepted(
     accepts(alloc, system, context, Active::empty(), outputs, shown)
 }
 
-/// Whether the certificate that says this is accepted of the context as showing the state of this number alone.
+/// Whether the certificate that says this is accepted of the context as showing the state of this
+/// number alone.
 fn is_claimed(
     alloc: Global,
     system: &System,
@@ -96,8 +98,8 @@ fn is_claimed(
     Ok(accepted?)
 }
 
-/// Of a context with one fact what a certificate says, the number of the state that it is to show, and whether it is
-/// accepted: 1 where the fact is believed, and 0 where it is not.
+/// Of a context with one fact what a certificate says, the number of the state that it is to show,
+/// and whether it is accepted: 1 where the fact is believed, and 0 where it is not.
 const CLAIMS: &[(&str, u32, Claim, u64, bool)] = &[
     (FACT, 0, Claim::Follows("step by 1 2 4\n"), 1, true),
     (FACT, 0, Claim::Follows("step by 4 2 1\n"), 1, true),
@@ -126,9 +128,9 @@ fn a_right_trace_alone_shows_what_is_believed(rt: HostRuntime) -> Result<(), Fai
     Ok(())
 }
 
-/// Whether what shows the answer sets of the program of the first context, through all its atoms, is accepted as
-/// showing the state of the first atom alone: as it is, or where the trace that refutes all others has no step any
-/// more.
+/// Whether what shows the answer sets of the program of the first context, through all its atoms,
+/// is accepted as showing the state of the first atom alone: as it is, or where the trace that
+/// refutes all others has no step any more.
 fn is_program_shown(alloc: Global, system: &System, has_trace: bool) -> Result<bool, Memory> {
     if system.contexts().is_empty() {
         return Ok(false);
@@ -161,8 +163,8 @@ fn a_program_is_shown_by_all_parts_of_its_certificate(rt: HostRuntime) -> Result
     Ok(())
 }
 
-/// Whether what shows the extensions of the theory of the first context, through the formulas of the second, is
-/// accepted as showing that the first of these is believed.
+/// Whether what shows the extensions of the theory of the first context, through the formulas of
+/// the second, is accepted as showing that the first of these is believed.
 fn is_theory_shown(alloc: Global, system: &System) -> Result<bool, Memory> {
     if system.contexts().is_empty() {
         return Ok(false);
@@ -192,8 +194,9 @@ fn a_theory_is_shown_by_each_set_of_its_defaults(rt: HostRuntime) -> Result<(), 
     Ok(())
 }
 
-/// Whether an oracle that holds the answer for the rule alone, as the certificate shows it, tells that the belief
-/// follows where the answer is held that it is asked for, and misses it where it is not.
+/// Whether an oracle that holds the answer for the rule alone, as the certificate shows it, tells
+/// that the belief follows where the answer is held that it is asked for, and misses it where it is
+/// not.
 fn is_told(
     alloc: Global,
     system: &Arc<System>,
@@ -226,7 +229,8 @@ fn is_told(
     Ok(is_right && is_noted == is_held)
 }
 
-/// Whether it tells the belief where it is asked with the rule, and has no answer where it is asked with none.
+/// Whether it tells the belief where it is asked with the rule, and has no answer where it is asked
+/// with none.
 fn are_told(alloc: Global, system: &Arc<System>) -> Result<[bool; 2], Fail> {
     let shown = certificate(alloc, &Claim::Follows("step by 1 2 4\n"))?;
     let with_rule = is_told(alloc, system, &shown, Active::one(0), true);

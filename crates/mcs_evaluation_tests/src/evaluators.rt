@@ -20,7 +20,8 @@ pub(crate) type Solving<'g> = Mesh<'g, LocalSolver, IdleGate>;
 /// A solver for each context of the system, in order.
 fn solvers_of(alloc: Global, system: &Arc<System>) -> Result<Vec<LocalSolver>, Memory>
     ensures { IfOk result (λ solvers.
-        solvers.items ≡ map (λ i. solver_of (arc_value system.now) i []) (range_with_len 0 (length (arc_value system.now).contexts))) }
+        solvers.items ≡ map (λ i. solver_of (arc_value system.now) i [])
+        (range_with_len 0 (length (arc_value system.now).contexts))) }
 {
     let mut solvers = Vec::new(alloc);
     for context in 0..system.contexts().len() as u32 {
@@ -36,7 +37,8 @@ pub(crate) fn evaluator_of<'g>(
     budget: u64,
     gate: &'g IdleGate,
 ) -> Result<Solving<'g>, Memory>
-    ensures { IfOk result (λ mesh. (mesh.state.system ≡ arc_value system.now) × (mesh.state.done ≡ None) × (mesh.state.halted ≡ false)) }
+    ensures { IfOk result (λ mesh. (mesh.state.system ≡ arc_value system.now)
+        × (mesh.state.done ≡ None) × (mesh.state.halted ≡ false)) }
 {
     let plan = Arc::new(alloc, Plan::of(alloc, system.clone()?)?)?;
     let solvers = solvers_of(alloc, system)?;

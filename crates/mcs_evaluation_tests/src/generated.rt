@@ -73,8 +73,8 @@ fn systems_are_generated(rt: HostRuntime) -> Result<(), Fail> {
     Ok(())
 }
 
-/// Numbers of systems, and how many contexts, rules and variables each has: the smallest one, a consistent one, and an
-/// inconsistent one.
+/// Numbers of systems, and how many contexts, rules and variables each has: the smallest one, a
+/// consistent one, and an inconsistent one.
 const COUNTS: &[(u64, [usize; 3])] = &[(0, [2, 2, 1]), (1023, [33, 64, 32]), (1055, [33, 64, 32])];
 
 /// How many contexts, rules and variables the generated system of this number has.

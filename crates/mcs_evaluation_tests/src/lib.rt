@@ -1,7 +1,7 @@
-//! Tests of what evaluates a system, over the libraries alone: solvers of contexts, the mesh that asks them, extensions
-//! and answer sets with what shows them, lines of certificates read and written, generated systems, and listings
-//! where rules are kept or closed. Levels of diagnoses, and the other lines of a report, are told by the listings of
-//! whole runs.
+//! Tests of what evaluates a system, over the libraries alone: solvers of contexts, the mesh that
+//! asks them, extensions and answer sets with what shows them, lines of certificates read and
+//! written, generated systems, and listings where rules are kept or closed. Levels of diagnoses,
+//! and the other lines of a report, are told by the listings of whole runs.
 #![tactic(auto)]
 
 #[cfg(test)]

@@ -31,9 +31,9 @@ fn lines_are_counted(rt: HostRuntime) {
     }
 }
 
-/// What is taken, over the atoms `a` and `b` and two defaults, of which the first has two justifications and the
-/// second has one: two entailments, where they are several; that a default, or just this one, does not apply; that
-/// both do not.
+/// What is taken, over the atoms `a` and `b` and two defaults, of which the first has two
+/// justifications and the second has one: two entailments, where they are several; that a default,
+/// or just this one, does not apply; that both do not.
 enum Part {
     Done,
     Trace,
@@ -80,8 +80,8 @@ fn take(
     }
 }
 
-/// Parts and texts; the number of the line that is next where the part is taken, or else of the one that is out of
-/// place.
+/// Parts and texts; the number of the line that is next where the part is taken, or else of the one
+/// that is out of place.
 const TAKEN: &[(Part, &str, Result<u64, u64>)] = &[
     (Part::Done, "done\n", Ok(2)),
     (Part::Done, "done", Err(1)),

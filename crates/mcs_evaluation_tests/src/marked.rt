@@ -1,4 +1,5 @@
-//! Listings of systems that have a rule which is kept or closed. No text spells that, so copies are marked.
+//! Listings of systems that have a rule which is kept or closed. No text spells that, so copies are
+//! marked.
 
 use crate::evaluators::evaluator_of;
 use crate::systems::{SELF_ATTACK, system_of};
@@ -31,8 +32,8 @@ struct Marked {
 const TOLD: &str =
     "context c1 program { a. }\ncontext c2 program { :- p. }\nbridge r1: c2:p if c1:a.\n";
 
-/// Seven contexts of three kinds, whose minimal diagnoses are sixteen where no rule is marked. Four of them remove the
-/// third rule.
+/// Seven contexts of three kinds, whose minimal diagnoses are sixteen where no rule is marked. Four
+/// of them remove the third rule.
 const SEVEN: &str =
     "context rec classical { allergic. basic. crowded. diabetic. }\ncontext lab classical { marker. shadow. }\ncontext ont classical { shadow -> pneumonia. pneumonia & marker -> atypical. }\ncontext ward default {\n  full -> ~bed.\n  true : bed / bed.\n  bed & ill : watch / watch.\n}\ncontext advice program {\n  strong | weak :- pneu.\n  :- weak, atyp.\n  :- strong, allergy, not supervised.\n}\ncontext bill classical { strong & basic -> surcharge. }\ncontext pharm program { :- surcharge, not approved. }\nbridge r1: ont:shadow if lab:shadow.\nbridge r2: ont:marker if lab:marker.\nbridge r3: ward:full if rec:crowded.\nbridge r4: ward:ill if ont:pneumonia.\nbridge r5: advice:pneu if ont:pneumonia.\nbridge r6: advice:atyp if ont:atypical.\nbridge r7: advice:allergy if rec:allergic.\nbridge r8: advice:supervised if ward:watch.\nbridge r9: bill:strong if advice:strong.\nbridge r10: bill:basic if rec:basic.\nbridge r11: pharm:surcharge if bill:surcharge.\nbridge r12: pharm:approved if rec:letter.\nbridge r13: bill:stay if ward:bed.\nbridge r14: pharm:weak if advice:weak.\nbridge r15: pharm:insulin if rec:diabetic.\nbridge r16: bill:visit if not ward:bed.\nbridge r17: bill:drug if advice:weak, not advice:strong.\nbridge r18: ward:diabetic if rec:diabetic.\n";
 
@@ -84,7 +85,8 @@ fn contexts_of(alloc: Global, system: &System) -> Result<Vec<Context>, Memory> {
 }
 
 impl Marked {
-    /// A copy of the rule of this number, which is marked where the number is that of the marked one.
+    /// A copy of the rule of this number, which is marked where the number is that of the marked
+    /// one.
     fn copy_of(&self, alloc: Global, number: usize, bridge: &Bridge) -> Result<Bridge, Memory> {
         let mut copy = bridge.copy(alloc)?;
         if number == self.rule {

@@ -15,8 +15,8 @@ use std::test::Fail;
 /// More questions than any of these systems has.
 const ENOUGH: u64 = 100;
 
-/// What one context is told is forbidden. Thirteen others choose whether to hold what they tell themselves; the sixth
-/// may only where the fifth does not.
+/// What one context is told is forbidden. Thirteen others choose whether to hold what they tell
+/// themselves; the sixth may only where the fifth does not.
 const FREE: &str =
     "context fact program { a. } context bad program { :- told. } context k0 program { y :- x. }
 context k1 program { y :- x. } context k2 program { y :- x. } context k3 program { y :- x. }
@@ -53,8 +53,8 @@ const CHANGES: &[(&str, &[u32], Wanted)] = &[
     (FREE, &[0], Wanted::First(Some(32637))),
 ];
 
-/// The last context is told three things that it forbids together: by three contexts, which are told of them by one
-/// rule, by two and by three.
+/// The last context is told three things that it forbids together: by three contexts, which are
+/// told of them by one rule, by two and by three.
 const TOGETHER: &str = "context fact program { a. } context one program {} context two program {}
 context three program {} context bad program { :- p, q, s. }
 bridge r1: one:p if fact:a. bridge r2: two:q if fact:a. bridge r3: two:q if fact:a.
@@ -133,7 +133,8 @@ fn tells_first(alloc: Global, evaluator: &mut Solving<'_>, level: u32, count: us
     }
 }
 
-/// Whether an evaluator of the system tells so many of the minimal diagnoses at these levels, one after the other.
+/// Whether an evaluator of the system tells so many of the minimal diagnoses at these levels, one
+/// after the other.
 fn tells(alloc: Global, system: &Arc<System>, levels: &[(u32, usize)]) -> Result<bool, Memory> {
     let mut evaluator = evaluator_of(alloc, system, ENOUGH, &IdleGate)?;
     let mut are_right = true;

@@ -51,8 +51,8 @@ fn listed(alloc: Global, rules: &[ProgRule], atoms: &[Name]) -> Result<Vec<Vars>
     list_answer_sets(alloc, rules, &[], &beliefs, atoms)
 }
 
-/// Whether the answer sets of the rules are seen through the atoms as the views of these numbers, by so many models,
-/// and listed as the same ones where nothing shows them.
+/// Whether the answer sets of the rules are seen through the atoms as the views of these numbers,
+/// by so many models, and listed as the same ones where nothing shows them.
 fn are_shown(
     alloc: Global,
     rules: &[ProgRule],
@@ -73,8 +73,8 @@ fn are_shown(
     Ok(count == models && are_numbered(&found, views) && are_numbered(&listed, views))
 }
 
-/// Whether the answer sets of the rules, seen through the first two atoms alone, are listed as the views of these
-/// numbers.
+/// Whether the answer sets of the rules, seen through the first two atoms alone, are listed as the
+/// views of these numbers.
 fn are_listed(
     alloc: Global,
     rules: &[ProgRule],
@@ -188,7 +188,8 @@ fn answer_sets_are_shown(rt: HostRuntime) -> Result<(), Fail> {
     Ok(())
 }
 
-/// Programs without loops, and the numbers of the views of their answer sets through `a` and `b` alone.
+/// Programs without loops, and the numbers of the views of their answer sets through `a` and `b`
+/// alone.
 const PROGRAMS_SEEN_THROUGH_TWO: &[(&str, &[u64])] = &[
     (
         "context c program { :- a, b, not c. c :- a, b. a :- not d. d :- not a. b :- not e. e :- not b. }",

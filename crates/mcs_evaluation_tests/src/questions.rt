@@ -25,12 +25,14 @@ fn only_question(asked: &[Active]) -> Option<Active>
     }
 }
 
-/// What the first context may supply at the level, where nothing supplies it and it has one question.
+/// What the first context may supply at the level, where nothing supplies it and it has one
+/// question.
 fn first_supplies(alloc: Global, plan: &Plan, level: u32) -> Result<Option<Vec<Vars>>, Memory>
     requires in_range { 0 < length plan.now.contexts }
     requires supplied { (order : List ℕ) → IsImportOrder plan.now order
         → AreSupplies plan.now level (supplied plan.now order 0) [] }
-    ensures { IfOk result (λ found. IfSome found (λ states. IsListing (MaySupply plan.now level 0) StateBefore states.items)) }
+    ensures { IfOk result (λ found. IfSome found (λ states.
+        IsListing (MaySupply plan.now level 0) StateBefore states.items)) }
 {
     let asked = questions(alloc, plan, 0, &[], level)?;
     let Some(active) = only_question(&asked) else {
@@ -42,8 +44,8 @@ fn first_supplies(alloc: Global, plan: &Plan, level: u32) -> Result<Option<Vec<V
     Ok(Some(supplies(alloc, &answers)?))
 }
 
-/// Whether the second context is supplied by the first one alone, which nothing supplies, and these are its questions
-/// of the level, as bits of a number.
+/// Whether the second context is supplied by the first one alone, which nothing supplies, and these
+/// are its questions of the level, as bits of a number.
 fn are_questions(alloc: Global, plan: &Plan, level: u32, sets: &[u64]) -> Result<bool, Memory> {
     if plan.system().contexts().len() != 2
         || !plan.supplied(0).is_empty()

@@ -23,8 +23,8 @@ const TOLD_REPORT: &str =
 const TOLD_LISTING: &str =
     "mcs 1: 2 contexts, 1 rules, 1 variables\ninconsistent\ndiagnosis 1: {-r1} state {c1:a} active {}\nexplanation 1: {-r1 by 1}\nend: 0 equilibria, 1 diagnoses, 1 explanations, need 3\n";
 
-/// Whether the answer begins at this line, is to the question of this context and these rules, and puts out the
-/// states of these numbers.
+/// Whether the answer begins at this line, is to the question of this context and these rules, and
+/// puts out the states of these numbers.
 fn is_answer(
     answer: &ReportAnswer,
     line: u64,

@@ -40,8 +40,9 @@ bridge r1: c1:ill if not c2:x. bridge r2: c2:y if c1:flies.";
 const TOLD_PROGRAM: &str = "context c1 program { a | b. :- a, p. } context c2 classical {}
 bridge r1: c1:p if not c2:x. bridge r2: c2:y if c1:a, c1:b.";
 
-/// Texts of systems, a context of each, and the numbers of a set of rules and of the parts that the context accepts
-/// with their heads; and whether the context's oracle may be asked with them, which has to be rules into the context.
+/// Texts of systems, a context of each, and the numbers of a set of rules and of the parts that the
+/// context accepts with their heads; and whether the context's oracle may be asked with them, which
+/// has to be rules into the context.
 const ACCEPTED: &[(&str, u32, u64, &[u64], bool)] = &[
     (SELF_ATTACK, 0, 0, &[0], true),
     (SELF_ATTACK, 0, 1, &[1], true),
@@ -100,8 +101,8 @@ fn a_context_accepts_what_it_is_told(rt: HostRuntime) -> Result<(), Fail> {
     Ok(())
 }
 
-/// Whether the first context's oracle, after it was asked with the first rule alone, has a certificate of this question
-/// that is accepted with what was answered; nothing where it has none.
+/// Whether the first context's oracle, after it was asked with the first rule alone, has a
+/// certificate of this question that is accepted with what was answered; nothing where it has none.
 fn is_shown(
     alloc: Global,
     system: &Arc<System>,
@@ -128,8 +129,8 @@ fn is_shown(
     shown.transpose()
 }
 
-/// What is shown of the question that was asked and of another one where certificates are kept, and of the first where
-/// they are not.
+/// What is shown of the question that was asked and of another one where certificates are kept, and
+/// of the first where they are not.
 fn are_shown(alloc: Global, system: &Arc<System>) -> Result<[Option<bool>; 3], Memory> {
     Ok([
         is_shown(alloc, system, true, Active::one(0))?,
@@ -166,8 +167,9 @@ fn is_asked_beside(alloc: Global, solver: &mut LocalSolver, question: Active) ->
     }
 }
 
-/// Whether the first context's oracle has an accepted certificate of its answer with the first rule alone, after it
-/// took over another one that was asked this; nothing where it has none, or did not note the question.
+/// Whether the first context's oracle has an accepted certificate of its answer with the first rule
+/// alone, after it took over another one that was asked this; nothing where it has none, or did not
+/// note the question.
 fn is_taken_over(alloc: Global, system: &Arc<System>) -> Result<Option<bool>, Memory> {
     let rule = Active::one(0);
     if system.contexts().is_empty() || !rule.within(system.rules_of(0)) {
@@ -198,14 +200,15 @@ fn an_oracle_takes_over_what_another_was_asked(rt: HostRuntime) -> Result<(), Fa
     Ok(())
 }
 
-/// Formulas from which something follows by themselves, with one head, with two together, and with a head that
-/// contradicts them.
+/// Formulas from which something follows by themselves, with one head, with two together, and with
+/// a head that contradicts them.
 const FOLLOWED: &str = "context c1 classical { p -> q. r & s -> t. u. } context c2 classical {}
 bridge r1: c1:p if not c2:x. bridge r2: c1:r if not c2:x. bridge r3: c1:s if not c2:x. bridge r4: c1:~u if not c2:x.
 bridge r5: c2:y if c1:q, c1:t, c1:u.";
 
-/// Questions to the oracle of the first context, in turn: the numbers of a set of rules, and of the one part that the
-/// context accepts. They ascend; then come some that were asked before, one above all, and others that stand below it.
+/// Questions to the oracle of the first context, in turn: the numbers of a set of rules, and of the
+/// one part that the context accepts. They ascend; then come some that were asked before, one above
+/// all, and others that stand below it.
 const IN_TURN: &[(u64, u64)] = &[
     (0, 4),
     (1, 5),

@@ -48,8 +48,8 @@ fn numbers_are_read(rt: HostRuntime) {
     }
 }
 
-/// Texts of sets of the numbers 0 to 2, by their names `a`, `ab` and `b`: the set that each is where all may be
-/// members, and where 0 may not be.
+/// Texts of sets of the numbers 0 to 2, by their names `a`, `ab` and `b`: the set that each is
+/// where all may be members, and where 0 may not be.
 const SETS: &[(&str, Option<u64>, Option<u64>)] = &[
     ("{}", Some(0), Some(0)),
     ("{a}", Some(1), None),

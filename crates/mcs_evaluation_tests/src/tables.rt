@@ -37,8 +37,9 @@ fn are_left(alloc: Global, a: &Table, b: &Table, level: u32, rows: &[Row]) -> Re
     }
 }
 
-/// Whether a table on one variable, in which it is true without a mark and false with one, is met by one in which it is
-/// false with another mark: two marks leave the row in which it is false, and one mark leaves none.
+/// Whether a table on one variable, in which it is true without a mark and false with one, is met
+/// by one in which it is false with another mark: two marks leave the row in which it is false, and
+/// one mark leaves none.
 fn are_semi_joined(alloc: Global, scope: Vars) -> Result<bool, Memory> {
     let (on, off) = (
         row(scope, scope, Marks::empty()),
@@ -67,7 +68,8 @@ fn answer(alloc: Global, active: Active, parts: &[Vars]) -> Result<Answer, Memor
     })
 }
 
-/// What is supplied where the empty part is accepted with no rule, and with the first rule that and another one.
+/// What is supplied where the empty part is accepted with no rule, and with the first rule that and
+/// another one.
 fn supplied(alloc: Global, other: Vars) -> Result<Vec<Vars>, Memory> {
     let mut answers = Vec::new(alloc);
     answers.push(answer(alloc, Active::empty(), &[Vars::empty()])?)?;

@@ -57,8 +57,8 @@ fn are_judged(certificate: &DefaultCert, generating: &[bool]) -> bool {
     true
 }
 
-/// Whether the extensions of the theory are listed with the views of these numbers, and where that is said the sets of
-/// its defaults are judged so.
+/// Whether the extensions of the theory are listed with the views of these numbers, and where that
+/// is said the sets of its defaults are judged so.
 fn are_found(
     alloc: Global,
     items: &[TheoryItem],
@@ -92,8 +92,8 @@ quaker : pacifist / pacifist. republican : ~pacifist / ~pacifist. } context c2 c
 /// Nothing but the default itself gives its prerequisite.
 const UNGROUNDED: &str = "context c1 default { p : p / p. } context c2 classical { p. }";
 
-/// A theory and the formulas for which it is asked, the numbers of the views, in their order, and of some which sets of
-/// defaults generate an extension.
+/// A theory and the formulas for which it is asked, the numbers of the views, in their order, and
+/// of some which sets of defaults generate an extension.
 const THEORIES: &[(&str, &[u64], Option<&[bool]>)] = &[
     (DIAMOND, &[1, 0], Some(&[false, true, true, false])),
     (UNGROUNDED, &[0], Some(&[true, false])),

@@ -20,12 +20,13 @@ use mcs_system::{Formula, Name, System, TheoryItem};
 use std::alloc::Global;
 use std::test::Fail;
 
-/// The beliefs `p` and `q`, and then what is assumed: `a` gives both, `b` gives `~p`, and each of these two keeps out
-/// the other one.
+/// The beliefs `p` and `q`, and then what is assumed: `a` gives both, `b` gives `~p`, and each of
+/// these two keeps out the other one.
 const SWITCHED: &str = "context c1 default { a : p / p. p : q / q. b : ~p / ~p. }
 context c2 classical { p. q. a. b. ~a. }";
 
-/// Sets of assumptions in the order in which the theory is asked with them, and with each the numbers of the views.
+/// Sets of assumptions in the order in which the theory is asked with them, and with each the
+/// numbers of the views.
 const TURNS: &[(u64, &[u64])] = &[
     (0, &[0]),
     (1, &[3]),
@@ -50,7 +51,8 @@ fn are_found_in_turn(
 ) -> Result<bool, Memory>
     requires over { AreOverItems atoms.now (map item_of items.now) }
     requires numbers { AllByRecursion (λ (a : declared.Assumption). a.number < 64) assumptions.now }
-    requires assumptions { AreOver atoms.now (map (λ (a : declared.Assumption). formula_of a.formula.now) assumptions.now) }
+    requires assumptions { AreOver atoms.now (map
+        (λ (a : declared.Assumption). formula_of a.formula.now) assumptions.now) }
     requires beliefs { AreOver atoms.now (map (λ b. formula_of b.now) beliefs.now) }
     requires different { has_twins atoms.now ≡ false }
     requires few { length atoms.now ≤ 64 }
@@ -75,8 +77,8 @@ fn are_found_in_turn(
     Ok(are_right)
 }
 
-/// Whether the first context, asked in turn for the first two formulas of the second one with some of the others, has
-/// these views.
+/// Whether the first context, asked in turn for the first two formulas of the second one with some
+/// of the others, has these views.
 fn has_views_in_turn(
     alloc: Global,
     system: &System,

@@ -1,4 +1,5 @@
-//! When certificates of default theories and of programs are accepted, and the clauses of the formulas of a program.
+//! When certificates of default theories and of programs are accepted, and the clauses of the
+//! formulas of a program.
 #![tactic(auto)]
 
 mod laws;

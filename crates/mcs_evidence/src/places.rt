@@ -72,7 +72,8 @@ pub(crate) fn names_apart(
     names: &[Name],
     others: &[Name],
 ) -> Result<Vec<Name>, Memory>
-    ensures { IfOk result (λ apart. apart.items ≡ filter (λ n. not (is_in n others.now)) names.now) }
+    ensures { IfOk result (λ apart. apart.items
+        ≡ filter (λ n. not (is_in n others.now)) names.now) }
 {
     let mut apart = Vec::new(alloc);
     for name in names {

@@ -1,14 +1,19 @@
-//! The clauses of formulas of a program: that a smaller set satisfies the reduct by a model, that a set does not undo a
-//! model, and that the state is another one.
+//! The clauses of formulas of a program: that a smaller set satisfies the reduct by a model, that a
+//! set does not undo a model, and that the state is another one.
 
-ghost use Rattle.std.specs.Prelude.{◌≡◌, ◌≤◌, ◌++◌, List, [], ◌∷◌, None, Some, cond, length, map, filter, IfOk, OnErr};
+ghost use Rattle.std.specs.Prelude.{◌≡◌, ◌≤◌, ◌++◌, List, [], ◌∷◌, None, Some, cond, length, map};
+ghost use Rattle.std.specs.Prelude.{filter, IfOk, OnErr};
 ghost use Rattle.mcs_system.specs.Logic.{reduct};
 ghost use Rattle.mcs_system.specs.Plain as plain;
 ghost use Rattle.mcs_system.specs.Seen.{rule_of};
 ghost use Rattle.mcs_trace.specs.Clauses.{ClauseList};
 ghost use Rattle.mcs_cnf.specs.ClauseLists.{with_formulas, clause_list};
-ghost use Rattle.mcs_evidence.specs.Programs.{atoms_as, negated_atoms, conjunction, disjunction, is_broken_by, positive_formula, smaller_formulas, beside_formula, other_formula, rest_formulas, AreOverRules};
-ghost use Rattle.mcs_evidence.specs.Pushing.{AreNamesOf, IsListVariable, IsVariablePart, HasOccurrences, HasConjunction};
+ghost use Rattle.mcs_evidence.specs.Programs.{atoms_as, negated_atoms, conjunction, disjunction};
+ghost use Rattle.mcs_evidence.specs.Programs.{is_broken_by, positive_formula, smaller_formulas};
+ghost use Rattle.mcs_evidence.specs.Programs.{beside_formula, other_formula, rest_formulas};
+ghost use Rattle.mcs_evidence.specs.Programs.{AreOverRules};
+ghost use Rattle.mcs_evidence.specs.Pushing.{AreNamesOf, IsListVariable, IsVariablePart};
+ghost use Rattle.mcs_evidence.specs.Pushing.{HasOccurrences, HasConjunction};
 
 use crate::places::{is_broken, names_at, names_beside, some_among};
 use crate::pushing::{
@@ -31,7 +36,8 @@ fn push_reduct(
     requires over { AreOverRules atoms.now (map rule_of rules.now) }
     requires room { length atoms.now ≤ cnf.old.vars }
     ensures grows { IfOk result (λ _. cnf.old.vars ≤ cnf.new.vars) }
-    ensures pushed { IfOk result (λ _. cnf.new ≡ with_formulas atoms.now cnf.old (map positive_formula (reduct model.now (map rule_of rules.now)))) }
+    ensures pushed { IfOk result (λ _. cnf.new ≡ with_formulas atoms.now cnf.old
+        (map positive_formula (reduct model.now (map rule_of rules.now)))) }
 {
     for rule in rules {
         if !some_among(&rule.neg, model) {
@@ -51,7 +57,8 @@ fn push_negations(
     requires over { AreNamesOf atoms.now names.now }
     requires room { length atoms.now ≤ cnf.old.vars }
     ensures grows { IfOk result (λ _. cnf.old.vars ≤ cnf.new.vars) }
-    ensures pushed { IfOk result (λ _. cnf.new ≡ with_formulas atoms.now cnf.old (negated_atoms names.now)) }
+    ensures pushed { IfOk result (λ _. cnf.new
+        ≡ with_formulas atoms.now cnf.old (negated_atoms names.now)) }
 {
     for name in names {
         let n = push_negated(alloc, cnf, atoms, name)?;
@@ -64,16 +71,18 @@ fn push_negations(
 fn push_not_all(alloc: Global, cnf: &mut Cnf, all: Option<u64>) -> Result<(), Memory>
     requires part { IsVariablePart cnf.old all }
     ensures grows { IfOk result (λ _. cnf.old.vars ≤ cnf.new.vars) }
-    ensures pushed { IfOk result (λ _. (names : List plain.Name) (start : ClauseList) (fs : List plain.Formula)
-        → HasConjunction names fs start cnf.old all → cnf.new ≡ with_formulas names start (plain.Not (conjunction fs) ∷ [])) }
+    ensures pushed { IfOk result (λ _. (names : List plain.Name) (start : ClauseList)
+        (fs : List plain.Formula)
+        → HasConjunction names fs start cnf.old all
+        → cnf.new ≡ with_formulas names start (plain.Not (conjunction fs) ∷ [])) }
 {
     let x = all_of(alloc, cnf, all)?;
     let n = push_not(alloc, cnf, x)?;
     push_unit(alloc, cnf, n)
 }
 
-/// The clauses that a proper subset of the model satisfies the reduct by it. They are unsatisfiable exactly if no such
-/// subset exists.
+/// The clauses that a proper subset of the model satisfies the reduct by it. They are unsatisfiable
+/// exactly if no such subset exists.
 pub fn smaller_clauses(
     alloc: Global,
     atoms: &[Name],
@@ -82,7 +91,8 @@ pub fn smaller_clauses(
 ) -> Result<Cnf, Memory>
     requires few { length atoms.now ≤ 64 }
     requires rules { AreOverRules atoms.now (map rule_of rules.now) }
-    ensures { IfOk result (λ f. f ≡ clause_list atoms.now (smaller_formulas atoms.now (map rule_of rules.now) model)) }
+    ensures { IfOk result (λ f. f
+        ≡ clause_list atoms.now (smaller_formulas atoms.now (map rule_of rules.now) model)) }
 {
     let within = names_at(alloc, atoms, model)?;
     let beside = names_beside(alloc, atoms, model)?;
@@ -94,8 +104,8 @@ pub fn smaller_clauses(
     Ok(cnf)
 }
 
-/// Adds to a conjunction, for each rule that the names break, the disjunction of its negative body atoms. Returns the
-/// number of the conjunction, if it has parts.
+/// Adds to a conjunction, for each rule that the names break, the disjunction of its negative body
+/// atoms. Returns the number of the conjunction, if it has parts.
 fn join_broken(
     alloc: Global,
     cnf: &mut Cnf,
@@ -109,8 +119,11 @@ fn join_broken(
     requires part { IsVariablePart cnf.old all }
     ensures grows { IfOk result (λ _. cnf.old.vars ≤ cnf.new.vars) }
     ensures part { IfOk result (IsVariablePart cnf.new) }
-    ensures joined { IfOk result (λ o. (start : ClauseList) (fs : List plain.Formula) → HasConjunction atoms.now fs start cnf.old all
-        → HasConjunction atoms.now (fs ++ map (λ (r : plain.ProgramRule). disjunction (atoms_as r.neg)) (filter (is_broken_by names.now) (map rule_of rules.now))) start cnf.new o) }
+    ensures joined { IfOk result (λ o. (start : ClauseList) (fs : List plain.Formula)
+        → HasConjunction atoms.now fs start cnf.old all
+        → HasConjunction atoms.now (fs ++ map (λ (r : plain.ProgramRule).
+        disjunction (atoms_as r.neg)) (filter (is_broken_by names.now) (map rule_of rules.now)))
+        start cnf.new o) }
 {
     for rule in rules {
         if is_broken(names, rule) {
@@ -122,8 +135,8 @@ fn join_broken(
     Ok(all)
 }
 
-/// Appends to a list of its own the clauses of the formula that is false if the atoms at these places are a proper
-/// subset of a model and satisfy the reduct by it.
+/// Appends to a list of its own the clauses of the formula that is false if the atoms at these
+/// places are a proper subset of a model and satisfy the reduct by it.
 fn push_one_beside(
     alloc: Global,
     cnf: &mut Cnf,
@@ -135,7 +148,8 @@ fn push_one_beside(
     requires rules { AreOverRules atoms.now (map rule_of rules.now) }
     requires room { length atoms.now ≤ cnf.old.vars }
     ensures grows { IfOk result (λ _. cnf.old.vars ≤ cnf.new.vars) }
-    ensures pushed { IfOk result (λ _. cnf.new ≡ with_formulas atoms.now cnf.old (beside_formula atoms.now (map rule_of rules.now) less ∷ [])) }
+    ensures pushed { IfOk result (λ _. cnf.new ≡ with_formulas atoms.now cnf.old
+        (beside_formula atoms.now (map rule_of rules.now) less ∷ [])) }
 {
     let within = names_at(alloc, atoms, less)?;
     let beside = names_beside(alloc, atoms, less)?;
@@ -146,8 +160,8 @@ fn push_one_beside(
     push_not_all(alloc, cnf, all)
 }
 
-/// Adds the clauses of the formula that is false if the atoms at these places are a proper subset of a model and
-/// satisfy the reduct by it. If memory runs out, the list is as before.
+/// Adds the clauses of the formula that is false if the atoms at these places are a proper subset
+/// of a model and satisfy the reduct by it. If memory runs out, the list is as before.
 pub fn push_beside(
     alloc: Global,
     cnf: &mut Cnf,
@@ -159,7 +173,8 @@ pub fn push_beside(
     requires rules { AreOverRules atoms.now (map rule_of rules.now) }
     requires room { length atoms.now ≤ cnf.old.vars }
     ensures grows { IfOk result (λ _. cnf.old.vars ≤ cnf.new.vars) }
-    ensures pushed { IfOk result (λ _. cnf.new ≡ with_formulas atoms.now cnf.old (beside_formula atoms.now (map rule_of rules.now) less ∷ [])) }
+    ensures pushed { IfOk result (λ _. cnf.new ≡ with_formulas atoms.now cnf.old
+        (beside_formula atoms.now (map rule_of rules.now) less ∷ [])) }
     ensures err { OnErr result (cnf.new ≡ cnf.old) }
 {
     let mut own = Cnf::new(alloc, cnf.vars());
@@ -180,7 +195,8 @@ fn push_literal(
     ensures number { IfOk result (IsListVariable cnf.new) }
     ensures grows { IfOk result (λ _. cnf.old.vars ≤ cnf.new.vars) }
     ensures occurs { IfOk result
-        (HasOccurrences atoms.now (cond holds (plain.Atom belief.now) (plain.Not (plain.Atom belief.now))) cnf.old cnf.new) }
+        (HasOccurrences atoms.now (cond holds (plain.Atom belief.now)
+        (plain.Not (plain.Atom belief.now))) cnf.old cnf.new) }
 {
     if holds {
         Ok(atom_of(cnf, atoms, belief))
@@ -225,7 +241,8 @@ fn push_besides(
     requires rules { AreOverRules atoms.now (map rule_of rules.now) }
     requires room { length atoms.now ≤ cnf.old.vars }
     ensures grows { IfOk result (λ _. cnf.old.vars ≤ cnf.new.vars) }
-    ensures pushed { IfOk result (λ _. cnf.new ≡ with_formulas atoms.now cnf.old (map (beside_formula atoms.now (map rule_of rules.now)) smaller.now)) }
+    ensures pushed { IfOk result (λ _. cnf.new ≡ with_formulas atoms.now cnf.old
+        (map (beside_formula atoms.now (map rule_of rules.now)) smaller.now)) }
 {
     for less in smaller {
         push_one_beside(alloc, cnf, atoms, rules, *less)?;
@@ -268,7 +285,8 @@ pub fn rest_clauses(
     requires rules { AreOverRules atoms.now (map rule_of rules.now) }
     requires beliefs { AreNamesOf atoms.now (map (λ b. b.now) beliefs.now) }
     ensures { IfOk result (λ f. f ≡ clause_list atoms.now
-        (rest_formulas atoms.now (map rule_of rules.now) (map plain.Atom (map (λ b. b.now) beliefs.now)) smaller.now states.now)) }
+        (rest_formulas atoms.now (map rule_of rules.now)
+        (map plain.Atom (map (λ b. b.now) beliefs.now)) smaller.now states.now)) }
 {
     let mut cnf = Cnf::new(alloc, atoms.len() as u64);
     push_rules(alloc, &mut cnf, atoms, rules)?;

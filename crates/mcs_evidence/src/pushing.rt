@@ -1,14 +1,18 @@
-//! The clauses of conjunctions and disjunctions that are built name by name, and of the rules of programs. The formulas
-//! are not built.
+//! The clauses of conjunctions and disjunctions that are built name by name, and of the rules of
+//! programs. The formulas are not built.
 
-ghost use Rattle.std.specs.Prelude.{◌≡◌, ◌≤◌, ◌++◌, List, [], ◌∷◌, None, Some, length, map, IfOk, IsTrue};
+ghost use Rattle.std.specs.Prelude.{◌≡◌, ◌≤◌, ◌++◌, List, [], ◌∷◌, None, Some, length, map, IfOk};
+ghost use Rattle.std.specs.Prelude.{IsTrue};
 ghost use Rattle.mcs_system.specs.Logic.{is_in};
 ghost use Rattle.mcs_system.specs.Plain as plain;
 ghost use Rattle.mcs_system.specs.Seen.{rule_of};
 ghost use Rattle.mcs_trace.specs.Clauses.{ClauseList};
 ghost use Rattle.mcs_cnf.specs.ClauseLists.{with_formulas, and_clauses, or_clauses};
-ghost use Rattle.mcs_evidence.specs.Programs.{atoms_as, negated_atoms, conjunction, disjunction, rule_formula, AreOverRules, IsOverRule};
-ghost use Rattle.mcs_evidence.specs.Pushing.{AreNamesOf, IsListVariable, IsVariablePart, HasOccurrences, HasConjunction, HasDisjunction, IsJoinedPart};
+ghost use Rattle.mcs_evidence.specs.Programs.{atoms_as, negated_atoms, conjunction, disjunction};
+ghost use Rattle.mcs_evidence.specs.Programs.{rule_formula, AreOverRules, IsOverRule};
+ghost use Rattle.mcs_evidence.specs.Pushing.{AreNamesOf, IsListVariable, IsVariablePart};
+ghost use Rattle.mcs_evidence.specs.Pushing.{HasOccurrences, HasConjunction, HasDisjunction};
+ghost use Rattle.mcs_evidence.specs.Pushing.{IsJoinedPart};
 
 use mcs_base::Memory;
 use mcs_cnf::{
@@ -18,8 +22,8 @@ use mcs_system::{Name, ProgRule};
 use mcs_trace::Cnf;
 use std::alloc::Global;
 
-/// Adds the conjunction of the one with number `all`, if there is one, and of `x`. Returns its number, which is `x` if
-/// there was none.
+/// Adds the conjunction of the one with number `all`, if there is one, and of `x`. Returns its
+/// number, which is `x` if there was none.
 pub(crate) fn join(alloc: Global, cnf: &mut Cnf, all: Option<u64>, x: u64) -> Result<u64, Memory>
     requires part { IsVariablePart cnf.old all }
     requires next { IsListVariable cnf.old x }
@@ -63,7 +67,8 @@ pub(crate) fn atom_of(cnf: &Cnf, atoms: &[Name], name: &Name) -> u64
     atom_number(atoms, name)
 }
 
-/// Adds an occurrence of the negation of an atom, and returns its number. The atom has to be one of the names.
+/// Adds an occurrence of the negation of an atom, and returns its number. The atom has to be one of
+/// the names.
 pub(crate) fn push_negated(
     alloc: Global,
     cnf: &mut Cnf,
@@ -81,7 +86,8 @@ pub(crate) fn push_negated(
     push_not(alloc, cnf, x)
 }
 
-/// Adds the names, as atoms, to a conjunction. `all` is its number, if it has parts. Returns its new number.
+/// Adds the names, as atoms, to a conjunction. `all` is its number, if it has parts. Returns its
+/// new number.
 pub(crate) fn join_atoms(
     alloc: Global,
     cnf: &mut Cnf,
@@ -95,7 +101,8 @@ pub(crate) fn join_atoms(
     ensures grows { IfOk result (λ _. cnf.old.vars ≤ cnf.new.vars) }
     ensures part { IfOk result (IsVariablePart cnf.new) }
     ensures joined { IfOk result (λ o. (start : ClauseList) (fs : List plain.Formula)
-        → HasConjunction atoms.now fs start cnf.old all → HasConjunction atoms.now (fs ++ atoms_as names.now) start cnf.new o) }
+        → HasConjunction atoms.now fs start cnf.old all
+        → HasConjunction atoms.now (fs ++ atoms_as names.now) start cnf.new o) }
 {
     for name in names {
         let x = atom_of(cnf, atoms, name);
@@ -119,7 +126,8 @@ pub(crate) fn join_negated(
     ensures grows { IfOk result (λ _. cnf.old.vars ≤ cnf.new.vars) }
     ensures part { IfOk result (IsVariablePart cnf.new) }
     ensures joined { IfOk result (λ o. (start : ClauseList) (fs : List plain.Formula)
-        → HasConjunction atoms.now fs start cnf.old all → HasConjunction atoms.now (fs ++ negated_atoms names.now) start cnf.new o) }
+        → HasConjunction atoms.now fs start cnf.old all
+        → HasConjunction atoms.now (fs ++ negated_atoms names.now) start cnf.new o) }
 {
     for name in names {
         let x = push_negated(alloc, cnf, atoms, name)?;
@@ -134,8 +142,10 @@ pub(crate) fn all_of(alloc: Global, cnf: &mut Cnf, all: Option<u64>) -> Result<u
     requires part { IsVariablePart cnf.old all }
     ensures number { IfOk result (IsListVariable cnf.new) }
     ensures grows { IfOk result (λ _. cnf.old.vars ≤ cnf.new.vars) }
-    ensures whole { IfOk result (λ n. (names : List plain.Name) (start : ClauseList) (fs : List plain.Formula)
-        → HasConjunction names fs start cnf.old all → HasOccurrences names (conjunction fs) start cnf.new n) }
+    ensures whole { IfOk result (λ n. (names : List plain.Name) (start : ClauseList)
+        (fs : List plain.Formula)
+        → HasConjunction names fs start cnf.old all
+        → HasOccurrences names (conjunction fs) start cnf.new n) }
 {
     match all {
         None => push_truth(alloc, cnf),
@@ -148,8 +158,10 @@ pub(crate) fn any_of(alloc: Global, cnf: &mut Cnf, any: Option<u64>) -> Result<u
     requires part { IsVariablePart cnf.old any }
     ensures number { IfOk result (IsListVariable cnf.new) }
     ensures grows { IfOk result (λ _. cnf.old.vars ≤ cnf.new.vars) }
-    ensures whole { IfOk result (λ n. (names : List plain.Name) (start : ClauseList) (fs : List plain.Formula)
-        → HasDisjunction names fs start cnf.old any → HasOccurrences names (disjunction fs) start cnf.new n) }
+    ensures whole { IfOk result (λ n. (names : List plain.Name) (start : ClauseList)
+        (fs : List plain.Formula)
+        → HasDisjunction names fs start cnf.old any
+        → HasOccurrences names (disjunction fs) start cnf.new n) }
 {
     match any {
         None => push_falsity(alloc, cnf),
@@ -168,7 +180,8 @@ pub(crate) fn push_either(
     requires room { length atoms.now ≤ cnf.old.vars }
     ensures number { IfOk result (IsListVariable cnf.new) }
     ensures grows { IfOk result (λ _. cnf.old.vars ≤ cnf.new.vars) }
-    ensures occurs { IfOk result (HasOccurrences atoms.now (disjunction (atoms_as names.now)) cnf.old cnf.new) }
+    ensures occurs { IfOk result (HasOccurrences atoms.now
+        (disjunction (atoms_as names.now)) cnf.old cnf.new) }
 {
     let mut any = None;
     for name in names {
@@ -188,7 +201,11 @@ pub(crate) fn push_rule(
     pos: &[Name],
     neg: &[Name],
 ) -> Result<(), Memory>
-    requires over { IsOverRule atoms.now (record { head = head.now; pos = pos.now; neg = neg.now }) }
+    requires over { IsOverRule atoms.now (record {
+      head = head.now;
+      pos = pos.now;
+      neg = neg.now;
+    }) }
     requires room { length atoms.now ≤ cnf.old.vars }
     ensures grows { IfOk result (λ _. cnf.old.vars ≤ cnf.new.vars) }
     ensures pushed { IfOk result (λ _. cnf.new ≡ with_formulas atoms.now cnf.old
@@ -212,7 +229,8 @@ pub(crate) fn push_rules(
     requires over { AreOverRules atoms.now (map rule_of rules.now) }
     requires room { length atoms.now ≤ cnf.old.vars }
     ensures grows { IfOk result (λ _. cnf.old.vars ≤ cnf.new.vars) }
-    ensures pushed { IfOk result (λ _. cnf.new ≡ with_formulas atoms.now cnf.old (map rule_formula (map rule_of rules.now))) }
+    ensures pushed { IfOk result (λ _. cnf.new
+        ≡ with_formulas atoms.now cnf.old (map rule_formula (map rule_of rules.now))) }
 {
     for rule in rules {
         push_rule(alloc, cnf, atoms, &rule.head, &rule.pos, &rule.neg)?;

@@ -23,7 +23,8 @@ fn may_support(set: &[Name], rule: &ProgRule) -> bool
     some_among(&rule.head, set) && !some_among(&rule.pos, set)
 }
 
-/// Adds the formula that the body of the rule holds and no head atom outside the set is true. Returns its number.
+/// Adds the formula that the body of the rule holds and no head atom outside the set is true.
+/// Returns its number.
 fn push_outside(
     alloc: Global,
     cnf: &mut Cnf,
@@ -35,7 +36,8 @@ fn push_outside(
     requires room { length atoms.now ≤ cnf.old.vars }
     ensures number { IfOk result (IsListVariable cnf.new) }
     ensures grows { IfOk result (λ _. cnf.old.vars ≤ cnf.new.vars) }
-    ensures occurs { IfOk result (HasOccurrences atoms.now (outside_formula set.now (rule_of rule.now)) cnf.old cnf.new) }
+    ensures occurs { IfOk result (HasOccurrences atoms.now
+        (outside_formula set.now (rule_of rule.now)) cnf.old cnf.new) }
 {
     let beside = names_apart(alloc, &rule.head, set)?;
     let body = join_atoms(alloc, cnf, atoms, &rule.pos, None)?;
@@ -57,7 +59,8 @@ fn push_supports(
     ensures number { IfOk result (IsListVariable cnf.new) }
     ensures grows { IfOk result (λ _. cnf.old.vars ≤ cnf.new.vars) }
     ensures occurs { IfOk result (HasOccurrences atoms.now
-        (disjunction (map (outside_formula set.now) (filter (may_support set.now) (map rule_of rules.now)))) cnf.old cnf.new) }
+        (disjunction (map (outside_formula set.now)
+        (filter (may_support set.now) (map rule_of rules.now)))) cnf.old cnf.new) }
 {
     let mut any = None;
     for rule in rules {
@@ -70,8 +73,8 @@ fn push_supports(
     any_of(alloc, cnf, any)
 }
 
-/// Appends to a list of its own the clauses of the loop formula of the set: if one of its atoms is true, some rule
-/// gives it external support.
+/// Appends to a list of its own the clauses of the loop formula of the set: if one of its atoms is
+/// true, some rule gives it external support.
 fn push_one_support(
     alloc: Global,
     cnf: &mut Cnf,
@@ -83,7 +86,8 @@ fn push_one_support(
     requires over { AreNamesOf atoms.now set.now }
     requires room { length atoms.now ≤ cnf.old.vars }
     ensures grows { IfOk result (λ _. cnf.old.vars ≤ cnf.new.vars) }
-    ensures pushed { IfOk result (λ _. cnf.new ≡ with_formulas atoms.now cnf.old (support_formula (map rule_of rules.now) set.now ∷ [])) }
+    ensures pushed { IfOk result (λ _. cnf.new
+        ≡ with_formulas atoms.now cnf.old (support_formula (map rule_of rules.now) set.now ∷ [])) }
 {
     let x = push_either(alloc, cnf, atoms, set)?;
     let y = push_supports(alloc, cnf, atoms, rules, set)?;
@@ -91,8 +95,8 @@ fn push_one_support(
     push_unit(alloc, cnf, n)
 }
 
-/// Adds the clauses of the loop formula of the set: if one of its atoms is true, some rule gives it external support.
-/// If memory runs out, the list is as before.
+/// Adds the clauses of the loop formula of the set: if one of its atoms is true, some rule gives it
+/// external support. If memory runs out, the list is as before.
 pub fn push_support(
     alloc: Global,
     cnf: &mut Cnf,
@@ -104,7 +108,8 @@ pub fn push_support(
     requires over { AreNamesOf atoms.now set.now }
     requires room { length atoms.now ≤ cnf.old.vars }
     ensures grows { IfOk result (λ _. cnf.old.vars ≤ cnf.new.vars) }
-    ensures pushed { IfOk result (λ _. cnf.new ≡ with_formulas atoms.now cnf.old (support_formula (map rule_of rules.now) set.now ∷ [])) }
+    ensures pushed { IfOk result (λ _. cnf.new
+        ≡ with_formulas atoms.now cnf.old (support_formula (map rule_of rules.now) set.now ∷ [])) }
     ensures err { OnErr result (cnf.new ≡ cnf.old) }
 {
     let mut own = Cnf::new(alloc, cnf.vars());

@@ -10,7 +10,8 @@ use std::alloc::Global;
 
 /// The defaults of the items, in their order.
 pub fn defaults_of(alloc: Global, items: &[TheoryItem]) -> Result<Vec<&Default>, Memory>
-    ensures { IfOk result (λ ds. map (λ d. default_of d.now) ds.items ≡ defaults_of (map item_of items.now)) }
+    ensures { IfOk result (λ ds. map (λ d. default_of d.now) ds.items
+        ≡ defaults_of (map item_of items.now)) }
 {
     let mut defaults = Vec::new(alloc);
     for item in items {

@@ -1,5 +1,5 @@
-//! Laws: each system has a listing of its equilibria, and each level a number of questions. The functions compute
-//! nothing: each contract is a law.
+//! Laws: each system has a listing of its equilibria, and each level a number of questions. The
+//! functions compute nothing: each contract is a law.
 #![tactic(auto)]
 
 ghost use Rattle.mcs_existence.specs.Laws.{StatesHaveAListing, CountsExist};

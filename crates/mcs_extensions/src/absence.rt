@@ -1,6 +1,7 @@
 //! Checks that defaults are unsupported or blocked.
 
-ghost use Rattle.std.specs.Prelude.{◌≡◌, ◌≤◌, ◌<◌, ◌↔◌, List, length, map, IsTrue, IfOk, MatchOption, None, Some};
+ghost use Rattle.std.specs.Prelude.{◌≡◌, ◌≤◌, ◌<◌, ◌↔◌, List, length, map, IsTrue, IfOk};
+ghost use Rattle.std.specs.Prelude.{MatchOption, None, Some};
 ghost use Rattle.std.specs.List.{AllByRecursion};
 ghost use Rattle.mcs_sets.specs.Sets.{minus, members};
 ghost use Rattle.mcs_system.specs.Plain as plain;
@@ -32,7 +33,8 @@ fn numbered_formula(formulas: &[Formula], number: u32) -> Option<&Formula>
     Some(&formulas[(number - 1) as usize])
 }
 
-/// Whether it is shown that the negation of the formula follows from the formulas whose clauses are `known`.
+/// Whether it is shown that the negation of the formula follows from the formulas whose clauses are
+/// `known`.
 fn shows_negation(
     alloc: Global,
     known: &mut Cnf,
@@ -43,8 +45,10 @@ fn shows_negation(
     requires over { IsOver atoms.now (formula_of formula.now) }
     requires room { length atoms.now ≤ known.old.vars }
     ensures kept { known.new ≡ known.old }
-    ensures exact { IfOk result (λ yes. (fs : List plain.Formula) → known.old ≡ clause_list atoms.now fs
-        → IsTrue yes ↔ IsEntailmentShown atoms.now fs (plain.Not (formula_of formula.now)) (entailment_of entail.now)) }
+    ensures exact { IfOk result (λ yes. (fs : List plain.Formula)
+        → known.old ≡ clause_list atoms.now fs
+        → IsTrue yes ↔ IsEntailmentShown atoms.now fs (plain.Not (formula_of formula.now))
+        (entailment_of entail.now)) }
 {
     let goal = negated(alloc, formula)?;
     let shown = shows(alloc, known, &goal, atoms, entail);
@@ -64,8 +68,10 @@ fn is_blocked(
     requires over { AllByRecursion (IsOver atoms.now) (default_of default.now).justs }
     requires room { length atoms.now ≤ known.old.vars }
     ensures kept { known.new ≡ known.old }
-    ensures exact { IfOk result (λ yes. (fs : List plain.Formula) → known.old ≡ clause_list atoms.now fs
-        → IsTrue yes ↔ ((f : plain.Formula) × (at_number (default_of default.now).justs just ≡ Some f) × IsEntailmentShown atoms.now fs (plain.Not f) (entailment_of entail.now))) }
+    ensures exact { IfOk result (λ yes. (fs : List plain.Formula)
+        → known.old ≡ clause_list atoms.now fs
+        → IsTrue yes ↔ ((f : plain.Formula) × (at_number (default_of default.now).justs just
+        ≡ Some f) × IsEntailmentShown atoms.now fs (plain.Not f) (entailment_of entail.now))) }
 {
     let Some(formula) = numbered_formula(&default.justs, just) else {
         return Ok(false);
@@ -73,8 +79,8 @@ fn is_blocked(
     shows_negation(alloc, known, formula, atoms, entail)
 }
 
-/// Whether it is shown that the default with this number is unsupported or blocked. `known` has the clauses of the
-/// premises.
+/// Whether it is shown that the default with this number is unsupported or blocked. `known` has the
+/// clauses of the premises.
 pub(crate) fn is_absent(
     alloc: Global,
     known: &mut Cnf,
@@ -83,9 +89,12 @@ pub(crate) fn is_absent(
     number: u32,
     absence: &Outside,
 ) -> Result<bool, Memory>
-    requires { known.old ≡ clause_list (theory_names theory.now) (map (λ f. formula_of f.now) premises.now) }
+    requires { known.old
+        ≡ clause_list (theory_names theory.now) (map (λ f. formula_of f.now) premises.now) }
     ensures kept { known.new ≡ known.old }
-    ensures exact { IfOk result (λ yes. IsTrue yes ↔ IsAbsent (theory_names theory.now) (theory_items theory.now) (map (λ f. formula_of f.now) premises.now) number (absence_of absence.now)) }
+    ensures exact { IfOk result (λ yes. IsTrue yes
+        ↔ IsAbsent (theory_names theory.now) (theory_items theory.now)
+        (map (λ f. formula_of f.now) premises.now) number (absence_of absence.now)) }
 {
     let Some(default) = numbered_default(theory.defaults, number) else {
         return Ok(false);
@@ -109,7 +118,8 @@ pub(crate) fn is_absent(
 /// The indices of the defaults outside the set, ascending.
 fn places_outside(alloc: Global, defaults: &[&Default], set: Vars) -> Result<Vec<u32>, Memory>
     requires few { length defaults.now ≤ 64 }
-    ensures places { IfOk result (λ places. places.items ≡ members (minus (all_of (map (λ d. default_of d.now) defaults.now)) set)) }
+    ensures places { IfOk result (λ places. places.items
+        ≡ members (minus (all_of (map (λ d. default_of d.now) defaults.now)) set)) }
     ensures below { IfOk result (λ places. AllByRecursion (λ k. k < 64) places.items) }
 {
     let mut places = Vec::new(alloc);
@@ -121,8 +131,8 @@ fn places_outside(alloc: Global, defaults: &[&Default], set: Vars) -> Result<Vec
     Ok(places)
 }
 
-/// Whether it is shown, for each of the defaults at these places in order, that it is unsupported or blocked. `known`
-/// has the clauses of the premises.
+/// Whether it is shown, for each of the defaults at these places in order, that it is unsupported
+/// or blocked. `known` has the clauses of the premises.
 fn are_absent_at(
     alloc: Global,
     known: &mut Cnf,
@@ -131,10 +141,13 @@ fn are_absent_at(
     places: &[u32],
     absences: &[Outside],
 ) -> Result<bool, Memory>
-    requires made { known.old ≡ clause_list (theory_names theory.now) (map (λ f. formula_of f.now) premises.now) }
+    requires made { known.old
+        ≡ clause_list (theory_names theory.now) (map (λ f. formula_of f.now) premises.now) }
     requires below { AllByRecursion (λ k. k < 64) places.now }
     ensures kept { known.new ≡ known.old }
-    ensures exact { IfOk result (λ yes. IsTrue yes ↔ AreAbsent (theory_names theory.now) (theory_items theory.now) (map (λ f. formula_of f.now) premises.now) places.now (map absence_of absences.now)) }
+    ensures exact { IfOk result (λ yes. IsTrue yes
+        ↔ AreAbsent (theory_names theory.now) (theory_items theory.now)
+        (map (λ f. formula_of f.now) premises.now) places.now (map absence_of absences.now)) }
 {
     if places.len() != absences.len() {
         return Ok(false);
@@ -149,8 +162,8 @@ fn are_absent_at(
     Ok(true)
 }
 
-/// Whether it is shown, for each default outside the set in ascending order, that it is unsupported or blocked. `known`
-/// has the clauses of the premises.
+/// Whether it is shown, for each default outside the set in ascending order, that it is unsupported
+/// or blocked. `known` has the clauses of the premises.
 pub(crate) fn are_absent(
     alloc: Global,
     known: &mut Cnf,
@@ -159,9 +172,12 @@ pub(crate) fn are_absent(
     set: Vars,
     absences: &[Outside],
 ) -> Result<bool, Memory>
-    requires { known.old ≡ clause_list (theory_names theory.now) (map (λ f. formula_of f.now) premises.now) }
+    requires { known.old
+        ≡ clause_list (theory_names theory.now) (map (λ f. formula_of f.now) premises.now) }
     ensures kept { known.new ≡ known.old }
-    ensures exact { IfOk result (λ yes. IsTrue yes ↔ AreAbsent (theory_names theory.now) (theory_items theory.now) (map (λ f. formula_of f.now) premises.now)
+    ensures exact { IfOk result (λ yes. IsTrue yes
+        ↔ AreAbsent (theory_names theory.now) (theory_items theory.now)
+        (map (λ f. formula_of f.now) premises.now)
         (members (minus (all_of (theory_defaults theory.now)) set)) (map absence_of absences.now)) }
 {
     let places = places_outside(alloc, theory.defaults, set)?;

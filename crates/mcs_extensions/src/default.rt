@@ -4,8 +4,10 @@ ghost use Rattle.std.specs.Prelude.{◌≡◌, ℕ, ◌≤◌, ◌++◌, ◌^◌
 ghost use Rattle.mcs_system.specs.Plain.{Fact};
 ghost use Rattle.mcs_system.specs.Seen.{formula_of, item_of};
 ghost use Rattle.mcs_cnf.specs.ClauseLists.{clause_list, AreOver};
-ghost use Rattle.mcs_evidence.specs.Defaults.{AreOverItems, IsAcceptedDefault, facts_of, defaults_of, verdict_of, verdicts_of};
-ghost use Rattle.mcs_asked.specs.Questions.{asked_beliefs, theory_names, theory_items, theory_beliefs};
+ghost use Rattle.mcs_evidence.specs.Defaults.{AreOverItems, IsAcceptedDefault, facts_of};
+ghost use Rattle.mcs_evidence.specs.Defaults.{defaults_of, verdict_of, verdicts_of};
+ghost use Rattle.mcs_asked.specs.Questions.{asked_beliefs, theory_names, theory_items};
+ghost use Rattle.mcs_asked.specs.Questions.{theory_beliefs};
 
 use crate::theory::facts_with;
 use crate::verdict::{Judged, judge};
@@ -25,18 +27,21 @@ fn set_count(defaults: usize) -> usize
     1 << defaults
 }
 
-/// The views that the verdicts on all sets of the defaults show, if each verdict is accepted. `known` has the clauses
-/// of the facts.
+/// The views that the verdicts on all sets of the defaults show, if each verdict is accepted.
+/// `known` has the clauses of the facts.
 fn judge_all(
     alloc: Global,
     known: &mut Cnf,
     theory: &AskedTheory<'_>,
     verdicts: &[SetCert],
 ) -> Result<Option<Vec<Vars>>, Memory>
-    requires { known.old ≡ clause_list (theory_names theory.now) (facts_of (theory_items theory.now)) }
+    requires { known.old
+        ≡ clause_list (theory_names theory.now) (facts_of (theory_items theory.now)) }
     ensures { IfOk result (λ shown. MatchOption shown
-        ((views : List ℕ) → ¬ IsAcceptedDefault (theory_names theory.now) (theory_items theory.now) (theory_beliefs theory.now) views (map verdict_of verdicts.now))
-        (λ views. IsAcceptedDefault (theory_names theory.now) (theory_items theory.now) (theory_beliefs theory.now) views.items (map verdict_of verdicts.now))) }
+        ((views : List ℕ) → ¬ IsAcceptedDefault (theory_names theory.now) (theory_items theory.now)
+        (theory_beliefs theory.now) views (map verdict_of verdicts.now))
+        (λ views. IsAcceptedDefault (theory_names theory.now) (theory_items theory.now)
+        (theory_beliefs theory.now) views.items (map verdict_of verdicts.now))) }
 {
     let count = set_count(theory.defaults.len());
     if verdicts.len() != count {
@@ -68,8 +73,12 @@ pub fn default_views(
     requires items { AreOverItems asked.now.atoms.now (map item_of items.now) }
     requires heads { AreOver asked.now.atoms.now (map (λ f. formula_of f.now) heads.now) }
     ensures { IfOk result (λ shown. MatchOption shown
-        ((views : List ℕ) → ¬ IsAcceptedDefault asked.now.atoms.now (map item_of items.now ++ map Fact (map (λ f. formula_of f.now) heads.now)) (asked_beliefs asked.now) views (verdicts_of cert.now))
-        (λ views. IsAcceptedDefault asked.now.atoms.now (map item_of items.now ++ map Fact (map (λ f. formula_of f.now) heads.now)) (asked_beliefs asked.now) views.items (verdicts_of cert.now))) }
+        ((views : List ℕ) → ¬ IsAcceptedDefault asked.now.atoms.now
+        (map item_of items.now ++ map Fact (map (λ f. formula_of f.now) heads.now))
+        (asked_beliefs asked.now) views (verdicts_of cert.now))
+        (λ views. IsAcceptedDefault asked.now.atoms.now
+        (map item_of items.now ++ map Fact (map (λ f. formula_of f.now) heads.now))
+        (asked_beliefs asked.now) views.items (verdicts_of cert.now))) }
 {
     let defaults = defaults_of(alloc, items)?;
     let facts = facts_with(alloc, items, heads)?;

@@ -1,5 +1,5 @@
-//! Whether a certificate shows the extensions of a default theory, and what they let its context believe: decided
-//! without a search, by checking traces and evaluating formulas.
+//! Whether a certificate shows the extensions of a default theory, and what they let its context
+//! believe: decided without a search, by checking traces and evaluating formulas.
 #![tactic(auto)]
 
 mod absence;

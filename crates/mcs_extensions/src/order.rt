@@ -1,6 +1,7 @@
 //! The order in which the defaults of a set apply.
 
-ghost use Rattle.std.specs.Prelude.{◌≡◌, ◌≤◌, ◌↔◌, map, IsTrue, IfOk, OnOk, MatchOption, None, Some};
+ghost use Rattle.std.specs.Prelude.{◌≡◌, ◌≤◌, ◌↔◌, map, IsTrue, IfOk, OnOk, MatchOption, None};
+ghost use Rattle.std.specs.Prelude.{Some};
 ghost use Rattle.mcs_system.specs.Seen.{default_of};
 ghost use Rattle.mcs_cnf.specs.ClauseLists.{clause_list};
 ghost use Rattle.mcs_cnf.specs.Entailments.{entailment_of};
@@ -49,8 +50,10 @@ pub(crate) fn are_numbers(set: Vars, numbers: &[u32]) -> bool
 
 /// The default with this number, counted from 1.
 pub(crate) fn numbered_default<'f>(defaults: &[&'f Default], number: u32) -> Option<&'f Default>
-    ensures { MatchOption result (at_number (map (λ d. default_of d.now) defaults.now) number ≡ None)
-        (λ d. at_number (map (λ d. default_of d.now) defaults.now) number ≡ Some (default_of d.now)) }
+    ensures { MatchOption result (at_number (map (λ d. default_of d.now) defaults.now) number
+        ≡ None)
+        (λ d. at_number (map (λ d. default_of d.now) defaults.now) number
+        ≡ Some (default_of d.now)) }
 {
     if number == 0 || (number - 1) as usize >= defaults.len() {
         return None;
@@ -58,9 +61,9 @@ pub(crate) fn numbered_default<'f>(defaults: &[&'f Default], number: u32) -> Opt
     Some(defaults[(number - 1) as usize])
 }
 
-/// Whether it is shown that the prerequisites of the defaults with these numbers follow one after the other, each by
-/// means of the consequents before it. The clauses of the consequents are added to `known`, which has those of the
-/// facts.
+/// Whether it is shown that the prerequisites of the defaults with these numbers follow one after
+/// the other, each by means of the consequents before it. The clauses of the consequents are added
+/// to `known`, which has those of the facts.
 fn derives(
     alloc: Global,
     known: &mut Cnf,
@@ -68,9 +71,12 @@ fn derives(
     order: &[u32],
     pres: &[Entail],
 ) -> Result<bool, Memory>
-    requires { known.old ≡ clause_list (theory_names theory.now) (facts_of (theory_items theory.now)) }
+    requires { known.old
+        ≡ clause_list (theory_names theory.now) (facts_of (theory_items theory.now)) }
     ensures grown { OnOk result (HasMoreFormulas (theory_names theory.now) known.old known.new) }
-    ensures exact { IfOk result (λ yes. IsTrue yes ↔ AreGrounded (theory_names theory.now) (theory_items theory.now) (facts_of (theory_items theory.now)) order.now (map entailment_of pres.now)) }
+    ensures exact { IfOk result (λ yes. IsTrue yes
+        ↔ AreGrounded (theory_names theory.now) (theory_items theory.now)
+        (facts_of (theory_items theory.now)) order.now (map entailment_of pres.now)) }
 {
     if order.len() != pres.len() {
         return Ok(false);
@@ -98,9 +104,12 @@ pub(crate) fn are_grounded(
     order: &[u32],
     pres: &[Entail],
 ) -> Result<bool, Memory>
-    requires { known.old ≡ clause_list (theory_names theory.now) (facts_of (theory_items theory.now)) }
+    requires { known.old
+        ≡ clause_list (theory_names theory.now) (facts_of (theory_items theory.now)) }
     ensures kept { OnOk result (known.new ≡ known.old) }
-    ensures exact { IfOk result (λ yes. IsTrue yes ↔ AreGrounded (theory_names theory.now) (theory_items theory.now) (facts_of (theory_items theory.now)) order.now (map entailment_of pres.now)) }
+    ensures exact { IfOk result (λ yes. IsTrue yes
+        ↔ AreGrounded (theory_names theory.now) (theory_items theory.now)
+        (facts_of (theory_items theory.now)) order.now (map entailment_of pres.now)) }
 {
     let vars = known.vars();
     let count = known.clauses().len();

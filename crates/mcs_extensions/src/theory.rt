@@ -4,7 +4,8 @@ ghost use Rattle.std.specs.Prelude.{◌≡◌, ◌≤◌, ◌++◌, length, map,
 ghost use Rattle.mcs_system.specs.Plain.{Not};
 ghost use Rattle.mcs_system.specs.Seen.{formula_of, default_of, item_of};
 ghost use Rattle.mcs_cnf.specs.ClauseLists.{with_formulas};
-ghost use Rattle.mcs_evidence.specs.Defaults.{facts_of, defaults_at, defaults_in, generated, negated_justs};
+ghost use Rattle.mcs_evidence.specs.Defaults.{facts_of, defaults_at, defaults_in, generated};
+ghost use Rattle.mcs_evidence.specs.Defaults.{negated_justs};
 ghost use Rattle.mcs_asked.specs.Questions.{theory_names, theory_items};
 ghost use Rattle.mcs_system.specs.Plain as plain;
 
@@ -17,7 +18,8 @@ use std::alloc::Global;
 
 /// The facts of the items, in their order.
 fn facts_of(alloc: Global, items: &[TheoryItem]) -> Result<Vec<&Formula>, Memory>
-    ensures { IfOk result (λ fs. map (λ f. formula_of f.now) fs.items ≡ facts_of (map item_of items.now)) }
+    ensures { IfOk result (λ fs. map (λ f. formula_of f.now) fs.items
+        ≡ facts_of (map item_of items.now)) }
 {
     let mut facts = Vec::new(alloc);
     for item in items {
@@ -34,7 +36,8 @@ pub fn facts_with<'f>(
     items: &'f [TheoryItem],
     added: &[&'f Formula],
 ) -> Result<Vec<&'f Formula>, Memory>
-    ensures { IfOk result (λ all. map (λ f. formula_of f.now) all.items ≡ facts_of (map item_of items.now) ++ map (λ f. formula_of f.now) added.now) }
+    ensures { IfOk result (λ all. map (λ f. formula_of f.now) all.items
+        ≡ facts_of (map item_of items.now) ++ map (λ f. formula_of f.now) added.now) }
 {
     let mut all = facts_of(alloc, items)?;
     all.extend_from_slice(added)?;
@@ -48,7 +51,8 @@ pub fn chosen<'f>(
     set: Vars,
 ) -> Result<Vec<&'f Default>, Memory>
     requires few { length defaults.now ≤ 64 }
-    ensures { IfOk result (λ ds. map (λ d. default_of d.now) ds.items ≡ defaults_at 0 (map (λ d. default_of d.now) defaults.now) set) }
+    ensures { IfOk result (λ ds. map (λ d. default_of d.now) ds.items
+        ≡ defaults_at 0 (map (λ d. default_of d.now) defaults.now) set) }
 {
     let mut chosen = Vec::new(alloc);
     for (index, default) in defaults.iter().enumerate() {
@@ -64,7 +68,8 @@ pub fn prerequisites<'f>(
     alloc: Global,
     defaults: &[&'f Default],
 ) -> Result<Vec<&'f Formula>, Memory>
-    ensures { IfOk result (λ fs. map (λ f. formula_of f.now) fs.items ≡ map (λ (d : plain.Default). d.pre) (map (λ d. default_of d.now) defaults.now)) }
+    ensures { IfOk result (λ fs. map (λ f. formula_of f.now) fs.items
+        ≡ map (λ (d : plain.Default). d.pre) (map (λ d. default_of d.now) defaults.now)) }
 {
     let mut formulas = Vec::new(alloc);
     for default in defaults {
@@ -75,7 +80,8 @@ pub fn prerequisites<'f>(
 
 /// The consequents of the defaults.
 fn consequents<'f>(alloc: Global, defaults: &[&'f Default]) -> Result<Vec<&'f Formula>, Memory>
-    ensures { IfOk result (λ fs. map (λ f. formula_of f.now) fs.items ≡ map (λ (d : plain.Default). d.conclusion) (map (λ d. default_of d.now) defaults.now)) }
+    ensures { IfOk result (λ fs. map (λ f. formula_of f.now) fs.items
+        ≡ map (λ (d : plain.Default). d.conclusion) (map (λ d. default_of d.now) defaults.now)) }
 {
     let mut formulas = Vec::new(alloc);
     for default in defaults {
@@ -98,7 +104,8 @@ fn push_negations(
     negations: &mut Vec<Formula>,
     formulas: &[Formula],
 ) -> Result<(), Memory>
-    ensures { IfOk result (λ _. map formula_of negations.new.items ≡ map formula_of negations.old.items ++ map Not (map formula_of formulas.now)) }
+    ensures { IfOk result (λ _. map formula_of negations.new.items
+        ≡ map formula_of negations.old.items ++ map Not (map formula_of formulas.now)) }
 {
     for formula in formulas {
         negations.push(negated(alloc, formula)?)?;
@@ -108,7 +115,8 @@ fn push_negations(
 
 /// The negations of the justifications of the defaults, in order.
 pub fn negations(alloc: Global, defaults: &[&Default]) -> Result<Vec<Formula>, Memory>
-    ensures { IfOk result (λ fs. map formula_of fs.items ≡ negated_justs (map (λ d. default_of d.now) defaults.now)) }
+    ensures { IfOk result (λ fs. map formula_of fs.items
+        ≡ negated_justs (map (λ d. default_of d.now) defaults.now)) }
 {
     let mut negations = Vec::new(alloc);
     for default in defaults {
@@ -119,7 +127,8 @@ pub fn negations(alloc: Global, defaults: &[&Default]) -> Result<Vec<Formula>, M
 
 /// The consequents of the defaults of the set.
 fn added<'t>(alloc: Global, theory: &AskedTheory<'t>, set: Vars) -> Result<Vec<&'t Formula>, Memory>
-    ensures { IfOk result (λ fs. map (λ f. formula_of f.now) fs.items ≡ map (λ (d : plain.Default). d.conclusion) (defaults_in (theory_items theory.now) set)) }
+    ensures { IfOk result (λ fs. map (λ f. formula_of f.now) fs.items
+        ≡ map (λ (d : plain.Default). d.conclusion) (defaults_in (theory_items theory.now) set)) }
 {
     let inside = chosen(alloc, theory.defaults, set)?;
     consequents(alloc, &inside)
@@ -131,7 +140,8 @@ pub fn generated<'t>(
     theory: &AskedTheory<'t>,
     set: Vars,
 ) -> Result<Vec<&'t Formula>, Memory>
-    ensures { IfOk result (λ fs. map (λ f. formula_of f.now) fs.items ≡ generated (theory_items theory.now) set) }
+    ensures { IfOk result (λ fs. map (λ f. formula_of f.now) fs.items
+        ≡ generated (theory_items theory.now) set) }
 {
     let mut formulas = facts_with(alloc, theory.items, theory.heads)?;
     let more = added(alloc, theory, set)?;
@@ -147,7 +157,8 @@ pub fn push_added(
     set: Vars,
 ) -> Result<(), Memory>
     requires { length (theory_names theory.now) ≤ known.old.vars }
-    ensures { OnOk result (known.new ≡ with_formulas (theory_names theory.now) known.old (map (λ (d : plain.Default). d.conclusion) (defaults_in (theory_items theory.now) set))) }
+    ensures { OnOk result (known.new ≡ with_formulas (theory_names theory.now) known.old
+        (map (λ (d : plain.Default). d.conclusion) (defaults_in (theory_items theory.now) set))) }
 {
     let more = added(alloc, theory, set)?;
     push_all(alloc, known, &more, theory.asked.atoms)

@@ -4,9 +4,11 @@ ghost use Rattle.std.specs.Prelude.{◌≡◌, ℕ, ◌↔◌, map, IsTrue, IfOk
 ghost use Rattle.mcs_system.specs.Seen.{default_of, formula_of};
 ghost use Rattle.mcs_cnf.specs.ClauseLists.{clause_list};
 ghost use Rattle.mcs_cnf.specs.Entailments.{entailment_of};
-ghost use Rattle.mcs_evidence.specs.Defaults.{absence_of, verdict_of, facts_of, negated_justs, AreDenied, FailsToApply, HasApplied, IsUngrounded};
+ghost use Rattle.mcs_evidence.specs.Defaults.{absence_of, verdict_of, facts_of, negated_justs};
+ghost use Rattle.mcs_evidence.specs.Defaults.{AreDenied, FailsToApply, HasApplied, IsUngrounded};
 ghost use Rattle.mcs_asked.specs.Questions.{theory_names, theory_items, theory_beliefs};
-ghost use Rattle.mcs_extensions.specs.Checks.{IsComplete, AreGenerated, IsVerdictJudged, IsOrderShown, number_in, judged_by, judged_as};
+ghost use Rattle.mcs_extensions.specs.Checks.{IsComplete, AreGenerated, IsVerdictJudged};
+ghost use Rattle.mcs_extensions.specs.Checks.{IsOrderShown, number_in, judged_by, judged_as};
 
 use crate::absence::{are_absent, is_absent};
 use crate::order::{are_grounded, are_numbers, is_member, numbered_default};
@@ -56,8 +58,8 @@ pub fn judged_by(accepted: bool) -> Judged
     }
 }
 
-/// The result for a verdict that the set generates an extension. The view is the one that is shown; if there is none,
-/// the verdict is not accepted.
+/// The result for a verdict that the set generates an extension. The view is the one that is shown;
+/// if there is none, the verdict is not accepted.
 pub fn judged_as(view: Option<Vars>) -> Judged
     ensures { result ≡ judged_as view }
 {
@@ -76,13 +78,15 @@ fn deny_each(
     entails: &[Entail],
 ) -> Result<bool, Memory>
     ensures { IfOk result (λ yes. IsTrue yes
-        ↔ AreDenied asked.now.atoms.now (map (λ f. formula_of f.now) premises.now) (map formula_of goals.now) (map entailment_of entails.now)) }
+        ↔ AreDenied asked.now.atoms.now (map (λ f. formula_of f.now) premises.now)
+        (map formula_of goals.now) (map entailment_of entails.now)) }
 {
     let lent = lend(alloc, goals)?;
     Ok(deny(asked, premises, &lent, entails))
 }
 
-/// Whether it is shown, for each negated justification of the defaults in order, that it does not follow.
+/// Whether it is shown, for each negated justification of the defaults in order, that it does not
+/// follow.
 fn allow(
     alloc: Global,
     asked: &Asked<'_>,
@@ -91,7 +95,9 @@ fn allow(
     entails: &[Entail],
 ) -> Result<bool, Memory>
     ensures { IfOk result (λ yes. IsTrue yes
-        ↔ AreDenied asked.now.atoms.now (map (λ f. formula_of f.now) premises.now) (negated_justs (map (λ d. default_of d.now) defaults.now)) (map entailment_of entails.now)) }
+        ↔ AreDenied asked.now.atoms.now (map (λ f. formula_of f.now) premises.now)
+        (negated_justs (map (λ d. default_of d.now) defaults.now))
+        (map entailment_of entails.now)) }
 {
     let goals = negations(alloc, defaults)?;
     let denied = deny_each(alloc, asked, premises, &goals, entails);
@@ -109,8 +115,8 @@ fn number_of(absence: &Outside) -> u32
     }
 }
 
-/// Whether it is shown that a default of the set does not apply. `premises` are what the set generates, and `known` has
-/// their clauses.
+/// Whether it is shown that a default of the set does not apply. `premises` are what the set
+/// generates, and `known` has their clauses.
 fn has_failed(
     alloc: Global,
     known: &mut Cnf,
@@ -119,9 +125,12 @@ fn has_failed(
     set: Vars,
     absence: &Outside,
 ) -> Result<bool, Memory>
-    requires { AreGenerated (theory_names theory.now) (theory_items theory.now) set known.old (map (λ f. formula_of f.now) premises.now) }
+    requires { AreGenerated (theory_names theory.now) (theory_items theory.now) set known.old
+        (map (λ f. formula_of f.now) premises.now) }
     ensures kept { known.new ≡ known.old }
-    ensures exact { IfOk result (λ yes. IsTrue yes ↔ FailsToApply (theory_names theory.now) (theory_items theory.now) set (absence_of absence.now)) }
+    ensures exact { IfOk result (λ yes. IsTrue yes
+        ↔ FailsToApply (theory_names theory.now) (theory_items theory.now) set
+        (absence_of absence.now)) }
 {
     let number = number_of(absence);
     if !is_member(set, number) {
@@ -139,9 +148,12 @@ fn has_applied(
     set: Vars,
     told: &Applying<'_>,
 ) -> Result<bool, Memory>
-    requires { AreGenerated (theory_names theory.now) (theory_items theory.now) set known.old (map (λ f. formula_of f.now) premises.now) }
+    requires { AreGenerated (theory_names theory.now) (theory_items theory.now) set known.old
+        (map (λ f. formula_of f.now) premises.now) }
     ensures kept { known.new ≡ known.old }
-    ensures exact { IfOk result (λ yes. IsTrue yes ↔ HasApplied (theory_names theory.now) (theory_items theory.now) set told.now.number (entailment_of told.now.pre.now) (map entailment_of told.now.justs.now)) }
+    ensures exact { IfOk result (λ yes. IsTrue yes
+        ↔ HasApplied (theory_names theory.now) (theory_items theory.now) set told.now.number
+        (entailment_of told.now.pre.now) (map entailment_of told.now.justs.now)) }
 {
     if is_member(set, told.number) {
         return Ok(false);
@@ -156,7 +168,8 @@ fn has_applied(
     allow(alloc, theory.asked, premises, &[default], told.justs)
 }
 
-/// Whether it is shown that the defaults of a proper subset of the set support none of the others of the set.
+/// Whether it is shown that the defaults of a proper subset of the set support none of the others
+/// of the set.
 fn is_ungrounded(
     alloc: Global,
     theory: &AskedTheory<'_>,
@@ -164,7 +177,8 @@ fn is_ungrounded(
     closed: u32,
     pres: &[Entail],
 ) -> Result<bool, Memory>
-    ensures { IfOk result (λ yes. IsTrue yes ↔ IsUngrounded (theory_names theory.now) (theory_items theory.now) set closed (map entailment_of pres.now)) }
+    ensures { IfOk result (λ yes. IsTrue yes ↔ IsUngrounded (theory_names theory.now)
+        (theory_items theory.now) set closed (map entailment_of pres.now)) }
 {
     let part = Vars::numbered(u64::from(closed));
     if !part.within(set) {
@@ -179,8 +193,8 @@ fn is_ungrounded(
     Ok(deny(theory.asked, &premises, &goals, pres))
 }
 
-/// The view of the extension that the set generates, if all that is told of it is shown. `premises` are what the set
-/// generates, and `known` has their clauses.
+/// The view of the extension that the set generates, if all that is told of it is shown. `premises`
+/// are what the set generates, and `known` has their clauses.
 fn complete_view(
     alloc: Global,
     known: &mut Cnf,
@@ -189,11 +203,18 @@ fn complete_view(
     set: Vars,
     told: &Completion<'_>,
 ) -> Result<Option<Vars>, Memory>
-    requires { known.old ≡ clause_list (theory_names theory.now) (map (λ f. formula_of f.now) premises.now) }
+    requires { known.old
+        ≡ clause_list (theory_names theory.now) (map (λ f. formula_of f.now) premises.now) }
     ensures kept { known.new ≡ known.old }
     ensures exact { IfOk result (λ view. MatchOption view
-        ((places : ℕ) → ¬ IsComplete (theory_names theory.now) (theory_items theory.now) (map (λ f. formula_of f.now) premises.now) (theory_beliefs theory.now) set (map entailment_of told.now.justs.now) (map absence_of told.now.outside.now) (map entailment_of told.now.outputs.now) places)
-        (λ places. IsComplete (theory_names theory.now) (theory_items theory.now) (map (λ f. formula_of f.now) premises.now) (theory_beliefs theory.now) set (map entailment_of told.now.justs.now) (map absence_of told.now.outside.now) (map entailment_of told.now.outputs.now) places)) }
+        ((places : ℕ) → ¬ IsComplete (theory_names theory.now) (theory_items theory.now)
+        (map (λ f. formula_of f.now) premises.now) (theory_beliefs theory.now) set
+        (map entailment_of told.now.justs.now) (map absence_of told.now.outside.now)
+        (map entailment_of told.now.outputs.now) places)
+        (λ places. IsComplete (theory_names theory.now) (theory_items theory.now)
+        (map (λ f. formula_of f.now) premises.now) (theory_beliefs theory.now) set
+        (map entailment_of told.now.justs.now) (map absence_of told.now.outside.now)
+        (map entailment_of told.now.outputs.now) places)) }
 {
     let inside = chosen(alloc, theory.defaults, set)?;
     let allowed = allow(alloc, theory.asked, premises, &inside, told.justs)?;
@@ -207,8 +228,8 @@ fn complete_view(
     shown_places(alloc, known, theory.asked, premises, told.outputs)
 }
 
-/// Checks a verdict on the set, apart from the order of its defaults. `premises` are what the set generates, and
-/// `known` has their clauses.
+/// Checks a verdict on the set, apart from the order of its defaults. `premises` are what the set
+/// generates, and `known` has their clauses.
 fn judge_from(
     alloc: Global,
     known: &mut Cnf,
@@ -217,10 +238,13 @@ fn judge_from(
     set: Vars,
     verdict: &SetCert,
 ) -> Result<Judged, Memory>
-    requires { AreGenerated (theory_names theory.now) (theory_items theory.now) set known.old (map (λ f. formula_of f.now) premises.now) }
+    requires { AreGenerated (theory_names theory.now) (theory_items theory.now) set known.old
+        (map (λ f. formula_of f.now) premises.now) }
     ensures kept { known.new ≡ known.old }
-    ensures exact { IfOk result (λ judged. IsOrderShown (theory_names theory.now) (theory_items theory.now) set (verdict_of verdict.now)
-        → IsVerdictJudged (theory_names theory.now) (theory_items theory.now) (theory_beliefs theory.now) set (verdict_of verdict.now) judged) }
+    ensures exact { IfOk result (λ judged. IsOrderShown (theory_names theory.now)
+        (theory_items theory.now) set (verdict_of verdict.now)
+        → IsVerdictJudged (theory_names theory.now) (theory_items theory.now)
+        (theory_beliefs theory.now) set (verdict_of verdict.now) judged) }
 {
     match verdict {
         SetCert::Fails(absence) => {
@@ -255,8 +279,8 @@ fn judge_from(
     }
 }
 
-/// The same, but `known` has the clauses of the facts. Those of the consequents are added for the test and removed
-/// again.
+/// The same, but `known` has the clauses of the facts. Those of the consequents are added for the
+/// test and removed again.
 fn judge_generated(
     alloc: Global,
     known: &mut Cnf,
@@ -264,10 +288,13 @@ fn judge_generated(
     set: Vars,
     verdict: &SetCert,
 ) -> Result<Judged, Memory>
-    requires { known.old ≡ clause_list (theory_names theory.now) (facts_of (theory_items theory.now)) }
+    requires { known.old
+        ≡ clause_list (theory_names theory.now) (facts_of (theory_items theory.now)) }
     ensures kept { OnOk result (known.new ≡ known.old) }
-    ensures exact { IfOk result (λ judged. IsOrderShown (theory_names theory.now) (theory_items theory.now) set (verdict_of verdict.now)
-        → IsVerdictJudged (theory_names theory.now) (theory_items theory.now) (theory_beliefs theory.now) set (verdict_of verdict.now) judged) }
+    ensures exact { IfOk result (λ judged. IsOrderShown (theory_names theory.now)
+        (theory_items theory.now) set (verdict_of verdict.now)
+        → IsVerdictJudged (theory_names theory.now) (theory_items theory.now)
+        (theory_beliefs theory.now) set (verdict_of verdict.now) judged) }
 {
     let premises = generated(alloc, theory, set)?;
     let vars = known.vars();
@@ -278,9 +305,10 @@ fn judge_generated(
     Ok(judged)
 }
 
-/// For a verdict that the set generates an extension: whether the order in which its defaults apply is accepted.
-/// Verdicts that a default fails or applies have no order and pass. A verdict that the set is ungrounded does not pass;
-/// it is checked in another way. `known` has the clauses of the facts.
+/// For a verdict that the set generates an extension: whether the order in which its defaults apply
+/// is accepted. Verdicts that a default fails or applies have no order and pass. A verdict that the
+/// set is ungrounded does not pass; it is checked in another way. `known` has the clauses of the
+/// facts.
 fn is_ready(
     alloc: Global,
     known: &mut Cnf,
@@ -288,9 +316,12 @@ fn is_ready(
     set: Vars,
     verdict: &SetCert,
 ) -> Result<bool, Memory>
-    requires { known.old ≡ clause_list (theory_names theory.now) (facts_of (theory_items theory.now)) }
+    requires { known.old
+        ≡ clause_list (theory_names theory.now) (facts_of (theory_items theory.now)) }
     ensures kept { OnOk result (known.new ≡ known.old) }
-    ensures exact { IfOk result (λ yes. IsTrue yes ↔ IsOrderShown (theory_names theory.now) (theory_items theory.now) set (verdict_of verdict.now)) }
+    ensures exact { IfOk result (λ yes. IsTrue yes
+        ↔ IsOrderShown (theory_names theory.now) (theory_items theory.now) set
+        (verdict_of verdict.now)) }
 {
     match verdict {
         SetCert::Fails(_) => Ok(true),
@@ -323,9 +354,11 @@ pub(crate) fn judge(
     set: Vars,
     verdict: &SetCert,
 ) -> Result<Judged, Memory>
-    requires { known.old ≡ clause_list (theory_names theory.now) (facts_of (theory_items theory.now)) }
+    requires { known.old
+        ≡ clause_list (theory_names theory.now) (facts_of (theory_items theory.now)) }
     ensures kept { OnOk result (known.new ≡ known.old) }
-    ensures exact { IfOk result (λ judged. IsVerdictJudged (theory_names theory.now) (theory_items theory.now) (theory_beliefs theory.now) set (verdict_of verdict.now) judged) }
+    ensures exact { IfOk result (λ judged. IsVerdictJudged (theory_names theory.now)
+        (theory_items theory.now) (theory_beliefs theory.now) set (verdict_of verdict.now) judged) }
 {
     if let SetCert::Ungrounded { closed, pres } = verdict {
         let ungrounded = is_ungrounded(alloc, theory, set, *closed, pres)?;

@@ -7,7 +7,8 @@ ghost use Rattle.mcs_faults.specs.declared.fault.TextFault.TheVariants as texts;
 
 use mcs_system::Limit;
 
-/// The first fault of a text, and the offset of its token. `limit` is given exactly for number 5. The numbers are:
+/// The first fault of a text, and the offset of its token. `limit` is given exactly for number 5.
+/// The numbers are:
 ///
 /// - 1: the tokens up to and including this one begin no text;
 /// - 2: no context has this name;
@@ -42,7 +43,8 @@ pub enum Fault {
 impl Fault {
     /// The fault of a token that begins at the offset.
     pub fn at(self, offset: usize) -> TextFault
-        ensures { result ≡ texts.Fault (fault_number (fault_for self)) offset (limit_of (fault_for self)) }
+        ensures { result
+            ≡ texts.Fault (fault_number (fault_for self)) offset (limit_of (fault_for self)) }
     {
         let (number, limit) = match self {
             Fault::NoGrammar => (1, None),

@@ -62,7 +62,8 @@ pub(crate) fn is_input(inputs: Vars, number: usize) -> bool
 impl Watch {
     /// The lowest fault of the token, if it has one.
     pub(crate) fn fault_of(&self, said: &Said) -> Option<Fault>
-        ensures { (before : List Use) (m : Entry) (a : About) → IsEntryAsked self.now before m a said.now → IsLowestFault result before m }
+        ensures { (before : List Use) (m : Entry) (a : About)
+            → IsEntryAsked self.now before m a said.now → IsLowestFault result before m }
     {
         if self.names_no_context(said) {
             return Some(Fault::NoContext);
@@ -122,7 +123,8 @@ impl Watch {
         }
     }
 
-    /// Whether the token begins a head into a program, or a belief of a program, and is not an atom.
+    /// Whether the token begins a head into a program, or a belief of a program, and is not an
+    /// atom.
     fn begins_no_atom(&self, said: &Said) -> bool
         ensures { AnswersTest result (Has faults.NoAtom) self.now said.now }
     {
@@ -132,10 +134,11 @@ impl Watch {
         said.uses.begins_belief && self.is_program(said.subject.context)
     }
 
-    /// The index of the read among the variables, or the number of variables if it is none of them. For `None`, which
-    /// is a read with a name that is too long, it is the number of variables too.
+    /// The index of the read among the variables, or the number of variables if it is none of them.
+    /// For `None`, which is a read with a name that is too long, it is the number of variables too.
     pub(crate) fn variable_number(&self, read: Option<&NamedRead>) -> usize
-        ensures some { (r : code_read.NamedRead) → option_copied read.entry ≡ Some r → IsNumberOf (map named_read_of self.now.variables.items) (named_read_of r) result }
+        ensures some { (r : code_read.NamedRead) → option_copied read.entry ≡ Some r
+            → IsNumberOf (map named_read_of self.now.variables.items) (named_read_of r) result }
         ensures none { option_copied read.entry ≡ None → result ≡ length self.now.variables.items }
     {
         let Some(read) = read else {
@@ -169,7 +172,8 @@ impl Watch {
         }
     }
 
-    /// Whether the token names the target of a rule, and there are as many rules into it as the limit.
+    /// Whether the token names the target of a rule, and there are as many rules into it as the
+    /// limit.
     fn exceeds_rules(&self, said: &Said) -> bool
         ensures { AnswersTest result (ExceedsLimit Limit.RulesPerContext) self.now said.now }
     {
@@ -190,7 +194,8 @@ impl Watch {
         said.uses.ends_read && self.variable_number(said.read) == self.variables.len()
     }
 
-    /// Whether the token ends a read of a further input of the target, and there are as many as the limit.
+    /// Whether the token ends a read of a further input of the target, and there are as many as the
+    /// limit.
     fn exceeds_inputs(&self, said: &Said) -> bool
         ensures { AnswersTest result (ExceedsLimit Limit.InputsPerContext) self.now said.now }
     {
@@ -238,7 +243,8 @@ impl Watch {
             && self.items_of(said.subject.context) == Limit::ItemsPerContext.most()
     }
 
-    /// Whether the token is the first of a formula, or the first name of a program rule, that exceeds the limit.
+    /// Whether the token is the first of a formula, or the first name of a program rule, that
+    /// exceeds the limit.
     fn exceeds_size(&self, said: &Said) -> bool
         ensures { AnswersTest result (ExceedsLimit Limit.FormulaSize) self.now said.now }
     {

@@ -9,7 +9,9 @@ ghost use Rattle.mcs_grammar.specs.Entries.{Entry, Use};
 ghost use Rattle.mcs_grammar.specs.Faults as faults;
 ghost use Rattle.mcs_grammar.specs.Faults.{Has};
 ghost use Rattle.mcs_reader.specs.TextImages.{About, named_read_of, role_uses, when};
-ghost use Rattle.mcs_faults.specs.Watching.{HaveNoFault, IsUseAllowed, IsEntryAsked, IsUnseenContext, IsHeld, IsNaming, IsNumberOf, IsSpokenOf, IsWatch, names_seen};
+ghost use Rattle.mcs_faults.specs.Watching.{HaveNoFault, IsUseAllowed, IsEntryAsked};
+ghost use Rattle.mcs_faults.specs.Watching.{IsUnseenContext, IsHeld, IsNaming, IsNumberOf};
+ghost use Rattle.mcs_faults.specs.Watching.{IsSpokenOf, IsWatch, names_seen};
 
 use crate::limits::is_one_of;
 use crate::watch::{ContextSeen, Said, Watch};
@@ -56,7 +58,10 @@ fn fresh(alloc: Global, name: Name) -> ContextSeen
 impl Watch {
     /// Records a token that has no fault.
     pub(crate) fn record(&mut self, alloc: Global, said: &Said) -> Result<(), Memory>
-        ensures { (before : List Use) (m : Entry) (a : About) → IsEntryAsked self.old before m a said.now → ((f : faults.TextFault) → ¬ Has f before m) → IfOk result (λ _. IsWatch self.new (before ++ m.uses)) }
+        ensures { (before : List Use) (m : Entry) (a : About)
+            → IsEntryAsked self.old before m a said.now
+            → ((f : faults.TextFault) → ¬ Has f before m)
+            → IfOk result (λ _. IsWatch self.new (before ++ m.uses)) }
     {
         self.record_end(alloc, said)?;
         self.record_begin(said);
@@ -65,7 +70,12 @@ impl Watch {
 
     /// Records the token as the end of a read, if it is one.
     fn record_end(&mut self, alloc: Global, said: &Said) -> Result<(), Memory>
-        ensures { (before : List Use) (m : Entry) (a : About) → IsEntryAsked self.old before m a said.now → ((f : faults.TextFault) → ¬ Has f before m) → IfOk result (λ _. IsWatch self.new (before ++ when said.now.uses.ends_read (entries.EndsRead a.subject.target a.subject.context a.belief))) }
+        ensures { (before : List Use) (m : Entry) (a : About)
+            → IsEntryAsked self.old before m a said.now
+            → ((f : faults.TextFault) → ¬ Has f before m)
+            → IfOk result (λ _. IsWatch self.new (before
+            ++ when said.now.uses.ends_read (entries.EndsRead a.subject.target a.subject.context
+            a.belief))) }
     {
         if !said.uses.ends_read {
             return Ok(());
@@ -78,7 +88,10 @@ impl Watch {
 
     /// Records the token as the beginning of an item, if it is one.
     fn record_begin(&mut self, said: &Said)
-        ensures { (before : List Use) (n : Name) → IsWatch self.old before → IsNumberOf (names_seen self.old) n said.now.subject.context → HaveNoFault before (when said.now.uses.begins_item (entries.BeginsItem n)) → IsWatch self.new (before ++ when said.now.uses.begins_item (entries.BeginsItem n)) }
+        ensures { (before : List Use) (n : Name) → IsWatch self.old before
+            → IsNumberOf (names_seen self.old) n said.now.subject.context
+            → HaveNoFault before (when said.now.uses.begins_item (entries.BeginsItem n))
+            → IsWatch self.new (before ++ when said.now.uses.begins_item (entries.BeginsItem n)) }
     {
         if said.uses.begins_item {
             self.count_item(said.subject.context);
@@ -87,7 +100,12 @@ impl Watch {
 
     /// Records the role of the token.
     fn record_role(&mut self, alloc: Global, said: &Said) -> Result<(), Memory>
-        ensures { (before : List Use) (a : About) → IsWatch self.old before → IsNumberOf (names_seen self.old) a.subject.context said.now.subject.context → (IsNaming said.now.uses.role → IsTrue (is_name said.now.token.now)) → HaveNoFault before (role_uses a said.now.token.now said.now.uses.role) → IfOk result (λ _. IsWatch self.new (before ++ role_uses a said.now.token.now said.now.uses.role)) }
+        ensures { (before : List Use) (a : About) → IsWatch self.old before
+            → IsNumberOf (names_seen self.old) a.subject.context said.now.subject.context
+            → (IsNaming said.now.uses.role → IsTrue (is_name said.now.token.now))
+            → HaveNoFault before (role_uses a said.now.token.now said.now.uses.role)
+            → IfOk result (λ _. IsWatch self.new (before
+            ++ role_uses a said.now.token.now said.now.uses.role)) }
     {
         match said.uses.role {
             Role::BeginsContext => self.contexts_begun = self.contexts_begun.saturating_add(1),
@@ -105,7 +123,9 @@ impl Watch {
 
     /// Records a context with this name.
     fn name_context(&mut self, alloc: Global, token: &[u8]) -> Result<(), Memory>
-        ensures { (before : List Use) → IsWatch self.old before → IsTrue (is_name token.now) → IsUseAllowed before (entries.NamesContext token.now) → IfOk result (λ _. IsWatch self.new (before ++ entries.NamesContext token.now ∷ [])) }
+        ensures { (before : List Use) → IsWatch self.old before → IsTrue (is_name token.now)
+            → IsUseAllowed before (entries.NamesContext token.now)
+            → IfOk result (λ _. IsWatch self.new (before ++ entries.NamesContext token.now ∷ [])) }
     {
         if let Some(name) = Name::read(alloc, token)? {
             self.contexts.push(fresh(alloc, name))?;
@@ -115,7 +135,9 @@ impl Watch {
 
     /// Records a bridge rule with this name.
     fn name_bridge(&mut self, alloc: Global, token: &[u8]) -> Result<(), Memory>
-        ensures { (before : List Use) → IsWatch self.old before → IsTrue (is_name token.now) → IsUseAllowed before (entries.NamesBridge token.now) → IfOk result (λ _. IsWatch self.new (before ++ entries.NamesBridge token.now ∷ [])) }
+        ensures { (before : List Use) → IsWatch self.old before → IsTrue (is_name token.now)
+            → IsUseAllowed before (entries.NamesBridge token.now)
+            → IfOk result (λ _. IsWatch self.new (before ++ entries.NamesBridge token.now ∷ [])) }
     {
         if let Some(name) = Name::read(alloc, token)? {
             self.bridges.push(name)?;
@@ -125,7 +147,9 @@ impl Watch {
 
     /// Records that the context with this number is a program.
     fn say_program(&mut self, number: usize)
-        ensures { (before : List Use) (n : Name) → IsWatch self.old before → IsNumberOf (names_seen self.old) n number → IsSpokenOf before (entries.SaysProgram n) → IsWatch self.new (before ++ entries.SaysProgram n ∷ []) }
+        ensures { (before : List Use) (n : Name) → IsWatch self.old before
+            → IsNumberOf (names_seen self.old) n number → IsSpokenOf before (entries.SaysProgram n)
+            → IsWatch self.new (before ++ entries.SaysProgram n ∷ []) }
     {
         if let Some(context) = self.contexts.get_mut(number) {
             context.is_program = true;
@@ -134,7 +158,10 @@ impl Watch {
 
     /// Records one more item of the context with this number.
     fn count_item(&mut self, number: usize)
-        ensures { (before : List Use) (n : Name) → IsWatch self.old before → IsNumberOf (names_seen self.old) n number → IsSpokenOf before (entries.BeginsItem n) → IsUseAllowed before (entries.BeginsItem n) → IsWatch self.new (before ++ entries.BeginsItem n ∷ []) }
+        ensures { (before : List Use) (n : Name) → IsWatch self.old before
+            → IsNumberOf (names_seen self.old) n number → IsSpokenOf before (entries.BeginsItem n)
+            → IsUseAllowed before (entries.BeginsItem n)
+            → IsWatch self.new (before ++ entries.BeginsItem n ∷ []) }
     {
         if let Some(context) = self.contexts.get_mut(number) {
             context.items = context.items.saturating_add(1);
@@ -143,7 +170,11 @@ impl Watch {
 
     /// Records one more default of the context with this number.
     fn count_default(&mut self, number: usize)
-        ensures { (before : List Use) (n : Name) → IsWatch self.old before → IsNumberOf (names_seen self.old) n number → IsSpokenOf before (entries.BeginsDefault n) → IsUseAllowed before (entries.BeginsDefault n) → IsWatch self.new (before ++ entries.BeginsDefault n ∷ []) }
+        ensures { (before : List Use) (n : Name) → IsWatch self.old before
+            → IsNumberOf (names_seen self.old) n number
+            → IsSpokenOf before (entries.BeginsDefault n)
+            → IsUseAllowed before (entries.BeginsDefault n)
+            → IsWatch self.new (before ++ entries.BeginsDefault n ∷ []) }
     {
         if let Some(context) = self.contexts.get_mut(number) {
             context.defaults = context.defaults.saturating_add(1);
@@ -152,7 +183,10 @@ impl Watch {
 
     /// Records one more rule into the context with this number.
     fn count_rule(&mut self, number: usize)
-        ensures { (before : List Use) (n : Name) → IsWatch self.old before → IsNumberOf (names_seen self.old) n number → IsUseAllowed before (entries.NamesTarget n) → IsWatch self.new (before ++ entries.NamesTarget n ∷ []) }
+        ensures { (before : List Use) (n : Name) → IsWatch self.old before
+            → IsNumberOf (names_seen self.old) n number
+            → IsUseAllowed before (entries.NamesTarget n)
+            → IsWatch self.new (before ++ entries.NamesTarget n ∷ []) }
     {
         if let Some(context) = self.contexts.get_mut(number) {
             context.rules = context.rules.saturating_add(1);
@@ -161,7 +195,11 @@ impl Watch {
 
     /// Records an atom of the context with this number, unless it is known.
     fn add_atom(&mut self, alloc: Global, number: usize, token: &[u8]) -> Result<(), Memory>
-        ensures { (before : List Use) (n : Name) → IsWatch self.old before → IsNumberOf (names_seen self.old) n number → IsTrue (is_name token.now) → IsSpokenOf before (entries.AtomOf n token.now) → IsUseAllowed before (entries.AtomOf n token.now) → IfOk result (λ _. IsWatch self.new (before ++ entries.AtomOf n token.now ∷ [])) }
+        ensures { (before : List Use) (n : Name) → IsWatch self.old before
+            → IsNumberOf (names_seen self.old) n number → IsTrue (is_name token.now)
+            → IsSpokenOf before (entries.AtomOf n token.now)
+            → IsUseAllowed before (entries.AtomOf n token.now)
+            → IfOk result (λ _. IsWatch self.new (before ++ entries.AtomOf n token.now ∷ [])) }
     {
         let Some(context) = self.contexts.get_mut(number) else {
             return Ok(());
@@ -177,7 +215,13 @@ impl Watch {
 
     /// Records the end of a read, of a rule into the context with number `target`.
     fn record_read(&mut self, alloc: Global, target: usize, read: &NamedRead) -> Result<(), Memory>
-        ensures { (before : List Use) (t : Name) → IsWatch self.old before → IsNumberOf (names_seen self.old) t target → let r = named_read_of read.now in IsSpokenOf before (entries.EndsRead t r.context r.belief) → IsUseAllowed before (entries.EndsRead t r.context r.belief) → IfOk result (λ _. IsWatch self.new (before ++ entries.EndsRead t r.context r.belief ∷ [])) }
+        ensures { (before : List Use) (t : Name) → IsWatch self.old before
+            → IsNumberOf (names_seen self.old) t target
+            → let r = named_read_of read.now in IsSpokenOf before
+            (entries.EndsRead t r.context r.belief)
+            → IsUseAllowed before (entries.EndsRead t r.context r.belief)
+            → IfOk result (λ _. IsWatch self.new (before
+            ++ entries.EndsRead t r.context r.belief ∷ [])) }
     {
         let number = self.hold(alloc, read)?;
         if let Some(context) = self.contexts.get_mut(target) {
@@ -188,7 +232,8 @@ impl Watch {
 
     /// The index of the read among the variables. It is added to them if it is not among them.
     fn hold(&mut self, alloc: Global, read: &NamedRead) -> Result<usize, Memory>
-        ensures held { IfOk result (λ number. IsHeld (map named_read_of self.old.variables.items) (map named_read_of self.new.variables.items) (named_read_of read.now) number) }
+        ensures held { IfOk result (λ number. IsHeld (map named_read_of self.old.variables.items)
+            (map named_read_of self.new.variables.items) (named_read_of read.now) number) }
         ensures rest { self.new ≡ record self.old { variables = self.new.variables } }
     {
         let number = self.variable_number(Some(read));

@@ -1,4 +1,5 @@
-//! The symbol table: what is known of the tokens so far, as far as the faults of the next token depend on it.
+//! The symbol table: what is known of the tokens so far, as far as the faults of the next token
+//! depend on it.
 
 ghost use Rattle.std.specs.Prelude.{◌≡◌, ◌↔◌, List, [], count_by, IfOk, IsTrue};
 ghost use Rattle.std.specs.List.{AllByRecursion};
@@ -9,7 +10,8 @@ ghost use Rattle.mcs_grammar.specs.Entries.{Entry, SaysProgram, Use};
 ghost use Rattle.mcs_grammar.specs.Faults.{begins_default_of, begins_item_of, names_target};
 ghost use Rattle.mcs_reader.specs.TextSteps as written;
 ghost use Rattle.mcs_reader.specs.TextImages.{About, IsAt, subject_at};
-ghost use Rattle.mcs_faults.specs.Watching.{IsNumberOf, IsSaid, IsSpokenOf, IsSubject, IsFaultVerdict, IsWatch, names_seen};
+ghost use Rattle.mcs_faults.specs.Watching.{IsNumberOf, IsSaid, IsSpokenOf, IsSubject};
+ghost use Rattle.mcs_faults.specs.Watching.{IsFaultVerdict, IsWatch, names_seen};
 
 use crate::fault::Fault;
 use mcs_base::{Memory, Vars};
@@ -47,8 +49,8 @@ pub struct Watch {
     pub(crate) bridges_begun: usize,
 }
 
-/// The contexts a token speaks about: the one it is in, or whose belief it is a part of, and, within a read, the target
-/// of its rule. A number past the last context means none.
+/// The contexts a token speaks about: the one it is in, or whose belief it is a part of, and,
+/// within a read, the target of its rule. A number past the last context means none.
 #[derive(Clone, Copy)]
 pub struct Subject {
     pub(crate) context: usize,
@@ -79,10 +81,10 @@ impl Watch {
         }
     }
 
-    /// The lowest fault of the next token. If it has none, the token is recorded. `read` is the read that ends with the
-    /// token, if one does and its name is not too long. If memory runs out, the table can't be used any more: of the
-    /// token's uses, which are its end of a read, its beginning of an item and its role, only the first ones may be
-    /// recorded.
+    /// The lowest fault of the next token. If it has none, the token is recorded. `read` is the
+    /// read that ends with the token, if one does and its name is not too long. If memory runs out,
+    /// the table can't be used any more: of the token's uses, which are its end of a read, its
+    /// beginning of an item and its role, only the first ones may be recorded.
     pub fn note(
         &mut self,
         alloc: Global,
@@ -91,7 +93,11 @@ impl Watch {
         token: &[u8],
         read: Option<&NamedRead>,
     ) -> Result<Option<Fault>, Memory>
-        ensures { (before : List Use) (m : Entry) (a : About) → IsWatch self.old before → m.token ≡ token.now → IsSubject self.old a.subject subject → IsSaid a m uses (option_copied read.entry) → AllByRecursion (IsSpokenOf before) m.uses → IfOk result (λ fault. IsFaultVerdict fault before m self.new) }
+        ensures { (before : List Use) (m : Entry) (a : About) → IsWatch self.old before
+            → m.token ≡ token.now → IsSubject self.old a.subject subject
+            → IsSaid a m uses (option_copied read.entry)
+            → AllByRecursion (IsSpokenOf before) m.uses
+            → IfOk result (λ fault. IsFaultVerdict fault before m self.new) }
     {
         let said = Said {
             subject,
@@ -127,7 +133,9 @@ impl Watch {
 
     /// Whether the context with this number is a program.
     pub(crate) fn is_program(&self, number: usize) -> bool
-        ensures { (before : List Use) (n : Name) → IsWatch self.now before → IsNumberOf (names_seen self.now) n number → IsTrue result ↔ IsAmong (SaysProgram n) before }
+        ensures { (before : List Use) (n : Name) → IsWatch self.now before
+            → IsNumberOf (names_seen self.now) n number
+            → IsTrue result ↔ IsAmong (SaysProgram n) before }
     {
         match self.contexts.get(number) {
             Some(context) => context.is_program,
@@ -137,7 +145,9 @@ impl Watch {
 
     /// How many rules go into the context with this number.
     pub(crate) fn rules_into(&self, number: usize) -> usize
-        ensures { (before : List Use) (n : Name) → IsWatch self.now before → IsNumberOf (names_seen self.now) n number → result ≡ count_by (names_target n) before }
+        ensures { (before : List Use) (n : Name) → IsWatch self.now before
+            → IsNumberOf (names_seen self.now) n number
+            → result ≡ count_by (names_target n) before }
     {
         match self.contexts.get(number) {
             Some(context) => context.rules,
@@ -147,7 +157,9 @@ impl Watch {
 
     /// How many defaults the context with this number has.
     pub(crate) fn defaults_of(&self, number: usize) -> usize
-        ensures { (before : List Use) (n : Name) → IsWatch self.now before → IsNumberOf (names_seen self.now) n number → result ≡ count_by (begins_default_of n) before }
+        ensures { (before : List Use) (n : Name) → IsWatch self.now before
+            → IsNumberOf (names_seen self.now) n number
+            → result ≡ count_by (begins_default_of n) before }
     {
         match self.contexts.get(number) {
             Some(context) => context.defaults,
@@ -157,7 +169,9 @@ impl Watch {
 
     /// How many items the context with this number has.
     pub(crate) fn items_of(&self, number: usize) -> usize
-        ensures { (before : List Use) (n : Name) → IsWatch self.now before → IsNumberOf (names_seen self.now) n number → result ≡ count_by (begins_item_of n) before }
+        ensures { (before : List Use) (n : Name) → IsWatch self.now before
+            → IsNumberOf (names_seen self.now) n number
+            → result ≡ count_by (begins_item_of n) before }
     {
         match self.contexts.get(number) {
             Some(context) => context.items,
@@ -167,7 +181,8 @@ impl Watch {
 
     /// The contexts that the next token speaks about.
     pub fn subject(&self, place: &Place) -> Subject
-        ensures { (q : written.Place) → IsAt place.now q → IsSubject self.now (subject_at q) result }
+        ensures { (q : written.Place) → IsAt place.now q
+            → IsSubject self.now (subject_at q) result }
     {
         Subject {
             context: self.number_of(context_at(place)),

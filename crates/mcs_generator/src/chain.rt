@@ -3,7 +3,8 @@
 ghost use Rattle.std.specs.Prelude.{◌≡◌, ◌≤◌, IfOk, [], ◌∷◌, codes};
 ghost use Rattle.mcs_system.specs.Plain as plain;
 ghost use Rattle.mcs_system.specs.Seen.{formula_of, default_of, rule_of};
-ghost use Rattle.mcs_generator.specs.Generated.{implication, first_formula, link_formula, first_default, rule, first_rule, link_rule};
+ghost use Rattle.mcs_generator.specs.Generated.{implication, first_formula, link_formula};
+ghost use Rattle.mcs_generator.specs.Generated.{first_default, rule, first_rule, link_rule};
 
 use crate::names::{break_name, link_name, rival_name, start_name};
 use mcs_base::Memory;

@@ -2,7 +2,11 @@
 
 ghost use Rattle.std.specs.Prelude.{◌≡◌, ◌<◌, IfOk, OnOk, ◌++◌, map};
 ghost use Rattle.mcs_system.specs.Seen.{context_of, formula_of, item_of, kb_of, rule_of};
-ghost use Rattle.mcs_generator.specs.Generated.{context_count, choice_rules, link_rule, link_formula, link_fact, later_links, forbidding_rules, program_rules, classical_formulas, theory_items, generated_kb, generated_context};
+ghost use Rattle.mcs_generator.specs.Generated.{context_count, choice_rules, link_rule};
+ghost use Rattle.mcs_generator.specs.Generated.{link_formula, link_fact, later_links};
+ghost use Rattle.mcs_generator.specs.Generated.{forbidding_rules, program_rules};
+ghost use Rattle.mcs_generator.specs.Generated.{classical_formulas, theory_items, generated_kb};
+ghost use Rattle.mcs_generator.specs.Generated.{generated_context};
 
 use crate::chain::{
     choice_rule, first_default, first_formula, first_rule, forbidding_rule, link_formula, link_rule,
@@ -15,7 +19,8 @@ use std::alloc::Global;
 
 /// Adds the rule that chooses between x and y, if this is the first context.
 fn add_choice(alloc: Global, context: u32, rules: &mut Vec<ProgRule>) -> Result<(), Memory>
-    ensures { OnOk result (map rule_of rules.new.items ≡ map rule_of rules.old.items ++ choice_rules context) }
+    ensures { OnOk result (map rule_of rules.new.items
+        ≡ map rule_of rules.old.items ++ choice_rules context) }
 {
     if context == 0 {
         rules.push(choice_rule(alloc)?)?;
@@ -25,7 +30,8 @@ fn add_choice(alloc: Global, context: u32, rules: &mut Vec<ProgRule>) -> Result<
 
 /// Adds the links, except the first one, as rules.
 fn add_link_rules(alloc: Global, number: u64, rules: &mut Vec<ProgRule>) -> Result<(), Memory>
-    ensures { OnOk result (map rule_of rules.new.items ≡ map rule_of rules.old.items ++ map link_rule (later_links number)) }
+    ensures { OnOk result (map rule_of rules.new.items
+        ≡ map rule_of rules.old.items ++ map link_rule (later_links number)) }
 {
     for link in 2..chain_length(number) + 1 {
         rules.push(link_rule(alloc, link)?)?;
@@ -33,7 +39,8 @@ fn add_link_rules(alloc: Global, number: u64, rules: &mut Vec<ProgRule>) -> Resu
     Ok(())
 }
 
-/// Adds the rules that forbid x and y, if this is the last context of a system that is meant to be inconsistent.
+/// Adds the rules that forbid x and y, if this is the last context of a system that is meant to be
+/// inconsistent.
 fn add_forbidding(
     alloc: Global,
     number: u64,
@@ -41,7 +48,8 @@ fn add_forbidding(
     rules: &mut Vec<ProgRule>,
 ) -> Result<(), Memory>
     requires { context < context_count number }
-    ensures { OnOk result (map rule_of rules.new.items ≡ map rule_of rules.old.items ++ forbidding_rules number context) }
+    ensures { OnOk result (map rule_of rules.new.items
+        ≡ map rule_of rules.old.items ++ forbidding_rules number context) }
 {
     if is_forbidding(number, context) {
         rules.push(forbidding_rule(alloc, start_name(alloc)?)?)?;
@@ -65,7 +73,8 @@ fn program(alloc: Global, number: u64, context: u32) -> Result<Vec<ProgRule>, Me
 
 /// Adds the links, except the first one, as formulas.
 fn add_link_formulas(alloc: Global, number: u64, formulas: &mut Vec<Formula>) -> Result<(), Memory>
-    ensures { OnOk result (map formula_of formulas.new.items ≡ map formula_of formulas.old.items ++ map link_formula (later_links number)) }
+    ensures { OnOk result (map formula_of formulas.new.items
+        ≡ map formula_of formulas.old.items ++ map link_formula (later_links number)) }
 {
     for link in 2..chain_length(number) + 1 {
         formulas.push(link_formula(alloc, link)?)?;
@@ -85,7 +94,8 @@ fn formulas(alloc: Global, number: u64) -> Result<Vec<Formula>, Memory>
 
 /// Adds the links, except the first one, as facts.
 fn add_link_facts(alloc: Global, number: u64, items: &mut Vec<TheoryItem>) -> Result<(), Memory>
-    ensures { OnOk result (map item_of items.new.items ≡ map item_of items.old.items ++ map link_fact (later_links number)) }
+    ensures { OnOk result (map item_of items.new.items
+        ≡ map item_of items.old.items ++ map link_fact (later_links number)) }
 {
     for link in 2..chain_length(number) + 1 {
         items.push(TheoryItem::Fact(link_formula(alloc, link)?))?;

@@ -1,4 +1,5 @@
-//! A family of systems, one for each number, with growing numbers of contexts and growing lengths of chains.
+//! A family of systems, one for each number, with growing numbers of contexts and growing lengths
+//! of chains.
 #![tactic(auto)]
 
 mod bridges;

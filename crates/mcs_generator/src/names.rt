@@ -65,14 +65,16 @@ pub(crate) fn link_name(alloc: Global, link: u32) -> Result<Name, Memory>
     numbered(alloc, b"a", link)
 }
 
-/// The name of the rule into this context that applies if the end of the chain before it is believed.
+/// The name of the rule into this context that applies if the end of the chain before it is
+/// believed.
 pub(crate) fn reached_name(alloc: Global, context: u32) -> Result<Name, Memory>
     ensures { IfOk result (λ n. n ≡ reached_name context) }
 {
     numbered(alloc, b"s", context)
 }
 
-/// The name of the rule into this context that applies if the end of the chain before it is not believed.
+/// The name of the rule into this context that applies if the end of the chain before it is not
+/// believed.
 pub(crate) fn missed_name(alloc: Global, context: u32) -> Result<Name, Memory>
     ensures { IfOk result (λ n. n ≡ missed_name context) }
 {

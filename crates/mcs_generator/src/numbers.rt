@@ -1,7 +1,8 @@
 //! The shape of a generated system, by its number.
 
 ghost use Rattle.std.specs.Prelude.{◌≡◌, ◌<◌};
-ghost use Rattle.mcs_generator.specs.Generated.{context_count, chain_length, is_forbidding, is_program_at};
+ghost use Rattle.mcs_generator.specs.Generated.{context_count, chain_length, is_forbidding};
+ghost use Rattle.mcs_generator.specs.Generated.{is_program_at};
 
 /// The number of contexts.
 pub(crate) fn context_count(number: u64) -> u32
@@ -17,7 +18,8 @@ pub(crate) fn chain_length(number: u64) -> u32
     1 + (number / 32 % 32) as u32
 }
 
-/// Whether the context forbids what the rules into it add. This is meant to make the system inconsistent.
+/// Whether the context forbids what the rules into it add. This is meant to make the system
+/// inconsistent.
 pub(crate) fn is_forbidding(number: u64, context: u32) -> bool
     requires { context < context_count number }
     ensures { result ≡ is_forbidding number context }

@@ -8,17 +8,21 @@ ghost use Rattle.mcs_base.specs.Words.{keyword_bytes};
 ghost use Rattle.mcs_tokens.specs.Spelling.{sign_bytes};
 ghost use Rattle.mcs_grammar.specs.Written.{Written};
 ghost use Rattle.mcs_grammar.specs.Entries.{formula_in, size_of};
-ghost use Rattle.mcs_grammar.specs.FormulaSteps.{PartFormula, Parenthesis, no_formula, waits, size_so_far, opened_so_far, settle, reduce, finished, finished_primary};
+ghost use Rattle.mcs_grammar.specs.FormulaSteps.{PartFormula, Parenthesis, no_formula, waits};
+ghost use Rattle.mcs_grammar.specs.FormulaSteps.{size_so_far, opened_so_far, settle, reduce};
+ghost use Rattle.mcs_grammar.specs.FormulaSteps.{finished, finished_primary};
 ghost use Rattle.mcs_grammar.specs.FormulaSteps as written;
-ghost use Rattle.mcs_grammar.specs.FormulaImages.{waiting_of, waiting_level, joined_operand, most_counted, AreStacked, AreImages, IsImage, IsReader, IsWaitingMore, IsReaderAnswer};
+ghost use Rattle.mcs_grammar.specs.FormulaImages.{waiting_of, waiting_level, joined_operand};
+ghost use Rattle.mcs_grammar.specs.FormulaImages.{most_counted, AreStacked, AreImages, IsImage};
+ghost use Rattle.mcs_grammar.specs.FormulaImages.{IsReader, IsWaitingMore, IsReaderAnswer};
 
 use mcs_base::Memory;
 use mcs_system::{Formula, Name};
 use mcs_tokens::{Keyword, Sign, TokenKind, kind_of};
 use std::alloc::Global;
 
-/// The levels of precedence of conjunction, disjunction, implication and equivalence, the tightest first. A connective
-/// takes as its left operand what precedes it, up to a level.
+/// The levels of precedence of conjunction, disjunction, implication and equivalence, the tightest
+/// first. A connective takes as its left operand what precedes it, up to a level.
 const CONJUNCTION: u8 = 1;
 
 const DISJUNCTION: u8 = 2;
@@ -27,8 +31,8 @@ const IMPLICATION: u8 = 3;
 
 const EQUIVALENCE: u8 = 4;
 
-/// An entry of the parser's stack, which waits for an operand: `~`, an opened parenthesis, or a connective with its
-/// left operand.
+/// An entry of the parser's stack, which waits for an operand: `~`, an opened parenthesis, or a
+/// connective with its left operand.
 #[derive(Drop)]
 pub enum Pending {
     Tilde,
@@ -64,8 +68,8 @@ pub struct FormulaReader {
 }
 
 impl Pending {
-    /// The level of the formula that the entry forms: 0 for a negation, then conjunction to equivalence. A parenthesis
-    /// has the highest level.
+    /// The level of the formula that the entry forms: 0 for a negation, then conjunction to
+    /// equivalence. A parenthesis has the highest level.
     fn level(&self) -> u8
         ensures { result ≡ waiting_level (waiting_of self.now) }
     {
@@ -81,7 +85,8 @@ impl Pending {
 
     /// The formula that the entry forms with its operand.
     fn join(self, alloc: Global, operand: Formula) -> Result<Formula, Memory>
-        ensures { IfOk result (λ f. formula_of f ≡ joined_operand (waiting_of self) (formula_of operand)) }
+        ensures { IfOk result (λ f. formula_of f
+            ≡ joined_operand (waiting_of self) (formula_of operand)) }
     {
         match self {
             Pending::Parenthesis => Ok(operand),
@@ -119,10 +124,12 @@ fn boxed(
     Ok((left, right))
 }
 
-/// Gives a primary as the operand to the entries on the top of the stack: negations, and then a conjunction if one is
-/// next. Returns the formula that is formed.
+/// Gives a primary as the operand to the entries on the top of the stack: negations, and then a
+/// conjunction if one is next. Returns the formula that is formed.
 fn settle(alloc: Global, pending: &mut Vec<Pending>, primary: Formula) -> Result<Formula, Memory>
-    ensures { (ps : List written.Pending) (w : Written) → AreStacked pending.old.items ps → formula_of primary ≡ formula_in w → IfOk result (λ f. AreImages pending.new.items (Some f) (settle ps w)) }
+    ensures { (ps : List written.Pending) (w : Written) → AreStacked pending.old.items ps
+        → formula_of primary ≡ formula_in w
+        → IfOk result (λ f. AreImages pending.new.items (Some f) (settle ps w)) }
 {
     let mut operand = primary;
     while let Some(last) = pending.pop() {
@@ -139,15 +146,17 @@ fn settle(alloc: Global, pending: &mut Vec<Pending>, primary: Formula) -> Result
     Ok(operand)
 }
 
-/// Gives the operand to the entries on the top of the stack whose level is at most `most`, up to a parenthesis. Returns
-/// the formula that is formed.
+/// Gives the operand to the entries on the top of the stack whose level is at most `most`, up to a
+/// parenthesis. Returns the formula that is formed.
 fn reduce(
     alloc: Global,
     pending: &mut Vec<Pending>,
     most: u8,
     last_operand: Formula,
 ) -> Result<Formula, Memory>
-    ensures { (ps : List written.Pending) (w : Written) → AreStacked pending.old.items ps → formula_of last_operand ≡ formula_in w → IfOk result (λ f. AreImages pending.new.items (Some f) (reduce most ps w)) }
+    ensures { (ps : List written.Pending) (w : Written) → AreStacked pending.old.items ps
+        → formula_of last_operand ≡ formula_in w
+        → IfOk result (λ f. AreImages pending.new.items (Some f) (reduce most ps w)) }
 {
     let mut operand = last_operand;
     while let Some(last) = pending.pop() {
@@ -175,7 +184,8 @@ impl FormulaReader {
 
     /// How many tokens were read that are not parentheses, up to the greatest number.
     pub fn counted(&self) -> usize
-        ensures { (s : PartFormula) → IsReader self.now s → result ≡ min (size_so_far s) most_counted }
+        ensures { (s : PartFormula) → IsReader self.now s
+            → result ≡ min (size_so_far s) most_counted }
     {
         self.counted
     }
@@ -207,7 +217,8 @@ impl FormulaReader {
     /// Opens a parenthesis.
     fn open(&mut self) -> Result<Answer, Memory>
         ensures answer { IfOk result (λ a. a ≡ Answer.Taken) }
-        ensures waits { (s : PartFormula) → IsReader self.old s → self.old.operand ≡ None → IfOk result (λ _. IsReader self.new (waits s.pending Parenthesis)) }
+        ensures waits { (s : PartFormula) → IsReader self.old s → self.old.operand ≡ None
+            → IfOk result (λ _. IsReader self.new (waits s.pending Parenthesis)) }
     {
         self.pending.push(Pending::Parenthesis)?;
         self.opened = self.opened.saturating_add(1);
@@ -217,8 +228,11 @@ impl FormulaReader {
     /// Takes a primary as the operand of the entries that it completes.
     fn hold(&mut self, alloc: Global, primary: Formula) -> Result<Answer, Memory>
         ensures answer { IfOk result (λ a. a ≡ Answer.Taken) }
-        ensures images { (ps : List written.Pending) (w : Written) → AreStacked self.old.pending.items ps → formula_of primary ≡ formula_in w → IfOk result (λ _. AreImages self.new.pending.items self.new.operand (settle ps w)) }
-        ensures counts { IfOk result (λ _. (self.new.counted ≡ self.old.counted) × (self.new.opened ≡ self.old.opened)) }
+        ensures images { (ps : List written.Pending) (w : Written)
+            → AreStacked self.old.pending.items ps → formula_of primary ≡ formula_in w
+            → IfOk result (λ _. AreImages self.new.pending.items self.new.operand (settle ps w)) }
+        ensures counts { IfOk result (λ _. (self.new.counted ≡ self.old.counted)
+            × (self.new.opened ≡ self.old.opened)) }
     {
         self.operand = Some(settle(alloc, &mut self.pending, primary)?);
         Ok(Answer::Taken)
@@ -227,7 +241,9 @@ impl FormulaReader {
     /// Takes a primary of one token.
     fn take_primary(&mut self, alloc: Global, primary: Formula) -> Result<Answer, Memory>
         ensures answer { IfOk result (λ a. a ≡ Answer.Taken) }
-        ensures reader { (s : PartFormula) (w : Written) → IsReader self.old s → self.old.operand ≡ None → formula_of primary ≡ formula_in w → size_of w ≡ 1 → IfOk result (λ _. IsReader self.new (settle s.pending w)) }
+        ensures reader { (s : PartFormula) (w : Written) → IsReader self.old s
+            → self.old.operand ≡ None → formula_of primary ≡ formula_in w → size_of w ≡ 1
+            → IfOk result (λ _. IsReader self.new (settle s.pending w)) }
     {
         self.counted = self.counted.saturating_add(1);
         self.hold(alloc, primary)
@@ -236,7 +252,8 @@ impl FormulaReader {
     /// Takes a sign where an operand is expected.
     fn take_opening(&mut self, sign: Sign) -> Result<Answer, Memory>
         requires { self.old.operand ≡ None }
-        ensures { (s : PartFormula) → IsReader self.old s → IfOk result (λ a. IsReaderAnswer a self.old self.new s (sign_bytes sign)) }
+        ensures { (s : PartFormula) → IsReader self.old s
+            → IfOk result (λ a. IsReaderAnswer a self.old self.new s (sign_bytes sign)) }
     {
         match sign {
             Sign::Tilde => self.wait(Pending::Tilde),
@@ -248,7 +265,8 @@ impl FormulaReader {
     /// Takes a reserved word where an operand is expected.
     fn take_truth(&mut self, alloc: Global, keyword: Keyword) -> Result<Answer, Memory>
         requires { self.old.operand ≡ None }
-        ensures { (s : PartFormula) → IsReader self.old s → IfOk result (λ a. IsReaderAnswer a self.old self.new s (keyword_bytes keyword)) }
+        ensures { (s : PartFormula) → IsReader self.old s
+            → IfOk result (λ a. IsReaderAnswer a self.old self.new s (keyword_bytes keyword)) }
     {
         match keyword {
             Keyword::True => self.take_primary(alloc, Formula::True),
@@ -261,7 +279,8 @@ impl FormulaReader {
     fn take_name(&mut self, alloc: Global, token: &[u8]) -> Result<Answer, Memory>
         requires none { self.old.operand ≡ None }
         requires name { IsTrue (is_name token.now) }
-        ensures { (s : PartFormula) → IsReader self.old s → IfOk result (λ a. IsReaderAnswer a self.old self.new s token.now) }
+        ensures { (s : PartFormula) → IsReader self.old s
+            → IfOk result (λ a. IsReaderAnswer a self.old self.new s token.now) }
     {
         match Name::read(alloc, token)? {
             Some(name) => self.take_primary(alloc, Formula::Atom(name)),
@@ -278,7 +297,8 @@ impl FormulaReader {
     ) -> Result<Answer, Memory>
         requires none { self.old.operand ≡ None }
         requires kind { IsKind kind token.now }
-        ensures { (s : PartFormula) → IsReader self.old s → IfOk result (λ a. IsReaderAnswer a self.old self.new s token.now) }
+        ensures { (s : PartFormula) → IsReader self.old s
+            → IfOk result (λ a. IsReaderAnswer a self.old self.new s token.now) }
     {
         match kind {
             TokenKind::Sign(sign) => self.take_opening(sign),
@@ -301,7 +321,9 @@ impl FormulaReader {
     /// Closes the innermost parenthesis, if one is open.
     fn close(&mut self, alloc: Global, operand: Formula) -> Result<Answer, Memory>
         requires { self.old.operand ≡ None }
-        ensures { (s : PartFormula) → IsReader (record self.old { operand = Some operand }) s → IfOk result (λ a. IsReaderAnswer a (record self.old { operand = Some operand }) self.new s (sign_bytes Sign.CloseParenthesis)) }
+        ensures { (s : PartFormula) → IsReader (record self.old { operand = Some operand }) s
+            → IfOk result (λ a. IsReaderAnswer a (record self.old { operand = Some operand })
+            self.new s (sign_bytes Sign.CloseParenthesis)) }
     {
         if self.opened == 0 {
             return Ok(self.refuse(operand));
@@ -315,7 +337,9 @@ impl FormulaReader {
     /// Takes a sign after an operand.
     fn take_sign(&mut self, alloc: Global, sign: Sign, operand: Formula) -> Result<Answer, Memory>
         requires { self.old.operand ≡ None }
-        ensures { (s : PartFormula) → IsReader (record self.old { operand = Some operand }) s → IfOk result (λ a. IsReaderAnswer a (record self.old { operand = Some operand }) self.new s (sign_bytes sign)) }
+        ensures { (s : PartFormula) → IsReader (record self.old { operand = Some operand }) s
+            → IfOk result (λ a. IsReaderAnswer a (record self.old { operand = Some operand })
+            self.new s (sign_bytes sign)) }
     {
         match sign {
             Sign::Ampersand => {
@@ -339,10 +363,12 @@ impl FormulaReader {
         }
     }
 
-    /// Takes the next token, if the formula can continue with it; otherwise nothing changes. If memory runs out, the
-    /// parser can't be used any more: the operand that it held is let go, with the parts that it completes.
+    /// Takes the next token, if the formula can continue with it; otherwise nothing changes. If
+    /// memory runs out, the parser can't be used any more: the operand that it held is let go, with
+    /// the parts that it completes.
     pub fn take(&mut self, alloc: Global, token: &[u8]) -> Result<Answer, Memory>
-        ensures { (s : PartFormula) → IsReader self.old s → IfOk result (λ a. IsReaderAnswer a self.old self.new s token.now) }
+        ensures { (s : PartFormula) → IsReader self.old s
+            → IfOk result (λ a. IsReaderAnswer a self.old self.new s token.now) }
     {
         let kind = kind_of(token);
         match self.operand.take() {

@@ -7,7 +7,8 @@ use mcs_ports::{FileShelf, ReadAnswer, Shelf};
 use std::alloc::Global;
 use std::fs;
 
-/// Whether the shelf has a file `pattern` of these 5000 bytes and no file `missing`, and a directory is no file.
+/// Whether the shelf has a file `pattern` of these 5000 bytes and no file `missing`, and a
+/// directory is no file.
 fn are_files<H: Shelf>(shelf: &mut H, alloc: Global, bytes: &[u8]) -> bool {
     shelf.read(&mut [0; 8]) == Ok(0)
         && is_read(shelf, alloc, "pattern", 5000, bytes)

@@ -2,8 +2,9 @@
 
 use mcs_base::{Active, Marks, Vars, pair_before, state_before};
 
-/// Whether each call of one kind of sets, whose greatest number is `$top`, answers rightly: of each set how many
-/// numbers it has, its first one, and whether it meets the set of the greatest number and lies within it.
+/// Whether each call of one kind of sets, whose greatest number is `$top`, answers rightly: of each
+/// set how many numbers it has, its first one, and whether it meets the set of the greatest number
+/// and lies within it.
 macro_rules! are_right {
     ($Set:ident, $top:literal) => {{
         let (low, high) = ($Set::one(0), $Set::one($top));

@@ -5,7 +5,8 @@ use mcs_base::Memory;
 use mcs_ports::{MemorySink, Sink};
 use std::alloc::Global;
 
-/// Whether the first of these 300 bytes are kept, where 200 of them are noted, and then the rest twice.
+/// Whether the first of these 300 bytes are kept, where 200 of them are noted, and then the rest
+/// twice.
 fn are_kept(alloc: Global, notes: &[u8]) -> Result<bool, Memory> {
     if notes.len() != 300 {
         return Ok(false);

@@ -11,8 +11,8 @@ fn standard_output_takes_a_piece(rt: HostRuntime) {
     IdleGate.before(3);
 }
 
-/// Whether, of devices over these, the output takes four bytes and then nothing more, which is counted as a fault; a
-/// note goes to the other.
+/// Whether, of devices over these, the output takes four bytes and then nothing more, which is
+/// counted as a fault; a note goes to the other.
 fn are_full_at_four(space: &mut [u8], line: &mut [u8]) -> bool {
     let mut full = StdSink::new(Cursor::new(space), Cursor::new(line));
     let taken = [full.write(b"abcdef"), full.write(b"ef"), full.write(b"")];

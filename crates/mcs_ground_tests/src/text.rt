@@ -2,7 +2,8 @@
 
 use mcs_base::{Memory, Text};
 
-/// Whether words and numbers that are added to the empty text are in decimal digits, also after it was made empty.
+/// Whether words and numbers that are added to the empty text are in decimal digits, also after it
+/// was made empty.
 fn is_decimal(text: &mut Text) -> Result<bool, Memory> {
     text.push(b"n = ")?;
     text.push_number(1204)?;

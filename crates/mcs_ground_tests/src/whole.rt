@@ -83,7 +83,8 @@ fn is_closed(alloc: Global) -> Result<bool, Memory> {
     Ok(shelf.open("f").is_err() && shelf.read(&mut [0; 8]) == Ok(0))
 }
 
-/// Whether a file of 5000 bytes is read where no call but the fifth fails, and then one that is not there is not.
+/// Whether a file of 5000 bytes is read where no call but the fifth fails, and then one that is not
+/// there is not.
 fn is_read_in_four_calls(alloc: Global) -> Result<bool, Memory> {
     let bytes = pattern(alloc, 5000)?;
     let mut shelf = shelf_of(alloc, 5000, 5)?;
@@ -108,14 +109,16 @@ fn sink_of(alloc: Global, room: usize, failing: u64) -> Result<MemorySink, Memor
     MemorySink::new(alloc, [failing].to_vec(alloc)?, 1, room)
 }
 
-/// Whether a piece is not written whole in this room where this write fails, and this stands there then.
+/// Whether a piece is not written whole in this room where this write fails, and this stands there
+/// then.
 fn fails_after(alloc: Global, room: usize, failing: u64, written: &str) -> Result<bool, Memory> {
     let mut sink = sink_of(alloc, room, failing)?;
     let failed = write_whole(&mut sink, b"abc").is_err();
     Ok(failed && sink.written() == written.as_bytes())
 }
 
-/// Whether a piece and then an empty one are written whole in the room of the piece, the fourth write failing.
+/// Whether a piece and then an empty one are written whole in the room of the piece, the fourth
+/// write failing.
 fn is_written(alloc: Global) -> Result<bool, Memory> {
     let mut sink = sink_of(alloc, 3, 4)?;
     let is_whole = write_whole(&mut sink, b"abc").is_ok();

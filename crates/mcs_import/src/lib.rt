@@ -1,4 +1,5 @@
-//! Which contexts a context imports, in which order contexts are asked, and what each of them is asked.
+//! Which contexts a context imports, in which order contexts are asked, and what each of them is
+//! asked.
 #![tactic(auto, using(mcs_sets::proofs::SetLemmas::sets_fit))]
 
 mod context_set;

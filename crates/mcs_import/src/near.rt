@@ -21,7 +21,8 @@ fn is_listed(sets: &[Active], set: Active) -> bool
 fn add_new(found: &mut Vec<Active>, set: Active, reached: &[Active]) -> Result<(), Memory>
     requires { IsAscending (λ (a b : ℕ). a < b) reached.now }
     ensures { IfOk result (λ _. (x : ℕ)
-        → IsAmong x found.new.items ↔ (IsAmong x found.old.items ⊎ ((x ≡ set) × (¬ IsAmong x reached.now)))) }
+        → IsAmong x found.new.items
+        ↔ (IsAmong x found.old.items ⊎ ((x ≡ set) × (¬ IsAmong x reached.now)))) }
 {
     if !is_listed(reached, set) {
         found.push(set)?;
@@ -38,7 +39,8 @@ fn add_without(
 ) -> Result<(), Memory>
     requires { IsAscending (λ (a b : ℕ). a < b) reached.now }
     ensures { IfOk result (λ _. (x : ℕ) → IsAmong x found.new.items
-        ↔ (IsAmong x found.old.items ⊎ (IsMadeBy (λ r. minus set (single r)) rules x × (¬ IsAmong x reached.now)))) }
+        ↔ (IsAmong x found.old.items
+        ⊎ (IsMadeBy (λ r. minus set (single r)) rules x × (¬ IsAmong x reached.now)))) }
 {
     for rule in rules.members() {
         add_new(found, set.without(rule), reached)?;
@@ -55,7 +57,8 @@ fn add_with(
 ) -> Result<(), Memory>
     requires { IsAscending (λ (a b : ℕ). a < b) reached.now }
     ensures { IfOk result (λ _. (x : ℕ) → IsAmong x found.new.items
-        ↔ (IsAmong x found.old.items ⊎ (IsMadeBy (λ r. union set (single r)) rules x × (¬ IsAmong x reached.now)))) }
+        ↔ (IsAmong x found.old.items
+        ⊎ (IsMadeBy (λ r. union set (single r)) rules x × (¬ IsAmong x reached.now)))) }
 {
     for rule in rules.members() {
         add_new(found, set.with(rule), reached)?;
@@ -92,9 +95,10 @@ fn are_all(count: usize, rules: Active) -> bool
     rules < 32 && 1 << rules <= count as u64
 }
 
-/// The sets that at most `level` changes make of one of the sets: each once, ascending as numbers. A change removes one
-/// of the removable rules, or forces one of the forcible ones. Only the sets that the last change reached are changed
-/// again, and none once all sets of the rules were reached.
+/// The sets that at most `level` changes make of one of the sets: each once, ascending as numbers.
+/// A change removes one of the removable rules, or forces one of the forcible ones. Only the sets
+/// that the last change reached are changed again, and none once all sets of the rules were
+/// reached.
 pub(crate) fn near_sets(
     alloc: Global,
     rules: Active,

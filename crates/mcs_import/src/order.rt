@@ -11,8 +11,8 @@ use mcs_base::Memory;
 use mcs_system::System;
 use std::alloc::Global;
 
-/// The lowest-numbered context of the set for which none of those ahead of it are in the set. `ahead` has to be a
-/// strict order, so there is such a context if the set is not empty.
+/// The lowest-numbered context of the set for which none of those ahead of it are in the set.
+/// `ahead` has to be a strict order, so there is such a context if the set is not empty.
 fn first_free(ahead: &[ContextSet], set: ContextSet) -> Option<u32>
     requires few { length ahead.now ≤ 64 }
     requires strict { AreStrict ahead.now }
@@ -40,8 +40,8 @@ fn all_contexts(system: &System) -> ContextSet
     set
 }
 
-/// The import order of the system. The next context is always the lowest-numbered remaining one such that each
-/// remaining context that it reaches through imports reaches it too.
+/// The import order of the system. The next context is always the lowest-numbered remaining one
+/// such that each remaining context that it reaches through imports reaches it too.
 pub(crate) fn import_order(alloc: Global, system: &System) -> Result<Vec<u32>, Memory>
     ensures { IfOk result (λ order. IsImportOrder system.now order.items) }
 {

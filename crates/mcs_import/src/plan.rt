@@ -13,8 +13,8 @@ use std::alloc::Global;
 use std::marker::Model;
 use std::sync::Arc;
 
-/// The import order of a system, and for each context what supplies it and what it guesses. The model of a plan is its
-/// system, so two plans are equal if their systems are.
+/// The import order of a system, and for each context what supplies it and what it guesses. The
+/// model of a plan is its system, so two plans are equal if their systems are.
 #[derive(Drop)]
 pub struct Plan {
     system: Arc<System>,
@@ -65,8 +65,8 @@ impl Plan {
         &self.system
     }
 
-    /// All contexts in the import order. The next context is always the lowest-numbered remaining one such that each
-    /// remaining context that it reaches through imports reaches it too.
+    /// All contexts in the import order. The next context is always the lowest-numbered remaining
+    /// one such that each remaining context that it reaches through imports reaches it too.
     pub fn order(&self) -> &[u32]
         ensures order { IsImportOrder self.now result.now }
         ensures one_each { length result.now ≡ length self.now.contexts }
@@ -78,26 +78,29 @@ impl Plan {
     /// What the plan keeps for a context of the system.
     fn share(&self, i: u32) -> &Share
         requires { i < length self.now.contexts }
-        ensures { (order : List ℕ) → IsImportOrder self.now order → part_of result.now ≡ part self.now order i }
+        ensures { (order : List ℕ) → IsImportOrder self.now order
+            → part_of result.now ≡ part self.now order i }
     {
         &self.shares[i as usize]
     }
 
-    /// The contexts that supply context `i` of the system: those that it imports and that come before it, in the import
-    /// order.
+    /// The contexts that supply context `i` of the system: those that it imports and that come
+    /// before it, in the import order.
     pub fn supplied(&self, i: u32) -> &[u32]
         requires { i < length self.now.contexts }
-        ensures supplied { (order : List ℕ) → IsImportOrder self.now order → result.now ≡ supplied self.now order i }
+        ensures supplied { (order : List ℕ) → IsImportOrder self.now order
+            → result.now ≡ supplied self.now order i }
         ensures in_range { All (λ j. j < length self.now.contexts) result.now }
     {
         &self.share(i).supplied
     }
 
-    /// The inputs that context `i` of the system guesses: the variables that rules into it read and that belong to no
-    /// context that supplies it, but to later contexts or to `i` itself.
+    /// The inputs that context `i` of the system guesses: the variables that rules into it read and
+    /// that belong to no context that supplies it, but to later contexts or to `i` itself.
     pub fn guessed(&self, i: u32) -> Vars
         requires { i < length self.now.contexts }
-        ensures { (order : List ℕ) → IsImportOrder self.now order → result ≡ guessed self.now order i }
+        ensures { (order : List ℕ) → IsImportOrder self.now order
+            → result ≡ guessed self.now order i }
     {
         self.share(i).guessed
     }

@@ -16,7 +16,8 @@ use mcs_base::{Active, Memory, Pair, Vars, list_rule_sets};
 use mcs_system::System;
 use std::alloc::Global;
 
-/// The sets of rules into context `i` of the system that apply in one of the states: each once, ascending as numbers.
+/// The sets of rules into context `i` of the system that apply in one of the states: each once,
+/// ascending as numbers.
 fn applicable_sets(
     alloc: Global,
     system: &System,
@@ -25,7 +26,8 @@ fn applicable_sets(
 ) -> Result<Vec<Active>, Memory>
     requires { i < length system.now.contexts }
     ensures { IfOk result (λ sets. IsListing
-        (λ a. IsAmong a (map (λ σ. common (applicable system.now σ) (rules_into system.now i)) states.now))
+        (λ a. IsAmong a (map (λ σ. common (applicable system.now σ) (rules_into system.now i))
+        states.now))
         (λ a b. a < b) sets.items) }
 {
     let mut sets = Vec::new(alloc);
@@ -36,9 +38,10 @@ fn applicable_sets(
     Ok(sets)
 }
 
-/// The sets of rules into context `i` of the system that at most `level` changes make of those that apply in some
-/// state: each once, ascending as numbers. The state is the union of one state of each supply and of some of the
-/// guesses at the inputs of `i`. A change removes a rule that is not kept, or forces one that is not closed.
+/// The sets of rules into context `i` of the system that at most `level` changes make of those that
+/// apply in some state: each once, ascending as numbers. The state is the union of one state of
+/// each supply and of some of the guesses at the inputs of `i`. A change removes a rule that is not
+/// kept, or forces one that is not closed.
 pub fn asked(
     alloc: Global,
     system: &System,
@@ -49,7 +52,8 @@ pub fn asked(
 ) -> Result<Vec<Active>, Memory>
     requires { i < length system.now.contexts }
     ensures { IfOk result (λ sets.
-        IsListing (IsAskedInState system.now i (map (λ supply. supply.items) supplies.now) guesses level) (λ a b. a < b) sets.items) }
+        IsListing (IsAskedInState system.now i (map (λ supply. supply.items) supplies.now) guesses
+        level) (λ a b. a < b) sets.items) }
 {
     let joined = supplied_states(alloc, supplies, system.inputs_of(i))?;
     let states = guessed_states(joined, guesses)?;
@@ -65,12 +69,14 @@ pub fn asked(
     )
 }
 
-/// The questions of the level to context `i` of the plan's system: the sets of rules into it that at most `level`
-/// changes make of those that apply in some state. Each question is there once, ascending as numbers.
+/// The questions of the level to context `i` of the plan's system: the sets of rules into it that
+/// at most `level` changes make of those that apply in some state. Each question is there once,
+/// ascending as numbers.
 ///
-/// A change removes a rule that is not kept, or forces one that is not closed. On each context that supplies `i` the
-/// state is one of its supplies; on all others, also on `i` itself, it is free. `supplies` has to be what the contexts
-/// of `plan.supplied(i)` may supply at this level, in this order, each list in the order of states.
+/// A change removes a rule that is not kept, or forces one that is not closed. On each context that
+/// supplies `i` the state is one of its supplies; on all others, also on `i` itself, it is free.
+/// `supplies` has to be what the contexts of `plan.supplied(i)` may supply at this level, in this
+/// order, each list in the order of states.
 pub fn questions(
     alloc: Global,
     plan: &Plan,
@@ -80,8 +86,10 @@ pub fn questions(
 ) -> Result<Vec<Active>, Memory>
     requires in_range { i < length plan.now.contexts }
     requires supplied { (order : List ℕ) → IsImportOrder plan.now order
-        → AreSupplies plan.now level (supplied plan.now order i) (map (λ supply. supply.items) supplies.now) }
-    ensures { IfOk result (λ sets. IsListing (IsQuestionAt plan.now level i) (λ a b. a < b) sets.items) }
+        → AreSupplies plan.now level (supplied plan.now order i)
+        (map (λ supply. supply.items) supplies.now) }
+    ensures { IfOk result (λ sets. IsListing (IsQuestionAt plan.now level i)
+        (λ a b. a < b) sets.items) }
 {
     asked(alloc, plan.system(), i, supplies, plan.guessed(i), level)
 }

@@ -4,7 +4,8 @@ ghost use Rattle.std.specs.Prelude.{◌≡◌, ◌<◌, ◌≤◌, length, map, 
 ghost use Rattle.std.specs.List.{range_with_len};
 ghost use Rattle.mcs_system.specs.Faults.{IsValid};
 ghost use Rattle.mcs_system.specs.Imports.{imports};
-ghost use Rattle.mcs_import.specs.Reach.{through, rows_through, import_row, ahead_row, AreReached, AreAhead};
+ghost use Rattle.mcs_import.specs.Reach.{through, rows_through, import_row, ahead_row, AreReached};
+ghost use Rattle.mcs_import.specs.Reach.{AreAhead};
 
 use crate::context_set::ContextSet;
 use mcs_base::Memory;
@@ -37,7 +38,8 @@ fn imported_by(system: &System, i: u32) -> ContextSet
 
 /// For each context the contexts that it imports.
 fn import_rows(alloc: Global, system: &System) -> Result<Vec<ContextSet>, Memory>
-    ensures { IfOk result (λ rows. rows.items ≡ map (import_row system.now) (range_with_len 0 (length system.now.contexts))) }
+    ensures { IfOk result (λ rows. rows.items
+        ≡ map (import_row system.now) (range_with_len 0 (length system.now.contexts))) }
 {
     let mut rows = Vec::new(alloc);
     for i in 0..system.contexts().len() as u32 {

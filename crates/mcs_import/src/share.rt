@@ -9,8 +9,8 @@ use mcs_base::{Memory, Vars};
 use mcs_system::System;
 use std::alloc::Global;
 
-/// What a plan keeps for a context: the contexts that supply it, in the import order, and its inputs that belong to
-/// none of these.
+/// What a plan keeps for a context: the contexts that supply it, in the import order, and its
+/// inputs that belong to none of these.
 #[derive(Drop)]
 pub(crate) struct Share {
     pub supplied: Vec<u32>,

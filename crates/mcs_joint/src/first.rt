@@ -1,4 +1,5 @@
-//! The first equilibrium of a system that a pair changes, of the tables of all contexts, without a list of all.
+//! The first equilibrium of a system that a pair changes, of the tables of all contexts, without a
+//! list of all.
 
 ghost use Rattle.std.specs.Prelude.{◌≡◌, ◌≤◌, ◌<◌, ◌↔◌, ℕ, List, map, IfOk, IfSome, IsTrue};
 ghost use Rattle.std.specs.List.{AllByRecursion, AllZip};
@@ -12,7 +13,8 @@ ghost use Rattle.mcs_table.specs.Joins.{IsJointRow};
 ghost use Rattle.mcs_table.specs.Tables.{IsTable};
 ghost use Rattle.mcs_rows.specs.Changed.{AreChangedAt};
 ghost use Rattle.mcs_joint.specs.Apart.{EachApart};
-ghost use Rattle.mcs_joint.specs.First.{TellsFirst, IsJointState, HaveJointRow, valued, IsNarrowed, IsVariableSettled};
+ghost use Rattle.mcs_joint.specs.First.{TellsFirst, IsJointState, HaveJointRow, valued, IsNarrowed};
+ghost use Rattle.mcs_joint.specs.First.{IsVariableSettled};
 
 use crate::order::scopes;
 use crate::reduce::reduced;
@@ -26,9 +28,9 @@ use std::alloc::Global;
 /// So many unions of rows with those of a table are made at most to take the least of them.
 const MOST_UNIONS: usize = 4096;
 
-/// The first of the projected equilibria of the plan's system that the pair changes; `None` exactly where there is
-/// none. The pair and the tables are as for `states_in`. Where there are many states they are not listed: the
-/// variables are settled one after the other.
+/// The first of the projected equilibria of the plan's system that the pair changes; `None` exactly
+/// where there is none. The pair and the tables are as for `states_in`. Where there are many states
+/// they are not listed: the variables are settled one after the other.
 pub fn first_state_in(
     alloc: Global,
     plan: &Plan,
@@ -37,7 +39,8 @@ pub fn first_state_in(
 ) -> Result<Option<Vars>, Memory>
     requires allowed { Within pair (allowed_marks plan.now) }
     requires tables { (k : ℕ) × (size pair ≤ k) × AreChangedAt plan.now k pair tables.items }
-    ensures { IfOk result (TellsFirst (IsProjectedEquilibrium plan.now (minus (all_rules plan.now) (removed_of pair)) (forced_of pair))) }
+    ensures { IfOk result (TellsFirst (IsProjectedEquilibrium plan.now
+        (minus (all_rules plan.now) (removed_of pair)) (forced_of pair))) }
 {
     let level = pair.marks().count();
     let _bridges = plan.system().bridges();
@@ -59,12 +62,13 @@ fn first_joint(alloc: Global, tables: Vec<Table>, level: u32) -> Result<Option<V
     Ok(first)
 }
 
-/// The states of the unions of one row of each of the tables that fit all together, one for each union, in no order;
-/// `None` where more unions than `MOST_UNIONS` may come about with some table.
+/// The states of the unions of one row of each of the tables that fit all together, one for each
+/// union, in no order; `None` where more unions than `MOST_UNIONS` may come about with some table.
 fn few_states(alloc: Global, tables: &[Table], level: u32) -> Result<Option<Vec<Vars>>, Memory>
     requires tables { AllByRecursion IsTable tables.now }
     requires apart { EachApart tables.now }
-    ensures { IfOk result (λ found. IfSome found (λ states. (all : List declared.Row) × ((r : declared.Row) → IsAmong r all ↔ IsJointRow level tables.now r)
+    ensures { IfOk result (λ found. IfSome found (λ states. (all : List declared.Row)
+        × ((r : declared.Row) → IsAmong r all ↔ IsJointRow level tables.now r)
         × (states.items ≡ map (λ (r : declared.Row). r.state.values) all))) }
 {
     let unit = Table::unit(alloc)?;
@@ -94,8 +98,8 @@ fn least_of(states: &[Vars]) -> Option<Vars>
     Some(least)
 }
 
-/// The first of the states of the joint rows of the tables, by settling one variable after the other; `None` exactly
-/// where they have no joint row.
+/// The first of the states of the joint rows of the tables, by settling one variable after the
+/// other; `None` exactly where they have no joint row.
 fn settled_state(alloc: Global, tables: Vec<Table>, level: u32) -> Result<Option<Vars>, Memory>
     requires tables { AllByRecursion IsTable tables.items }
     requires apart { EachApart tables.items }
@@ -115,13 +119,14 @@ fn settled_state(alloc: Global, tables: Vec<Table>, level: u32) -> Result<Option
     Ok(Some(first))
 }
 
-/// Leaves the rows in which the variable is true, where the tables then still have a joint row; else those in which it
-/// is false. Whether it is true in what is left.
+/// Leaves the rows in which the variable is true, where the tables then still have a joint row;
+/// else those in which it is false. Whether it is true in what is left.
 fn settle(alloc: Global, tables: &mut Vec<Table>, variable: u32, level: u32) -> Result<bool, Memory>
     requires few { variable < 64 }
     requires tables { AllByRecursion IsTable tables.old.items }
     requires apart { EachApart tables.old.items }
-    ensures { IfOk result (λ holds. IsVariableSettled level variable holds tables.old.items tables.new.items) }
+    ensures { IfOk result (λ holds. IsVariableSettled level variable holds tables.old.items
+        tables.new.items) }
 {
     if !scopes(tables).has(variable) {
         return Ok(false);
@@ -153,7 +158,8 @@ fn narrowed(
     value: bool,
 ) -> Result<Vec<Table>, Memory>
     requires few { variable < 64 }
-    ensures { IfOk result (λ all. AllZip (IsNarrowed (valued variable value)) tables.now all.items) }
+    ensures { IfOk result (λ all. AllZip (IsNarrowed (valued variable value)) tables.now
+        all.items) }
 {
     let settled = one_value(variable, value);
     let mut all = Vec::new(alloc);

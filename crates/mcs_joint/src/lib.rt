@@ -1,5 +1,5 @@
-//! What the tables of all contexts say together: the minimal diagnoses with few marks, and the equilibria of a
-//! system that a pair changes, all of them or the first.
+//! What the tables of all contexts say together: the minimal diagnoses with few marks, and the
+//! equilibria of a system that a pair changes, all of them or the first.
 #![tactic(auto)]
 
 mod first;

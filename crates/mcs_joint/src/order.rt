@@ -21,8 +21,8 @@ pub(crate) fn scopes(tables: &[Table]) -> Vars
     all
 }
 
-/// Whether the first table is to be joined before the second, after tables of these variables: it shares
-/// variables with them and the second does not, or else it has fewer rows.
+/// Whether the first table is to be joined before the second, after tables of these variables: it
+/// shares variables with them and the second does not, or else it has fewer rows.
 fn is_sooner(a: &Table, b: &Table, seen: Vars) -> bool {
     (!a.scope().meets(seen), a.rows().len()) < (!b.scope().meets(seen), b.rows().len())
 }
@@ -51,9 +51,10 @@ fn move_up(tables: &mut [Table], to: usize, from: usize)
     }
 }
 
-/// Puts the tables in the order in which they are joined: next comes always one that shares variables with
-/// those before it, where there is one, of these one with the fewest rows, and of these the first. So states
-/// that no table tells apart come of the joins in their order, as far as the tables stand in theirs.
+/// Puts the tables in the order in which they are joined: next comes always one that shares
+/// variables with those before it, where there is one, of these one with the fewest rows, and of
+/// these the first. So states that no table tells apart come of the joins in their order, as far as
+/// the tables stand in theirs.
 pub(crate) fn put_in_order(tables: &mut [Table])
     ensures { IsPermutation tables.old tables.new }
 {

@@ -9,10 +9,10 @@ use mcs_base::Memory;
 use mcs_table::{Table, semi_join};
 use std::alloc::Global;
 
-/// The tables in the order in which they are joined, without rows that fit no row of another table with which
-/// theirs shares variables. They have the same joint rows. Each round takes away what the rounds before have
-/// left without a partner; where the tables are shaped as a tree, the rows that are left are those of joint
-/// rows, as far as states go.
+/// The tables in the order in which they are joined, without rows that fit no row of another table
+/// with which theirs shares variables. They have the same joint rows. Each round takes away what
+/// the rounds before have left without a partner; where the tables are shaped as a tree, the rows
+/// that are left are those of joint rows, as far as states go.
 pub(crate) fn reduced(alloc: Global, tables: Vec<Table>, level: u32) -> Result<Vec<Table>, Memory>
     requires { EachApart tables.items }
     ensures { IfOk result (λ fewer. IsReduced level tables.items fewer.items) }
@@ -27,8 +27,8 @@ pub(crate) fn reduced(alloc: Global, tables: Vec<Table>, level: u32) -> Result<V
     Ok(tables)
 }
 
-/// Takes away, of each table in turn, the rows without a partner in another one, and where some went, again in the
-/// other direction. Whether some went in the end.
+/// Takes away, of each table in turn, the rows without a partner in another one, and where some
+/// went, again in the other direction. Whether some went in the end.
 fn reduce_each(alloc: Global, tables: &mut Vec<Table>, level: u32) -> Result<bool, Memory>
     requires { EachApart tables.old.items }
     ensures { OnOk result (IsReduced level tables.old.items tables.new.items) }
@@ -41,8 +41,8 @@ fn reduce_each(alloc: Global, tables: &mut Vec<Table>, level: u32) -> Result<boo
     Ok(more)
 }
 
-/// Takes away, of each table from the first to the last, the rows without a partner in another one. Whether
-/// some went.
+/// Takes away, of each table from the first to the last, the rows without a partner in another one.
+/// Whether some went.
 fn reduce_forth(alloc: Global, tables: &mut Vec<Table>, level: u32) -> Result<bool, Memory>
     requires { EachApart tables.old.items }
     ensures { OnOk result (IsReduced level tables.old.items tables.new.items) }
@@ -69,8 +69,8 @@ fn reduce_back(alloc: Global, tables: &mut Vec<Table>, level: u32) -> Result<boo
     Ok(some)
 }
 
-/// Takes away the rows of a table without a partner in one of the others that share variables with it.
-/// Whether some went.
+/// Takes away the rows of a table without a partner in one of the others that share variables with
+/// it. Whether some went.
 fn reduce_by_all(
     alloc: Global,
     tables: &mut Vec<Table>,

@@ -22,11 +22,12 @@ use mcs_import::Plan;
 use mcs_table::{Row, Table, forget, holds_one, join};
 use std::alloc::Global;
 
-/// The minimal diagnoses of the plan's system that have at most so many marks, in the order of pairs. Some of them
-/// may be known already, in any order: rows whose marks contain one of them lead to no other one, and are left out as
-/// soon as they come about. There is a table for each context, in some order, all of one level, which is this one or a
-/// higher one. Each has the minimal local rows whose marks contain no known diagnosis; rows that are compatible with
-/// no row of some table before it may be left out.
+/// The minimal diagnoses of the plan's system that have at most so many marks, in the order of
+/// pairs. Some of them may be known already, in any order: rows whose marks contain one of them
+/// lead to no other one, and are left out as soon as they come about. There is a table for each
+/// context, in some order, all of one level, which is this one or a higher one. Each has the
+/// minimal local rows whose marks contain no known diagnosis; rows that are compatible with no row
+/// of some table before it may be left out.
 pub fn repairs_in(
     alloc: Global,
     plan: &Plan,
@@ -35,8 +36,10 @@ pub fn repairs_in(
     known: &[Marks],
 ) -> Result<Vec<Marks>, Memory>
     requires tables { (k : ℕ) × (level ≤ k) × AreFittingTables plan.now k known.now tables.now }
-    requires known { AllByRecursion (λ p. IsMinimal (IsDiagnosis plan.now) p × (size p ≤ level)) known.now }
-    ensures { IfOk result (λ pairs. IsListing (λ p. IsMinimal (IsDiagnosis plan.now) p × (size p ≤ level)) PairBefore pairs.items) }
+    requires known { AllByRecursion (λ p. IsMinimal (IsDiagnosis plan.now) p
+        × (size p ≤ level)) known.now }
+    ensures { IfOk result (λ pairs. IsListing (λ p. IsMinimal (IsDiagnosis plan.now) p
+        × (size p ≤ level)) PairBefore pairs.items) }
 {
     let most = level.min(plan.system().bridges().len() as u32);
     let few = few_tables(alloc, tables, most)?;
@@ -81,9 +84,9 @@ fn few_rows(alloc: Global, table: &Table, level: u32) -> Result<Table, Memory>
     Ok(Table::in_order(table.scope(), rows))
 }
 
-/// What is left of the tables where they are joined one after the other, and what no later table has is
-/// forgotten after each join, without the rows whose marks hold one of some sets. Those are left out after each
-/// join, since no row without one comes of them.
+/// What is left of the tables where they are joined one after the other, and what no later table
+/// has is forgotten after each join, without the rows whose marks hold one of some sets. Those are
+/// left out after each join, since no row without one comes of them.
 pub(crate) fn eliminate(
     alloc: Global,
     tables: &[Table],
@@ -103,8 +106,8 @@ pub(crate) fn eliminate(
     Ok(left)
 }
 
-/// Joins what is left of earlier tables with the next one, leaves out the rows whose marks hold one of the sets, and
-/// forgets what no later table has.
+/// Joins what is left of earlier tables with the next one, leaves out the rows whose marks hold one
+/// of the sets, and forgets what no later table has.
 fn eliminate_next(
     alloc: Global,
     left: &Table,
@@ -114,7 +117,8 @@ fn eliminate_next(
     sets: &[Marks],
 ) -> Result<Table, Memory>
     requires { ShareNoMark left.now.rows next.now.rows }
-    ensures { IfOk result (λ t. (joined : TableData) × (fewer : TableData) × IsJoin left.now next.now level joined
+    ensures { IfOk result (λ t. (joined : TableData) × (fewer : TableData)
+        × IsJoin left.now next.now level joined
         × IsWithout sets.now joined fewer × IsForgetting fewer (still_kept 0 later.now) t) }
 {
     let joined = join(alloc, left, next, level)?;

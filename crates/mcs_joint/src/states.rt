@@ -20,10 +20,11 @@ use mcs_import::Plan;
 use mcs_table::{Row, Table, union_states, unions};
 use std::alloc::Global;
 
-/// The projected equilibria of the plan's system that the pair changes, in the order of states: the rules that
-/// it removes act only where it forces them, those that it forces act always. There is a table for each context, in
-/// order, all of one level, which is no less than the number of the pair's marks. Each has the local rows whose marks
-/// are the ones that the pair makes of their state. Each mark of the pair is one that a repair of the system may have.
+/// The projected equilibria of the plan's system that the pair changes, in the order of states: the
+/// rules that it removes act only where it forces them, those that it forces act always. There is a
+/// table for each context, in order, all of one level, which is no less than the number of the
+/// pair's marks. Each has the local rows whose marks are the ones that the pair makes of their
+/// state. Each mark of the pair is one that a repair of the system may have.
 pub fn states_in(
     alloc: Global,
     plan: &Plan,
@@ -32,7 +33,8 @@ pub fn states_in(
 ) -> Result<Vec<Vars>, Memory>
     requires allowed { Within pair (allowed_marks plan.now) }
     requires tables { (k : ℕ) × (size pair ≤ k) × AreChangedAt plan.now k pair tables.items }
-    ensures { IfOk result (λ states. IsListing (IsProjectedEquilibrium plan.now (minus (all_rules plan.now) (removed_of pair)) (forced_of pair)) StateBefore states.items) }
+    ensures { IfOk result (λ states. IsListing (IsProjectedEquilibrium plan.now
+        (minus (all_rules plan.now) (removed_of pair)) (forced_of pair)) StateBefore states.items) }
 {
     let level = pair.marks().count();
     let _bridges = plan.system().bridges();
@@ -50,12 +52,13 @@ pub(crate) fn values_of(alloc: Global, rows: &[Row]) -> Result<Vec<Vars>, Memory
     Ok(all)
 }
 
-/// The states of the unions of one row of each of the tables that fit all together, one for each union. The last
-/// table gives states alone, since there are most rows then.
+/// The states of the unions of one row of each of the tables that fit all together, one for each
+/// union. The last table gives states alone, since there are most rows then.
 fn united_states(alloc: Global, tables: &[Table], level: u32) -> Result<Vec<Vars>, Memory>
     requires tables { AllByRecursion IsTable tables.now }
     requires apart { EachApart tables.now }
-    ensures { IfOk result (λ states. (all : List declared.Row) × ((r : declared.Row) → IsAmong r all ↔ IsJointRow level tables.now r)
+    ensures { IfOk result (λ states. (all : List declared.Row)
+        × ((r : declared.Row) → IsAmong r all ↔ IsJointRow level tables.now r)
         × (states.items ≡ map (λ (r : declared.Row). r.state.values) all)) }
 {
     let unit = Table::unit(alloc)?;

@@ -1,6 +1,7 @@
 //! Certificates that defaults do not apply, judged as they are read.
 
-ghost use Rattle.std.specs.Prelude.{◌≡◌, ◌≤◌, ◌<◌, ◌↔◌, List, length, map, IsTrue, IfSome, None, Some};
+ghost use Rattle.std.specs.Prelude.{◌≡◌, ◌≤◌, ◌<◌, ◌↔◌, List, length, map, IsTrue, IfSome, None};
+ghost use Rattle.std.specs.Prelude.{Some};
 ghost use Rattle.std.specs.List.{AllByRecursion, AllZip};
 ghost use Rattle.mcs_system.specs.Plain as plain;
 ghost use Rattle.mcs_system.specs.Seen.{formula_of};
@@ -8,7 +9,8 @@ ghost use Rattle.mcs_cnf.specs.ClauseLists.{clause_list, IsOver};
 ghost use Rattle.mcs_asked.specs.Questions.{theory_names, theory_items};
 ghost use Rattle.mcs_evidence.specs.Defaults.{Unsupported, Blocked, IsEntailmentShown};
 ghost use Rattle.mcs_extensions.specs.Checks.{AreAbsent};
-ghost use Rattle.mcs_proof_lines.specs.Walks.{IsNumberOf, IsJustOf, absence_at, absence_of_place, each_at, yes_at, no_at};
+ghost use Rattle.mcs_proof_lines.specs.Walks.{IsNumberOf, IsJustOf, absence_at, absence_of_place};
+ghost use Rattle.mcs_proof_lines.specs.Walks.{each_at, yes_at, no_at};
 ghost use Rattle.mcs_steps.specs.Judging.{Judges};
 ghost use Rattle.mcs_judging.specs.Judging.{Tells};
 ghost use Rattle.mcs_judging.specs.Theories.{TellsAbsence, told_if};
@@ -40,8 +42,8 @@ fn is_told(told: Option<u32>, number: u32) -> bool
     }
 }
 
-/// Reads a certificate that the prerequisite of the default with this number does not follow. Returns the number, if it
-/// shows that it does not follow from the formulas.
+/// Reads a certificate that the prerequisite of the default with this number does not follow.
+/// Returns the number, if it shows that it does not follow from the formulas.
 fn judge_unsupported(
     reading: &TheoryLines<'_>,
     premises: &[&Formula],
@@ -49,7 +51,9 @@ fn judge_unsupported(
     lines: &mut Lines<'_>,
 ) -> Result<Option<u32>, ReportFault>
     requires number { IsNumberOf reading.now.terms.now.justs.now number }
-    ensures { Tells (λ told e. TellsAbsence (theory_names reading.now.theory.now) (theory_items reading.now.theory.now) (map (λ f. formula_of f.now) premises.now) told (Unsupported number e)) result lines.new (no_at reading.now.terms.now.atoms.now lines.old) }
+    ensures { Tells (λ told e. TellsAbsence (theory_names reading.now.theory.now)
+        (theory_items reading.now.theory.now) (map (λ f. formula_of f.now) premises.now) told
+        (Unsupported number e)) result lines.new (no_at reading.now.terms.now.atoms.now lines.old) }
 {
     let default = default_numbered(reading, number);
     let named = Named {
@@ -61,8 +65,8 @@ fn judge_unsupported(
     Ok(told_if(denied, number))
 }
 
-/// Reads a certificate that the negation of the formula follows, and returns whether it shows that it follows from the
-/// formulas whose clauses are `known`.
+/// Reads a certificate that the negation of the formula follows, and returns whether it shows that
+/// it follows from the formulas whose clauses are `known`.
 fn judge_negation(
     alloc: Global,
     known: &mut Cnf,
@@ -74,7 +78,8 @@ fn judge_negation(
     requires room { length atoms.now ≤ known.old.vars }
     ensures kept { known.new ≡ known.old }
     ensures exact { (fs : List plain.Formula) → known.old ≡ clause_list atoms.now fs
-        → Judges (IsEntailmentShown atoms.now fs (plain.Not (formula_of formula.now))) result lines.new (yes_at lines.old) }
+        → Judges (IsEntailmentShown atoms.now fs (plain.Not (formula_of formula.now))) result
+        lines.new (yes_at lines.old) }
 {
     let goal = negated(alloc, formula)?;
     let shown = judge_yes(alloc, known, &goal, atoms, lines);
@@ -82,8 +87,9 @@ fn judge_negation(
     shown
 }
 
-/// Reads a certificate that the negation of a justification of the default with this number follows. Returns the number
-/// of the default, if it shows that it follows from the formulas whose clauses are `known`.
+/// Reads a certificate that the negation of a justification of the default with this number
+/// follows. Returns the number of the default, if it shows that it follows from the formulas whose
+/// clauses are `known`.
 fn judge_blocked(
     alloc: Global,
     known: &mut Cnf,
@@ -95,8 +101,11 @@ fn judge_blocked(
     requires within { IsJustOf reading.now.terms.now.justs.now (number, just) }
     requires room { length (theory_names reading.now.theory.now) ≤ known.old.vars }
     ensures kept { known.new ≡ known.old }
-    ensures exact { (fs : List plain.Formula) → known.old ≡ clause_list (theory_names reading.now.theory.now) fs
-        → Tells (λ told e. TellsAbsence (theory_names reading.now.theory.now) (theory_items reading.now.theory.now) fs told (Blocked number just e)) result lines.new (yes_at lines.old) }
+    ensures exact { (fs : List plain.Formula)
+        → known.old ≡ clause_list (theory_names reading.now.theory.now) fs
+        → Tells (λ told e. TellsAbsence (theory_names reading.now.theory.now)
+        (theory_items reading.now.theory.now) fs told (Blocked number just e)) result lines.new
+        (yes_at lines.old) }
 {
     let default = default_numbered(reading, number);
     let formula = &default.justs[(just - 1) as usize];
@@ -104,9 +113,9 @@ fn judge_blocked(
     Ok(told_if(shown, number))
 }
 
-/// Reads a certificate that a default is unsupported or blocked, as `take_absence` does; if `only` is given, that this
-/// one is. Returns the number of the default, if it shows that the default does not apply to the formulas, whose
-/// clauses are `known`.
+/// Reads a certificate that a default is unsupported or blocked, as `take_absence` does; if `only`
+/// is given, that this one is. Returns the number of the default, if it shows that the default does
+/// not apply to the formulas, whose clauses are `known`.
 #[tactic(auto, unfolding(mcs_proof_lines::specs::Walks::absence_at))]
 pub(crate) fn judge_absence(
     alloc: Global,
@@ -116,10 +125,14 @@ pub(crate) fn judge_absence(
     only: Option<u32>,
     lines: &mut Lines<'_>,
 ) -> Result<Option<u32>, ReportFault>
-    requires made { known.old ≡ clause_list (theory_names reading.now.theory.now) (map (λ f. formula_of f.now) premises.now) }
+    requires made { known.old ≡ clause_list (theory_names reading.now.theory.now)
+        (map (λ f. formula_of f.now) premises.now) }
     ensures kept { known.new ≡ known.old }
-    ensures exact { Tells (TellsAbsence (theory_names reading.now.theory.now) (theory_items reading.now.theory.now) (map (λ f. formula_of f.now) premises.now)) result lines.new
-        (absence_at reading.now.terms.now.atoms.now reading.now.terms.now.justs.now only lines.old) }
+    ensures exact { Tells (TellsAbsence (theory_names reading.now.theory.now)
+        (theory_items reading.now.theory.now) (map
+        (λ f. formula_of f.now) premises.now)) result lines.new
+        (absence_at reading.now.terms.now.atoms.now reading.now.terms.now.justs.now only
+        lines.old) }
 {
     if let Some(number) = next_unsupported(reading.terms.justs, only, lines) {
         lines.advance();
@@ -132,8 +145,9 @@ pub(crate) fn judge_absence(
     judge_blocked(alloc, known, reading, number, just, lines)
 }
 
-/// Reads, for each default at these places, a certificate that it is unsupported or blocked, as `take_absences` does.
-/// Returns whether they show that none of these defaults applies to the formulas, whose clauses are `known`.
+/// Reads, for each default at these places, a certificate that it is unsupported or blocked, as
+/// `take_absences` does. Returns whether they show that none of these defaults applies to the
+/// formulas, whose clauses are `known`.
 pub(crate) fn judge_absences(
     alloc: Global,
     known: &mut Cnf,
@@ -142,11 +156,15 @@ pub(crate) fn judge_absences(
     places: Members,
     lines: &mut Lines<'_>,
 ) -> Result<bool, ReportFault>
-    requires made { known.old ≡ clause_list (theory_names reading.now.theory.now) (map (λ f. formula_of f.now) premises.now) }
+    requires made { known.old ≡ clause_list (theory_names reading.now.theory.now)
+        (map (λ f. formula_of f.now) premises.now) }
     requires places { AllByRecursion (λ k. k < 64) places }
     ensures kept { known.new ≡ known.old }
-    ensures exact { Judges (AreAbsent (theory_names reading.now.theory.now) (theory_items reading.now.theory.now) (map (λ f. formula_of f.now) premises.now) places) result lines.new
-        (each_at (absence_of_place reading.now.terms.now.atoms.now reading.now.terms.now.justs.now) places lines.old) }
+    ensures exact { Judges (AreAbsent (theory_names reading.now.theory.now)
+        (theory_items reading.now.theory.now) (map
+        (λ f. formula_of f.now) premises.now) places) result lines.new
+        (each_at (absence_of_place reading.now.terms.now.atoms.now reading.now.terms.now.justs.now)
+        places lines.old) }
 {
     let mut are_right = true;
     for place in places {

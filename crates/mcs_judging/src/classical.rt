@@ -16,8 +16,8 @@ use mcs_proof_lines::{Lines, ReportFault};
 use mcs_system::Formula;
 use std::alloc::Global;
 
-/// Reads the certificate of a classical context, one entailment for each of its beliefs, and returns the one view that
-/// it shows for the formulas with the heads, if it is accepted.
+/// Reads the certificate of a classical context, one entailment for each of its beliefs, and
+/// returns the one view that it shows for the formulas with the heads, if it is accepted.
 pub fn judge_classical(
     alloc: Global,
     formulas: &[Formula],
@@ -27,8 +27,11 @@ pub fn judge_classical(
 ) -> Result<Option<Vec<Vars>>, ReportFault>
     requires formulas { AreOver named.now.asked.now.atoms.now (map formula_of formulas.now) }
     requires heads { AreOver named.now.asked.now.atoms.now (map (λ f. formula_of f.now) heads.now) }
-    ensures { Tells (AreViewsOf (IsAcceptedClassical named.now.asked.now.atoms.now (map formula_of formulas.now ++ map (λ f. formula_of f.now) heads.now) (asked_beliefs named.now.asked.now))) result lines.new
-        (many_at (entailment_at named.now.texts.now) (length named.now.asked.now.beliefs.now) lines.old) }
+    ensures { Tells (AreViewsOf (IsAcceptedClassical named.now.asked.now.atoms.now
+        (map formula_of formulas.now ++ map (λ f. formula_of f.now) heads.now)
+        (asked_beliefs named.now.asked.now))) result lines.new
+        (many_at (entailment_at named.now.texts.now)
+        (length named.now.asked.now.beliefs.now) lines.old) }
 {
     let premises = formulas_with(alloc, formulas, heads)?;
     let mut known = clauses_of(alloc, named.asked, &premises)?;

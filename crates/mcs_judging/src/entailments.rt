@@ -21,8 +21,8 @@ use mcs_system::{Formula, Name};
 use mcs_trace::Cnf;
 use std::alloc::Global;
 
-/// What is told of entailments that were read: whether each is accepted, the places of those that are a `yes`, and a
-/// model of the formulas that they are about, if one was shown.
+/// What is told of entailments that were read: whether each is accepted, the places of those that
+/// are a `yes`, and a model of the formulas that they are about, if one was shown.
 #[derive(Clone, Copy)]
 struct Told {
     are_right: bool,
@@ -30,7 +30,8 @@ struct Told {
     model: Option<Vars>,
 }
 
-/// What an entailment that is read is about: whether the goal, which has this index, below 64, follows from the formulas.
+/// What an entailment that is read is about: whether the goal, which has this index, below 64,
+/// follows from the formulas.
 #[derive(Clone, Copy)]
 struct Claim<'p, 'g> {
     premises: &'p [&'p Formula],
@@ -46,8 +47,8 @@ pub(crate) fn both(first: bool, second: bool) -> bool
     first && second
 }
 
-/// Reads a trace, and returns whether it refutes the formulas whose clauses are `known`, together with the negated
-/// goal. The clauses of the goal are added for the test and removed again.
+/// Reads a trace, and returns whether it refutes the formulas whose clauses are `known`, together
+/// with the negated goal. The clauses of the goal are added for the test and removed again.
 fn judge_refutation(
     alloc: Global,
     known: &mut Cnf,
@@ -59,7 +60,8 @@ fn judge_refutation(
     requires room { length atoms.now ≤ known.old.vars }
     ensures kept { known.new ≡ known.old }
     ensures exact { (fs : List plain.Formula) → known.old ≡ clause_list atoms.now fs
-        → Judges (λ steps. IsAcceptedEntailment atoms.now fs (formula_of goal.now) (Yes steps)) result lines.new (trace_at lines.old) }
+        → Judges (λ steps. IsAcceptedEntailment atoms.now fs (formula_of goal.now) (Yes steps))
+        result lines.new (trace_at lines.old) }
 {
     let vars = known.vars();
     let count = known.clauses().len();
@@ -69,8 +71,8 @@ fn judge_refutation(
     right
 }
 
-/// Reads a certificate that a formula follows, as `take_yes` does, and returns whether it shows that the goal follows
-/// from the formulas whose clauses are `known`.
+/// Reads a certificate that a formula follows, as `take_yes` does, and returns whether it shows
+/// that the goal follows from the formulas whose clauses are `known`.
 #[tactic(auto, unfolding(mcs_proof_lines::specs::Walks::yes_at))]
 pub(crate) fn judge_yes(
     alloc: Global,
@@ -83,14 +85,16 @@ pub(crate) fn judge_yes(
     requires room { length atoms.now ≤ known.old.vars }
     ensures kept { known.new ≡ known.old }
     ensures exact { (fs : List plain.Formula) → known.old ≡ clause_list atoms.now fs
-        → Judges (IsEntailmentShown atoms.now fs (formula_of goal.now)) result lines.new (yes_at lines.old) }
+        → Judges (IsEntailmentShown atoms.now fs (formula_of goal.now)) result lines.new
+        (yes_at lines.old) }
 {
     expect(lines, b"yes")?;
     judge_refutation(alloc, known, goal, atoms, lines)
 }
 
-/// Reads a certificate that a formula does not follow, as `take_no` does, and returns whether it shows that the goal
-/// does not follow from the formulas. `model` may be a known model of these; if the certificate shows one, it is that.
+/// Reads a certificate that a formula does not follow, as `take_no` does, and returns whether it
+/// shows that the goal does not follow from the formulas. `model` may be a known model of these; if
+/// the certificate shows one, it is that.
 pub(crate) fn judge_no(
     named: &Named<'_>,
     premises: &[&Formula],
@@ -98,9 +102,13 @@ pub(crate) fn judge_no(
     model: &mut Option<Vars>,
     lines: &mut Lines<'_>,
 ) -> Result<bool, ReportFault>
-    requires known { IfSome model.old (IsModelAt named.now.asked.now.atoms.now (map (λ f. formula_of f.now) premises.now)) }
-    ensures known { IfSome model.new (IsModelAt named.now.asked.now.atoms.now (map (λ f. formula_of f.now) premises.now)) }
-    ensures exact { Judges (IsDenied named.now.asked.now.atoms.now (map (λ f. formula_of f.now) premises.now) (formula_of goal.now)) result lines.new (no_at named.now.texts.now lines.old) }
+    requires known { IfSome model.old (IsModelAt named.now.asked.now.atoms.now
+        (map (λ f. formula_of f.now) premises.now)) }
+    ensures known { IfSome model.new (IsModelAt named.now.asked.now.atoms.now
+        (map (λ f. formula_of f.now) premises.now)) }
+    ensures exact { Judges (IsDenied named.now.asked.now.atoms.now
+        (map (λ f. formula_of f.now) premises.now) (formula_of goal.now)) result lines.new
+        (no_at named.now.texts.now lines.old) }
 {
     let entail = take_no(named.texts, lines)?;
     let before = *model;
@@ -112,15 +120,17 @@ pub(crate) fn judge_no(
     Ok(true)
 }
 
-/// Reads a certificate for each of the goals, in order, and returns whether they show that none of them follows from
-/// the formulas.
+/// Reads a certificate for each of the goals, in order, and returns whether they show that none of
+/// them follows from the formulas.
 pub(crate) fn judge_all_no(
     named: &Named<'_>,
     premises: &[&Formula],
     goals: &[&Formula],
     lines: &mut Lines<'_>,
 ) -> Result<bool, ReportFault>
-    ensures { Judges (AreDenied named.now.asked.now.atoms.now (map (λ f. formula_of f.now) premises.now) (map (λ f. formula_of f.now) goals.now)) result lines.new
+    ensures { Judges (AreDenied named.now.asked.now.atoms.now
+        (map (λ f. formula_of f.now) premises.now)
+        (map (λ f. formula_of f.now) goals.now)) result lines.new
         (many_at (no_at named.now.texts.now) (length goals.now) lines.old) }
 {
     let mut are_right = true;
@@ -134,7 +144,8 @@ pub(crate) fn judge_all_no(
     Ok(are_right)
 }
 
-/// What is told after one entailment more. `known` has the clauses of the formulas that it is about.
+/// What is told after one entailment more. `known` has the clauses of the formulas that it is
+/// about.
 fn judge_next(
     alloc: Global,
     known: &mut Cnf,
@@ -143,11 +154,16 @@ fn judge_next(
     told: Told,
     lines: &mut Lines<'_>,
 ) -> Result<Told, ReportFault>
-    requires model { IfSome told.model (IsModelAt named.now.asked.now.atoms.now (map (λ f. formula_of f.now) claim.now.premises.now)) }
+    requires model { IfSome told.model (IsModelAt named.now.asked.now.atoms.now
+        (map (λ f. formula_of f.now) claim.now.premises.now)) }
     requires goal { IsOver named.now.asked.now.atoms.now (formula_of claim.now.goal.now) }
-    requires made { known.old ≡ clause_list named.now.asked.now.atoms.now (map (λ f. formula_of f.now) claim.now.premises.now) }
+    requires made { known.old ≡ clause_list named.now.asked.now.atoms.now
+        (map (λ f. formula_of f.now) claim.now.premises.now) }
     ensures kept { known.new ≡ known.old }
-    ensures exact { Tells (IsToldOn named.now.asked.now.atoms.now (map (λ f. formula_of f.now) claim.now.premises.now) (formula_of claim.now.goal.now) claim.now.index told) result lines.new (entailment_at named.now.texts.now lines.old) }
+    ensures exact { Tells (IsToldOn named.now.asked.now.atoms.now
+        (map (λ f. formula_of f.now) claim.now.premises.now)
+        (formula_of claim.now.goal.now) claim.now.index told) result lines.new
+        (entailment_at named.now.texts.now lines.old) }
 {
     if is_next(lines, b"yes") {
         let shown = judge_yes(alloc, known, claim.goal, named.asked.atoms, lines)?;
@@ -166,8 +182,9 @@ fn judge_next(
     })
 }
 
-/// Reads a certificate for each of the beliefs, in order, that it follows from the formulas or that it does not. Returns the
-/// places of the beliefs that follow, if each of the certificates is accepted.
+/// Reads a certificate for each of the beliefs, in order, that it follows from the formulas or that
+/// it does not. Returns the places of the beliefs that follow, if each of the certificates is
+/// accepted.
 pub(crate) fn judge_places(
     alloc: Global,
     known: &mut Cnf,
@@ -175,10 +192,14 @@ pub(crate) fn judge_places(
     premises: &[&Formula],
     lines: &mut Lines<'_>,
 ) -> Result<Option<Vars>, ReportFault>
-    requires made { known.old ≡ clause_list named.now.asked.now.atoms.now (map (λ f. formula_of f.now) premises.now) }
+    requires made { known.old
+        ≡ clause_list named.now.asked.now.atoms.now (map (λ f. formula_of f.now) premises.now) }
     ensures kept { known.new ≡ known.old }
-    ensures exact { Tells (ArePlacesShown named.now.asked.now.atoms.now (map (λ f. formula_of f.now) premises.now) (asked_beliefs named.now.asked.now)) result lines.new
-        (many_at (entailment_at named.now.texts.now) (length named.now.asked.now.beliefs.now) lines.old) }
+    ensures exact { Tells (ArePlacesShown named.now.asked.now.atoms.now
+        (map (λ f. formula_of f.now) premises.now)
+        (asked_beliefs named.now.asked.now)) result lines.new
+        (many_at (entailment_at named.now.texts.now)
+        (length named.now.asked.now.beliefs.now) lines.old) }
 {
     let beliefs = named.asked.beliefs;
     let mut told = Told {

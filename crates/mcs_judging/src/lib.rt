@@ -1,5 +1,5 @@
-//! Certificates in the lines of a report, judged as they are read: of a line nothing is kept once it is judged. What is
-//! not accepted is read to its end all the same.
+//! Certificates in the lines of a report, judged as they are read: of a line nothing is kept once
+//! it is judged. What is not accepted is read to its end all the same.
 #![tactic(auto)]
 
 mod absences;

@@ -1,6 +1,7 @@
 //! The order in which the defaults of a set apply, judged as its certificates are read.
 
-ghost use Rattle.std.specs.Prelude.{◌≡◌, ◌≤◌, ◌<◌, ◌^◌, ◌↔◌, ◌∷◌, [], List, length, map, IsTrue, OnOk, None, false, MatchOption};
+ghost use Rattle.std.specs.Prelude.{◌≡◌, ◌≤◌, ◌<◌, ◌^◌, ◌↔◌, ◌∷◌, [], List, length, map, IsTrue};
+ghost use Rattle.std.specs.Prelude.{OnOk, None, false, MatchOption};
 ghost use Rattle.std.specs.List.{AllByRecursion};
 ghost use Rattle.std.specs.Option.{option_map_or};
 ghost use Rattle.mcs_system.specs.Plain as plain;
@@ -46,11 +47,12 @@ fn are_within(most: u32, bytes: &[u8]) -> bool
     false
 }
 
-/// What follows the word in the line, if the line is the order of an extension: numbers with a space before each, none
-/// of which is above `most`.
+/// What follows the word in the line, if the line is the order of an extension: numbers with a
+/// space before each, none of which is above `most`.
 #[tactic(auto, unfolding(mcs_proof_lines::specs::Verdicts::order_of))]
 fn read_order(most: u32, line: &[u8]) -> Option<&[u8]>
-    ensures { MatchOption result (order_of most line.now ≡ None) (λ bytes. IsOrderIn (order_of most line.now) bytes.now) }
+    ensures { MatchOption result (order_of most line.now ≡ None)
+        (λ bytes. IsOrderIn (order_of most line.now) bytes.now) }
 {
     let rest = strip(line, b"extension")?;
     if rest.is_empty() {
@@ -66,8 +68,10 @@ fn read_order(most: u32, line: &[u8]) -> Option<&[u8]>
 
 /// The bytes of the order in the next line, if it has one.
 pub(crate) fn next_order<'b>(reading: &TheoryLines<'_>, lines: &Lines<'b>) -> Option<&'b [u8]>
-    ensures { MatchOption result (line_at (order_of (length reading.now.terms.now.justs.now)) lines.now ≡ None)
-        (λ bytes. IsOrderIn (line_at (order_of (length reading.now.terms.now.justs.now)) lines.now) bytes.now) }
+    ensures { MatchOption result (line_at (order_of (length reading.now.terms.now.justs.now))
+        lines.now ≡ None)
+        (λ bytes. IsOrderIn (line_at (order_of (length reading.now.terms.now.justs.now)) lines.now)
+        bytes.now) }
 {
     read_order(reading.terms.justs.len() as u32, lines.current()?)
 }
@@ -114,10 +118,12 @@ fn pass_yes(lines: &mut Lines<'_>) -> Result<(), ReportFault>
     pass_trace(lines)
 }
 
-/// Reads such a certificate for each of the numbers that the bytes spell, and keeps nothing of them.
+/// Reads such a certificate for each of the numbers that the bytes spell, and keeps nothing of
+/// them.
 fn pass_all_yes(numbers: &[u8], lines: &mut Lines<'_>) -> Result<(), ReportFault>
     requires { AreNumbers numbers.now }
-    ensures { PassesBy result lines.new (many_at yes_at (length (numbers_in numbers.now)) lines.old) }
+    ensures { PassesBy result lines.new (many_at yes_at
+        (length (numbers_in numbers.now)) lines.old) }
 {
     let mut left = numbers;
     while !left.is_empty() {
@@ -132,8 +138,9 @@ fn pass_all_yes(numbers: &[u8], lines: &mut Lines<'_>) -> Result<(), ReportFault
     Ok(())
 }
 
-/// Reads a certificate that the prerequisite of the default follows, and returns whether it shows that it follows from
-/// the formulas whose clauses are `known`. The clauses of the consequent are added to these.
+/// Reads a certificate that the prerequisite of the default follows, and returns whether it shows
+/// that it follows from the formulas whose clauses are `known`. The clauses of the consequent are
+/// added to these.
 fn judge_prerequisite(
     alloc: Global,
     known: &mut Cnf,
@@ -143,18 +150,20 @@ fn judge_prerequisite(
 ) -> Result<bool, ReportFault>
     requires over { IsOverDefault atoms.now (default_of default.now) }
     requires room { length atoms.now ≤ known.old.vars }
-    ensures pushed { OnOk result (known.new ≡ with_formulas atoms.now known.old ((default_of default.now).conclusion ∷ [])) }
+    ensures pushed { OnOk result (known.new
+        ≡ with_formulas atoms.now known.old ((default_of default.now).conclusion ∷ [])) }
     ensures exact { (fs : List plain.Formula) → known.old ≡ clause_list atoms.now fs
-        → Judges (IsEntailmentShown atoms.now fs (default_of default.now).pre) result lines.new (yes_at lines.old) }
+        → Judges (IsEntailmentShown atoms.now fs (default_of default.now).pre) result lines.new
+        (yes_at lines.old) }
 {
     let shown = judge_yes(alloc, known, &default.pre, atoms, lines)?;
     push_formula(alloc, known, atoms, &default.conclusion)?;
     Ok(shown)
 }
 
-/// Reads a certificate for each of the defaults whose numbers the bytes spell. Returns whether they show that the
-/// prerequisites follow one after the other, each by means of the consequents before it. The clauses of the
-/// consequents are added to `known`, which has those of the facts.
+/// Reads a certificate for each of the defaults whose numbers the bytes spell. Returns whether they
+/// show that the prerequisites follow one after the other, each by means of the consequents before
+/// it. The clauses of the consequents are added to `known`, which has those of the facts.
 fn judge_order(
     alloc: Global,
     known: &mut Cnf,
@@ -163,10 +172,15 @@ fn judge_order(
     lines: &mut Lines<'_>,
 ) -> Result<bool, ReportFault>
     requires numbers { AreNumbers numbers.now }
-    requires within { AllByRecursion (IsNumberOf reading.now.terms.now.justs.now) (numbers_in numbers.now) }
-    requires made { known.old ≡ clause_list (theory_names reading.now.theory.now) (facts_of (theory_items reading.now.theory.now)) }
-    ensures grown { OnOk result (HasMoreFormulas (theory_names reading.now.theory.now) known.old known.new) }
-    ensures exact { Judges (AreGrounded (theory_names reading.now.theory.now) (theory_items reading.now.theory.now) (facts_of (theory_items reading.now.theory.now)) (numbers_in numbers.now)) result lines.new
+    requires within { AllByRecursion (IsNumberOf reading.now.terms.now.justs.now)
+        (numbers_in numbers.now) }
+    requires made { known.old ≡ clause_list (theory_names reading.now.theory.now)
+        (facts_of (theory_items reading.now.theory.now)) }
+    ensures grown { OnOk result (HasMoreFormulas (theory_names reading.now.theory.now) known.old
+        known.new) }
+    ensures exact { Judges (AreGrounded (theory_names reading.now.theory.now)
+        (theory_items reading.now.theory.now) (facts_of (theory_items reading.now.theory.now))
+        (numbers_in numbers.now)) result lines.new
         (many_at yes_at (length (numbers_in numbers.now)) lines.old) }
 {
     let mut left = numbers;
@@ -185,9 +199,10 @@ fn judge_order(
     Ok(are_right)
 }
 
-/// Reads a certificate for each of the numbers that the bytes spell. Returns whether they show that the defaults of the
-/// set apply in this order: whether the numbers are theirs, each once, and each prerequisite follows by means of the
-/// consequents before it. `known` has the clauses of the facts.
+/// Reads a certificate for each of the numbers that the bytes spell. Returns whether they show that
+/// the defaults of the set apply in this order: whether the numbers are theirs, each once, and each
+/// prerequisite follows by means of the consequents before it. `known` has the clauses of the
+/// facts.
 pub(crate) fn judge_grounded(
     alloc: Global,
     known: &mut Cnf,
@@ -198,9 +213,12 @@ pub(crate) fn judge_grounded(
 ) -> Result<bool, ReportFault>
     requires inside { set < 2 ^ length reading.now.terms.now.justs.now }
     requires numbers { AreNumbers numbers.now }
-    requires made { known.old ≡ clause_list (theory_names reading.now.theory.now) (facts_of (theory_items reading.now.theory.now)) }
+    requires made { known.old ≡ clause_list (theory_names reading.now.theory.now)
+        (facts_of (theory_items reading.now.theory.now)) }
     ensures kept { OnOk result (known.new ≡ known.old) }
-    ensures exact { Judges (λ pres. AreNumbersOf set (numbers_in numbers.now) × AreGrounded (theory_names reading.now.theory.now) (theory_items reading.now.theory.now) (facts_of (theory_items reading.now.theory.now)) (numbers_in numbers.now) pres)
+    ensures exact { Judges (λ pres. AreNumbersOf set (numbers_in numbers.now)
+        × AreGrounded (theory_names reading.now.theory.now) (theory_items reading.now.theory.now)
+        (facts_of (theory_items reading.now.theory.now)) (numbers_in numbers.now) pres)
         result lines.new (many_at yes_at (length (numbers_in numbers.now)) lines.old) }
 {
     if !are_numbers_of(set, numbers) {

@@ -1,4 +1,5 @@
-//! Certificates of programs, judged as they are read: model by model, and the steps of each trace one at a time.
+//! Certificates of programs, judged as they are read: model by model, and the steps of each trace
+//! one at a time.
 
 ghost use Rattle.std.specs.Prelude.{◌≡◌, ◌≤◌, ◌++◌, ◌↔◌, List, length, map, IsTrue, IfOk};
 ghost use Rattle.std.specs.List.{AllByRecursion, filter_map};
@@ -7,7 +8,8 @@ ghost use Rattle.mcs_system.specs.Logic.{fact_of};
 ghost use Rattle.mcs_system.specs.Seen.{formula_of, rule_of};
 ghost use Rattle.mcs_trace.specs.Traces.{Inference};
 ghost use Rattle.mcs_cnf.specs.ClauseLists.{AreOver};
-ghost use Rattle.mcs_evidence.specs.Programs.{AreOverRules, IsInRange, IsModelShown, IsAcceptedModel, IsAcceptedProgram};
+ghost use Rattle.mcs_evidence.specs.Programs.{AreOverRules, IsInRange, IsModelShown};
+ghost use Rattle.mcs_evidence.specs.Programs.{IsAcceptedModel, IsAcceptedProgram};
 ghost use Rattle.mcs_answer_sets.specs.Models.{AreModelsShown};
 ghost use Rattle.mcs_proof_lines.specs.Walks.{trace_at, many_at};
 ghost use Rattle.mcs_proof_lines.specs.Programs.{model_at, smaller_at, rest_at, program_at};
@@ -28,8 +30,8 @@ use mcs_system::{Formula, Name, ProgRule, names_of, with_heads};
 use mcs_trace::Cnf;
 use std::alloc::Global;
 
-/// Reads a trace, as `take_trace` does, and returns whether it is accepted as refuting the clauses. Without clauses it
-/// is not.
+/// Reads a trace, as `take_trace` does, and returns whether it is accepted as refuting the clauses.
+/// Without clauses it is not.
 fn judge_refutation(
     alloc: Global,
     clauses: &Option<Cnf>,
@@ -46,14 +48,16 @@ fn judge_refutation(
     }
 }
 
-/// The clauses that the trace of a model has to refute. There are none if the places are not a model of the rules.
+/// The clauses that the trace of a model has to refute. There are none if the places are not a
+/// model of the rules.
 fn smaller_models(
     alloc: Global,
     program: &AskedProgram<'_>,
     model: u64,
 ) -> Result<Option<Cnf>, Memory>
     ensures { IfOk result (λ clauses. (minimal : List Inference)
-        → IsModelShown program.now.atoms.now (program_rules program.now) (record { model = model; minimal = minimal }) ↔ Refutes clauses minimal) }
+        → IsModelShown program.now.atoms.now (program_rules program.now)
+        (record { model = model; minimal = minimal }) ↔ Refutes clauses minimal) }
 {
     if !is_in_range(program.atoms, model) {
         return Ok(None);
@@ -73,7 +77,8 @@ fn judge_minimal(
     model: u64,
     lines: &mut Lines<'_>,
 ) -> Result<bool, ReportFault>
-    ensures { Judges (λ minimal. IsModelShown program.now.atoms.now (program_rules program.now) (record { model = model; minimal = minimal }))
+    ensures { Judges (λ minimal. IsModelShown program.now.atoms.now (program_rules program.now)
+        (record { model = model; minimal = minimal }))
         result lines.new (trace_at lines.old) }
 {
     let clauses = smaller_models(alloc, program, model)?;
@@ -91,7 +96,8 @@ fn judge_model(
     lines: &mut Lines<'_>,
 ) -> Result<Option<Vars>, ReportFault>
     requires { length texts.now ≤ 64 }
-    ensures { Tells (IsViewOf (IsAcceptedModel program.now.atoms.now (program_rules program.now) (program_beliefs program.now)))
+    ensures { Tells (IsViewOf (IsAcceptedModel program.now.atoms.now (program_rules program.now)
+        (program_beliefs program.now)))
         result lines.new (model_at texts.now lines.old) }
 {
     let model = take_atoms(b"model ", texts, lines)?;
@@ -126,8 +132,8 @@ fn pass_models(texts: &[Text], count: usize, lines: &mut Lines<'_>) -> Result<()
     Ok(())
 }
 
-/// Reads `count` models with their traces, and returns their views if each is shown to be an answer set. Models after
-/// one that is not are passed.
+/// Reads `count` models with their traces, and returns their views if each is shown to be an answer
+/// set. Models after one that is not are passed.
 fn judge_models(
     alloc: Global,
     program: &AskedProgram<'_>,
@@ -136,7 +142,8 @@ fn judge_models(
     lines: &mut Lines<'_>,
 ) -> Result<Option<Vec<Vars>>, ReportFault>
     requires { length texts.now ≤ 64 }
-    ensures { Tells (AreViewsOf (AreModelsShown program.now.atoms.now (program_rules program.now) (program_beliefs program.now)))
+    ensures { Tells (AreViewsOf (AreModelsShown program.now.atoms.now (program_rules program.now)
+        (program_beliefs program.now)))
         result lines.new (many_at (model_at texts.now) count lines.old) }
 {
     let mut views = Vec::new(alloc);
@@ -189,15 +196,17 @@ fn may_be_shown(atoms: &[Name], views: &[Vars], smaller: &[Vars]) -> bool
     are_in_range(atoms, smaller)
 }
 
-/// The clauses that the last trace has to refute: no other model is left. There are none if the certificate is not
-/// accepted, whatever the trace is. `shown` are the views of the models, if each was shown to be an answer set.
+/// The clauses that the last trace has to refute: no other model is left. There are none if the
+/// certificate is not accepted, whatever the trace is. `shown` are the views of the models, if each
+/// was shown to be an answer set.
 fn other_models(
     alloc: Global,
     program: &AskedProgram<'_>,
     shown: &Option<Vec<Vars>>,
     smaller: &[Vars],
 ) -> Result<Option<Cnf>, Memory>
-    ensures { IfOk result (λ clauses. (rest : List Inference) → Completes program.now smaller.now shown.now rest ↔ Refutes clauses rest) }
+    ensures { IfOk result (λ clauses. (rest : List Inference)
+        → Completes program.now smaller.now shown.now rest ↔ Refutes clauses rest) }
 {
     let Some(views) = shown else {
         return Ok(None);
@@ -216,7 +225,8 @@ fn other_models(
     Ok(Some(clauses))
 }
 
-/// Reads the line `none` and the last trace, and returns whether they complete a certificate that is accepted.
+/// Reads the line `none` and the last trace, and returns whether they complete a certificate that
+/// is accepted.
 fn judge_rest(
     alloc: Global,
     program: &AskedProgram<'_>,
@@ -224,7 +234,8 @@ fn judge_rest(
     smaller: &[Vars],
     lines: &mut Lines<'_>,
 ) -> Result<bool, ReportFault>
-    ensures { Judges (Completes program.now smaller.now shown.now) result lines.new (rest_at lines.old) }
+    ensures { Judges (Completes program.now smaller.now shown.now) result lines.new
+        (rest_at lines.old) }
 {
     expect(lines, b"none")?;
     let clauses = other_models(alloc, program, shown, smaller)?;
@@ -242,7 +253,8 @@ fn judge_asked(
     lines: &mut Lines<'_>,
 ) -> Result<Option<Vec<Vars>>, ReportFault>
     requires { length texts.now ≤ 64 }
-    ensures { Tells (AreViewsOf (IsAcceptedProgram program.now.atoms.now (program_rules program.now) (program_beliefs program.now)))
+    ensures { Tells (AreViewsOf (IsAcceptedProgram program.now.atoms.now
+        (program_rules program.now) (program_beliefs program.now)))
         result lines.new (program_at texts.now count lines.old) }
 {
     let shown = judge_models(alloc, program, texts, count, lines)?;
@@ -254,12 +266,14 @@ fn judge_asked(
     Ok(shown)
 }
 
-/// Reads a certificate of a program, as `take_program` does for `count` models, and returns the views that it shows for
-/// the program with the heads, if it is accepted. The beliefs have to be atoms. A head that is not an atom adds no fact.
+/// Reads a certificate of a program, as `take_program` does for `count` models, and returns the
+/// views that it shows for the program with the heads, if it is accepted. The beliefs have to be
+/// atoms. A head that is not an atom adds no fact.
 ///
-/// Of a model its view is kept, of a smaller set its number, and of a trace the clauses of its steps as long as it is
-/// read. A certificate that is not accepted is read to its end all the same: `Grammar` is returned for the first line
-/// that is out of place. `Memory` may be returned in place of a result.
+/// Of a model its view is kept, of a smaller set its number, and of a trace the clauses of its
+/// steps as long as it is read. A certificate that is not accepted is read to its end all the same:
+/// `Grammar` is returned for the first line that is out of place. `Memory` may be returned in place
+/// of a result.
 pub fn judge_program(
     alloc: Global,
     rules: &[ProgRule],
@@ -270,8 +284,11 @@ pub fn judge_program(
 ) -> Result<Option<Vec<Vars>>, ReportFault>
     requires rules { AreOverRules named.now.asked.now.atoms.now (map rule_of rules.now) }
     requires heads { AreOver named.now.asked.now.atoms.now (map (λ f. formula_of f.now) heads.now) }
-    requires belief_atoms { AllByRecursion (λ f. IsTrue (is_atom (formula_of f.now))) named.now.asked.now.beliefs.now }
-    ensures { Tells (AreViewsOf (IsAcceptedProgram named.now.asked.now.atoms.now (map rule_of rules.now ++ filter_map fact_of (map (λ f. formula_of f.now) heads.now)) (asked_beliefs named.now.asked.now))) result lines.new
+    requires belief_atoms { AllByRecursion (λ f. IsTrue (is_atom (formula_of f.now)))
+        named.now.asked.now.beliefs.now }
+    ensures { Tells (AreViewsOf (IsAcceptedProgram named.now.asked.now.atoms.now
+        (map rule_of rules.now ++ filter_map fact_of (map (λ f. formula_of f.now) heads.now))
+        (asked_beliefs named.now.asked.now))) result lines.new
         (program_at named.now.texts.now count lines.old) }
 {
     let names = names_of(alloc, named.asked.beliefs)?;

@@ -1,19 +1,26 @@
-//! Certificates of default theories: the verdicts on sets of defaults, judged one at a time as they are read.
+//! Certificates of default theories: the verdicts on sets of defaults, judged one at a time as they
+//! are read.
 
-ghost use Rattle.std.specs.Prelude.{◌≡◌, ◌≤◌, ◌<◌, ◌^◌, ◌++◌, ◌↔◌, ℕ, length, map, IsTrue, IfOk, OnOk};
+ghost use Rattle.std.specs.Prelude.{◌≡◌, ◌≤◌, ◌<◌, ◌^◌, ◌++◌, ◌↔◌, ℕ, length, map, IsTrue, IfOk};
+ghost use Rattle.std.specs.Prelude.{OnOk};
 ghost use Rattle.mcs_sets.specs.Sets.{Within};
 ghost use Rattle.mcs_system.specs.Plain.{Fact};
 ghost use Rattle.mcs_system.specs.Plain as plain;
 ghost use Rattle.mcs_system.specs.Seen.{default_of, formula_of, item_of};
-ghost use Rattle.mcs_asked.specs.Questions.{asked_beliefs, theory_names, theory_items, theory_beliefs};
+ghost use Rattle.mcs_asked.specs.Questions.{asked_beliefs, theory_names, theory_items};
+ghost use Rattle.mcs_asked.specs.Questions.{theory_beliefs};
 ghost use Rattle.mcs_cnf.specs.ClauseLists.{clause_list, AreOver};
-ghost use Rattle.mcs_evidence.specs.Defaults.{AreOverItems, AreDenied, IsAcceptedDefault, defaults_of, facts_of, generated, negated_justs};
+ghost use Rattle.mcs_evidence.specs.Defaults.{AreOverItems, AreDenied, IsAcceptedDefault};
+ghost use Rattle.mcs_evidence.specs.Defaults.{defaults_of, facts_of, generated, negated_justs};
 ghost use Rattle.mcs_extensions.specs.Checks.{IsNumberIn};
 ghost use Rattle.mcs_proof_lines.specs.Walks.{IsNumberOf, many_at, no_at};
-ghost use Rattle.mcs_proof_lines.specs.Verdicts.{terms_of, extension_at, applied_at, ungrounded_at, or_absence, verdict_at, names_set, set_at, verdicts_at};
+ghost use Rattle.mcs_proof_lines.specs.Verdicts.{terms_of, extension_at, applied_at, ungrounded_at};
+ghost use Rattle.mcs_proof_lines.specs.Verdicts.{or_absence, verdict_at, names_set, set_at};
+ghost use Rattle.mcs_proof_lines.specs.Verdicts.{verdicts_at};
 ghost use Rattle.mcs_steps.specs.Judging.{Judges};
 ghost use Rattle.mcs_judging.specs.Judging.{Tells, AreViewsOf};
-ghost use Rattle.mcs_judging.specs.Theories.{numbers_in, AreNumbers, complete_at, TellsCompletion, shown_if, TellsVerdict, IsNoted};
+ghost use Rattle.mcs_judging.specs.Theories.{numbers_in, AreNumbers, complete_at, TellsCompletion};
+ghost use Rattle.mcs_judging.specs.Theories.{shown_if, TellsVerdict, IsNoted};
 
 use crate::absences::{judge_absence, judge_absences};
 use crate::entailments::{judge_all_no, judge_places, judge_yes};
@@ -35,8 +42,8 @@ use mcs_system::{Default, Formula, TheoryItem};
 use mcs_trace::Cnf;
 use std::alloc::Global;
 
-/// Reads a certificate for each of the goals, and returns whether they show that none of them follows from the
-/// formulas.
+/// Reads a certificate for each of the goals, and returns whether they show that none of them
+/// follows from the formulas.
 fn judge_denials(
     alloc: Global,
     reading: &TheoryLines<'_>,
@@ -44,7 +51,8 @@ fn judge_denials(
     goals: &[Formula],
     lines: &mut Lines<'_>,
 ) -> Result<bool, ReportFault>
-    ensures { Judges (AreDenied (theory_names reading.now.theory.now) (map (λ f. formula_of f.now) premises.now) (map formula_of goals.now)) result lines.new
+    ensures { Judges (AreDenied (theory_names reading.now.theory.now)
+        (map (λ f. formula_of f.now) premises.now) (map formula_of goals.now)) result lines.new
         (many_at (no_at reading.now.terms.now.atoms.now) (length goals.now) lines.old) }
 {
     let lent = lend(alloc, goals)?;
@@ -55,8 +63,8 @@ fn judge_denials(
     judge_all_no(&named, premises, &lent, lines)
 }
 
-/// Reads a certificate for each justification of the defaults, in order, and returns whether they show that the
-/// negation of none of them follows from the formulas.
+/// Reads a certificate for each justification of the defaults, in order, and returns whether they
+/// show that the negation of none of them follows from the formulas.
 fn judge_justs(
     alloc: Global,
     reading: &TheoryLines<'_>,
@@ -64,8 +72,11 @@ fn judge_justs(
     defaults: &[&Default],
     lines: &mut Lines<'_>,
 ) -> Result<bool, ReportFault>
-    ensures { Judges (AreDenied (theory_names reading.now.theory.now) (map (λ f. formula_of f.now) premises.now) (negated_justs (map (λ d. default_of d.now) defaults.now))) result lines.new
-        (many_at (no_at reading.now.terms.now.atoms.now) (length (negated_justs (map (λ d. default_of d.now) defaults.now))) lines.old) }
+    ensures { Judges (AreDenied (theory_names reading.now.theory.now)
+        (map (λ f. formula_of f.now) premises.now)
+        (negated_justs (map (λ d. default_of d.now) defaults.now))) result lines.new
+        (many_at (no_at reading.now.terms.now.atoms.now)
+        (length (negated_justs (map (λ d. default_of d.now) defaults.now))) lines.old) }
 {
     let goals = negations(alloc, defaults)?;
     let denied = judge_denials(alloc, reading, premises, &goals, lines);
@@ -80,8 +91,9 @@ fn shown_if(is_shown: bool, view: Option<Vars>) -> Option<Vars>
     if is_shown { view } else { None }
 }
 
-/// Reads what is to be shown of a set that generates an extension after the order of its defaults. Returns the view of
-/// the extension, if all is shown. `premises` are what the set generates, and `known` has their clauses.
+/// Reads what is to be shown of a set that generates an extension after the order of its defaults.
+/// Returns the view of the extension, if all is shown. `premises` are what the set generates, and
+/// `known` has their clauses.
 #[tactic(auto, unfolding(crate::specs::Theories::complete_at))]
 fn judge_completion(
     alloc: Global,
@@ -92,9 +104,12 @@ fn judge_completion(
     lines: &mut Lines<'_>,
 ) -> Result<Option<Vars>, ReportFault>
     requires inside { set < 2 ^ length reading.now.terms.now.justs.now }
-    requires made { known.old ≡ clause_list (theory_names reading.now.theory.now) (map (λ f. formula_of f.now) premises.now) }
+    requires made { known.old ≡ clause_list (theory_names reading.now.theory.now)
+        (map (λ f. formula_of f.now) premises.now) }
     ensures kept { known.new ≡ known.old }
-    ensures exact { Tells (TellsCompletion (theory_names reading.now.theory.now) (theory_items reading.now.theory.now) (map (λ f. formula_of f.now) premises.now) (theory_beliefs reading.now.theory.now) set)
+    ensures exact { Tells (TellsCompletion (theory_names reading.now.theory.now)
+        (theory_items reading.now.theory.now) (map (λ f. formula_of f.now) premises.now)
+        (theory_beliefs reading.now.theory.now) set)
         result lines.new (complete_at (terms_of reading.now.terms.now) set lines.old) }
 {
     let inside = chosen(alloc, reading.theory.defaults, set)?;
@@ -109,8 +124,8 @@ fn judge_completion(
     Ok(shown_if(allowed, shown_if(absent, view)))
 }
 
-/// Judges the rest of a verdict that the set generates an extension, with its defaults in the order of the numbers that
-/// the bytes spell. `known` has the clauses of the facts.
+/// Judges the rest of a verdict that the set generates an extension, with its defaults in the order
+/// of the numbers that the bytes spell. `known` has the clauses of the facts.
 #[tactic(auto, unfolding(mcs_proof_lines::specs::Verdicts::extension_at))]
 fn judge_extension(
     alloc: Global,
@@ -122,10 +137,13 @@ fn judge_extension(
 ) -> Result<Judged, ReportFault>
     requires inside { set < 2 ^ length reading.now.terms.now.justs.now }
     requires numbers { AreNumbers numbers.now }
-    requires made { known.old ≡ clause_list (theory_names reading.now.theory.now) (facts_of (theory_items reading.now.theory.now)) }
+    requires made { known.old ≡ clause_list (theory_names reading.now.theory.now)
+        (facts_of (theory_items reading.now.theory.now)) }
     ensures kept { OnOk result (known.new ≡ known.old) }
-    ensures exact { Tells (TellsVerdict (theory_names reading.now.theory.now) (theory_items reading.now.theory.now) (theory_beliefs reading.now.theory.now) set)
-        result lines.new (extension_at (terms_of reading.now.terms.now) set (numbers_in numbers.now) lines.old) }
+    ensures exact { Tells (TellsVerdict (theory_names reading.now.theory.now)
+        (theory_items reading.now.theory.now) (theory_beliefs reading.now.theory.now) set)
+        result lines.new (extension_at (terms_of reading.now.terms.now) set
+        (numbers_in numbers.now) lines.old) }
 {
     let grounded = judge_grounded(alloc, known, reading, set, numbers, lines)?;
     let premises = generated(alloc, reading.theory, set)?;
@@ -137,15 +155,16 @@ fn judge_extension(
     Ok(judged_as(shown_if(grounded, view)))
 }
 
-/// Whether a default that is outside the set applies: its prerequisite is shown, and its justifications are allowed.
+/// Whether a default that is outside the set applies: its prerequisite is shown, and its
+/// justifications are allowed.
 fn applies(inside: bool, shown: bool, allowed: bool) -> bool
     ensures { IsTrue result ↔ ((¬ IsTrue inside) × IsTrue shown × IsTrue allowed) }
 {
     !inside && shown && allowed
 }
 
-/// Reads what is to be shown of a default that is outside the set and applies. `known` has the clauses of what the set
-/// generates.
+/// Reads what is to be shown of a default that is outside the set and applies. `known` has the
+/// clauses of what the set generates.
 #[tactic(auto, unfolding(mcs_proof_lines::specs::Verdicts::applied_at))]
 fn judge_applying(
     alloc: Global,
@@ -156,9 +175,11 @@ fn judge_applying(
     lines: &mut Lines<'_>,
 ) -> Result<Judged, ReportFault>
     requires number { IsNumberOf reading.now.terms.now.justs.now number }
-    requires made { known.old ≡ clause_list (theory_names reading.now.theory.now) (generated (theory_items reading.now.theory.now) set) }
+    requires made { known.old ≡ clause_list (theory_names reading.now.theory.now)
+        (generated (theory_items reading.now.theory.now) set) }
     ensures kept { known.new ≡ known.old }
-    ensures exact { Tells (TellsVerdict (theory_names reading.now.theory.now) (theory_items reading.now.theory.now) (theory_beliefs reading.now.theory.now) set)
+    ensures exact { Tells (TellsVerdict (theory_names reading.now.theory.now)
+        (theory_items reading.now.theory.now) (theory_beliefs reading.now.theory.now) set)
         result lines.new (applied_at (terms_of reading.now.terms.now) number lines.old) }
 {
     let premises = generated(alloc, reading.theory, set)?;
@@ -174,8 +195,8 @@ fn judge_applying(
     Ok(judged_by(applies(is_member(set, number), shown, allowed)))
 }
 
-/// Judges the rest of a verdict that the default with this number is outside the set and applies. `known` has the
-/// clauses of the facts.
+/// Judges the rest of a verdict that the default with this number is outside the set and applies.
+/// `known` has the clauses of the facts.
 fn judge_applied(
     alloc: Global,
     known: &mut Cnf,
@@ -185,9 +206,11 @@ fn judge_applied(
     lines: &mut Lines<'_>,
 ) -> Result<Judged, ReportFault>
     requires number { IsNumberOf reading.now.terms.now.justs.now number }
-    requires made { known.old ≡ clause_list (theory_names reading.now.theory.now) (facts_of (theory_items reading.now.theory.now)) }
+    requires made { known.old ≡ clause_list (theory_names reading.now.theory.now)
+        (facts_of (theory_items reading.now.theory.now)) }
     ensures kept { OnOk result (known.new ≡ known.old) }
-    ensures exact { Tells (TellsVerdict (theory_names reading.now.theory.now) (theory_items reading.now.theory.now) (theory_beliefs reading.now.theory.now) set)
+    ensures exact { Tells (TellsVerdict (theory_names reading.now.theory.now)
+        (theory_items reading.now.theory.now) (theory_beliefs reading.now.theory.now) set)
         result lines.new (applied_at (terms_of reading.now.terms.now) number lines.old) }
 {
     let vars = known.vars();
@@ -216,9 +239,11 @@ fn judge_fails(
     set: Vars,
     lines: &mut Lines<'_>,
 ) -> Result<Judged, ReportFault>
-    requires made { known.old ≡ clause_list (theory_names reading.now.theory.now) (facts_of (theory_items reading.now.theory.now)) }
+    requires made { known.old ≡ clause_list (theory_names reading.now.theory.now)
+        (facts_of (theory_items reading.now.theory.now)) }
     ensures kept { OnOk result (known.new ≡ known.old) }
-    ensures exact { Tells (TellsVerdict (theory_names reading.now.theory.now) (theory_items reading.now.theory.now) (theory_beliefs reading.now.theory.now) set)
+    ensures exact { Tells (TellsVerdict (theory_names reading.now.theory.now)
+        (theory_items reading.now.theory.now) (theory_beliefs reading.now.theory.now) set)
         result lines.new (or_absence (terms_of reading.now.terms.now) lines.old) }
 {
     let premises = generated(alloc, reading.theory, set)?;
@@ -237,7 +262,8 @@ fn is_stuck(part: Vars, set: Vars, none_supported: bool) -> bool
     part.within(set) && part != set && none_supported
 }
 
-/// Judges the rest of a verdict that the defaults of a part support none of the other defaults of the set.
+/// Judges the rest of a verdict that the defaults of a part support none of the other defaults of
+/// the set.
 #[tactic(auto, unfolding(mcs_proof_lines::specs::Verdicts::ungrounded_at))]
 fn judge_ungrounded(
     alloc: Global,
@@ -247,7 +273,8 @@ fn judge_ungrounded(
     lines: &mut Lines<'_>,
 ) -> Result<Judged, ReportFault>
     requires inside { set < 2 ^ length reading.now.terms.now.justs.now }
-    ensures { Tells (TellsVerdict (theory_names reading.now.theory.now) (theory_items reading.now.theory.now) (theory_beliefs reading.now.theory.now) set)
+    ensures { Tells (TellsVerdict (theory_names reading.now.theory.now)
+        (theory_items reading.now.theory.now) (theory_beliefs reading.now.theory.now) set)
         result lines.new (ungrounded_at (terms_of reading.now.terms.now) set part lines.old) }
 {
     let premises = generated(alloc, reading.theory, part)?;
@@ -271,9 +298,11 @@ fn judge_verdict(
     lines: &mut Lines<'_>,
 ) -> Result<Judged, ReportFault>
     requires inside { set < 2 ^ length reading.now.terms.now.justs.now }
-    requires made { known.old ≡ clause_list (theory_names reading.now.theory.now) (facts_of (theory_items reading.now.theory.now)) }
+    requires made { known.old ≡ clause_list (theory_names reading.now.theory.now)
+        (facts_of (theory_items reading.now.theory.now)) }
     ensures kept { OnOk result (known.new ≡ known.old) }
-    ensures exact { Tells (TellsVerdict (theory_names reading.now.theory.now) (theory_items reading.now.theory.now) (theory_beliefs reading.now.theory.now) set)
+    ensures exact { Tells (TellsVerdict (theory_names reading.now.theory.now)
+        (theory_items reading.now.theory.now) (theory_beliefs reading.now.theory.now) set)
         result lines.new (verdict_at (terms_of reading.now.terms.now) set lines.old) }
 {
     if let Some(number) = next_applied(reading.terms, lines) {
@@ -301,9 +330,11 @@ fn judge_set(
     lines: &mut Lines<'_>,
 ) -> Result<Judged, ReportFault>
     requires inside { set < 2 ^ length reading.now.terms.now.justs.now }
-    requires made { known.old ≡ clause_list (theory_names reading.now.theory.now) (facts_of (theory_items reading.now.theory.now)) }
+    requires made { known.old ≡ clause_list (theory_names reading.now.theory.now)
+        (facts_of (theory_items reading.now.theory.now)) }
     ensures kept { OnOk result (known.new ≡ known.old) }
-    ensures exact { Tells (TellsVerdict (theory_names reading.now.theory.now) (theory_items reading.now.theory.now) (theory_beliefs reading.now.theory.now) set)
+    ensures exact { Tells (TellsVerdict (theory_names reading.now.theory.now)
+        (theory_items reading.now.theory.now) (theory_beliefs reading.now.theory.now) set)
         result lines.new (set_at (terms_of reading.now.terms.now) set lines.old) }
 {
     if !names_set(reading.terms, set, lines) {
@@ -313,8 +344,8 @@ fn judge_set(
     judge_verdict(alloc, known, reading, set, lines)
 }
 
-/// Appends the view that a verdict shows, if it shows one. Returns whether all verdicts are accepted, this one and
-/// those before it.
+/// Appends the view that a verdict shows, if it shows one. Returns whether all verdicts are
+/// accepted, this one and those before it.
 fn note(judged: Judged, are_right: bool, views: &mut Vec<Vars>) -> Result<bool, Memory>
     ensures { IfOk result (λ yes. IsNoted judged are_right views.old.items yes views.new.items) }
 {
@@ -328,8 +359,8 @@ fn note(judged: Judged, are_right: bool, views: &mut Vec<Vars>) -> Result<bool, 
     }
 }
 
-/// Reads the verdicts on all sets of defaults. Returns the views that they show, if each verdict is accepted. `known`
-/// has the clauses of the facts.
+/// Reads the verdicts on all sets of defaults. Returns the views that they show, if each verdict is
+/// accepted. `known` has the clauses of the facts.
 #[tactic(auto, unfolding(mcs_proof_lines::specs::Verdicts::verdicts_at))]
 fn judge_sets(
     alloc: Global,
@@ -337,8 +368,10 @@ fn judge_sets(
     reading: &TheoryLines<'_>,
     lines: &mut Lines<'_>,
 ) -> Result<Option<Vec<Vars>>, ReportFault>
-    requires made { known.old ≡ clause_list (theory_names reading.now.theory.now) (facts_of (theory_items reading.now.theory.now)) }
-    ensures { Tells (AreViewsOf (IsAcceptedDefault (theory_names reading.now.theory.now) (theory_items reading.now.theory.now) (theory_beliefs reading.now.theory.now)))
+    requires made { known.old ≡ clause_list (theory_names reading.now.theory.now)
+        (facts_of (theory_items reading.now.theory.now)) }
+    ensures { Tells (AreViewsOf (IsAcceptedDefault (theory_names reading.now.theory.now)
+        (theory_items reading.now.theory.now) (theory_beliefs reading.now.theory.now)))
         result lines.new (verdicts_at (terms_of reading.now.terms.now) lines.old) }
 {
     let mut views = Vec::new(alloc);
@@ -360,12 +393,13 @@ fn judge_sets(
     Ok(Some(views))
 }
 
-/// Reads the certificate of a default theory, as `take_verdicts` does, and returns the views that it shows for the
-/// theory with the heads as facts, if it is accepted. `terms` says what the lines may name: the names of the atoms, the
-/// numbers of the defaults, of each default how many justifications it has, and how many beliefs there are.
+/// Reads the certificate of a default theory, as `take_verdicts` does, and returns the views that
+/// it shows for the theory with the heads as facts, if it is accepted. `terms` says what the lines
+/// may name: the names of the atoms, the numbers of the defaults, of each default how many
+/// justifications it has, and how many beliefs there are.
 ///
-/// The verdicts are judged one at a time as they are read, and each of their lines at once. What is not accepted is read
-/// to its end all the same.
+/// The verdicts are judged one at a time as they are read, and each of their lines at once. What is
+/// not accepted is read to its end all the same.
 pub fn judge_verdicts(
     alloc: Global,
     items: &[TheoryItem],
@@ -377,11 +411,14 @@ pub fn judge_verdicts(
     requires few_texts { length terms.now.atoms.now ≤ 64 }
     requires few_numbers { length terms.now.numbers.now ≤ 64 }
     requires few_defaults { length (defaults_of (map item_of items.now)) ≤ 10 }
-    requires justs { terms.now.justs.now ≡ map (λ (d : plain.Default). length d.justs) (defaults_of (map item_of items.now)) }
+    requires justs { terms.now.justs.now
+        ≡ map (λ (d : plain.Default). length d.justs) (defaults_of (map item_of items.now)) }
     requires told_beliefs { terms.now.beliefs ≡ length asked.now.beliefs.now }
     requires items { AreOverItems asked.now.atoms.now (map item_of items.now) }
     requires heads { AreOver asked.now.atoms.now (map (λ f. formula_of f.now) heads.now) }
-    ensures { Tells (AreViewsOf (IsAcceptedDefault asked.now.atoms.now (map item_of items.now ++ map Fact (map (λ f. formula_of f.now) heads.now)) (asked_beliefs asked.now))) result lines.new
+    ensures { Tells (AreViewsOf (IsAcceptedDefault asked.now.atoms.now
+        (map item_of items.now ++ map Fact (map (λ f. formula_of f.now) heads.now))
+        (asked_beliefs asked.now))) result lines.new
         (verdicts_at (terms_of terms.now) lines.old) }
 {
     let defaults = defaults_of(alloc, items)?;

@@ -1,6 +1,7 @@
 //! Laws over the definitions of texts. The functions compute nothing: each contract is a law.
 
-ghost use Rattle.mcs_grammar.specs.Texts.{SpelledDefaultsAreShort, SpelledTextsHaveNoFault, TextsAreUnambiguous, TextsHaveOneFault};
+ghost use Rattle.mcs_grammar.specs.Texts.{SpelledDefaultsAreShort, SpelledTextsHaveNoFault};
+ghost use Rattle.mcs_grammar.specs.Texts.{TextsAreUnambiguous, TextsHaveOneFault};
 
 /// A text spells at most one system.
 pub fn texts_are_unambiguous()

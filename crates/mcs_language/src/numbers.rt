@@ -1,4 +1,5 @@
-//! Bridge rules whose contexts are given by their numbers, made from rules whose contexts are given by their names.
+//! Bridge rules whose contexts are given by their numbers, made from rules whose contexts are given
+//! by their names.
 
 ghost use Rattle.std.specs.Prelude.{◌≡◌, ◌≤◌, length, map, IfOk, List};
 ghost use Rattle.std.specs.List.{position};
@@ -9,7 +10,8 @@ ghost use Rattle.mcs_system.specs.Seen.{bridge_of};
 ghost use Rattle.mcs_grammar.specs.Written.{WrittenBridge};
 ghost use Rattle.mcs_grammar.specs.Saying.{Each, SaysBridge};
 ghost use Rattle.mcs_reader.specs.TextImages.{AreBridges, IsBridgeImage, named_read_of};
-ghost use Rattle.mcs_reader.specs.Ends.{HaveKnownContexts, HaveNamedContexts, IsBridgeNamed, SaysRead, context_names};
+ghost use Rattle.mcs_reader.specs.Ends.{HaveKnownContexts, HaveNamedContexts, IsBridgeNamed};
+ghost use Rattle.mcs_reader.specs.Ends.{SaysRead, context_names};
 
 use mcs_base::Memory;
 use mcs_reader::{NamedBridge, NamedRead};
@@ -49,7 +51,8 @@ fn numbered_reads(
 ) -> Result<Vec<Read>, Memory>
     requires few { length contexts.now ≤ 64 }
     requires known { HaveNamedContexts (context_names contexts.now) reads.items }
-    ensures { IfOk result (λ rs. Each (SaysRead (context_names contexts.now)) (map named_read_of reads.items) (map seen.read_of rs.items)) }
+    ensures { IfOk result (λ rs. Each (SaysRead (context_names contexts.now))
+        (map named_read_of reads.items) (map seen.read_of rs.items)) }
 {
     let mut numbered = Vec::new(alloc);
     for read in reads {
@@ -66,7 +69,8 @@ fn numbered_bridge(
 ) -> Result<Bridge, Memory>
     requires few { length contexts.now ≤ 64 }
     requires known { IsBridgeNamed (context_names contexts.now) bridge }
-    ensures { (w : WrittenBridge) → IsBridgeImage bridge w → IfOk result (λ b. SaysBridge (context_names contexts.now) w (bridge_of b)) }
+    ensures { (w : WrittenBridge) → IsBridgeImage bridge w
+        → IfOk result (λ b. SaysBridge (context_names contexts.now) w (bridge_of b)) }
 {
     let NamedBridge {
         name,
@@ -110,8 +114,11 @@ pub(crate) fn numbered(
     bridges: Vec<NamedBridge>,
 ) -> Result<Vec<Bridge>, Memory>
     requires few { length contexts.now ≤ 64 }
-    requires known { (ws : List WrittenBridge) × AreBridges bridges.items ws × HaveKnownContexts (context_names contexts.now) ws }
-    ensures { (ws : List WrittenBridge) → AreBridges bridges.items ws → IfOk result (λ bs. Each (SaysBridge (context_names contexts.now)) ws (map bridge_of bs.items)) }
+    requires known { (ws : List WrittenBridge) × AreBridges bridges.items ws
+        × HaveKnownContexts (context_names contexts.now) ws }
+    ensures { (ws : List WrittenBridge) → AreBridges bridges.items ws
+        → IfOk result (λ bs. Each (SaysBridge (context_names contexts.now)) ws
+        (map bridge_of bs.items)) }
 {
     let mut numbered = Vec::new(alloc);
     for bridge in bridges {

@@ -25,7 +25,8 @@ pub(crate) struct Reading {
     pub(crate) watch: Watch,
 }
 
-/// Goes through the tokens of the text from `start` on, so that those after a fault are known to be tokens too.
+/// Goes through the tokens of the text from `start` on, so that those after a fault are known to be
+/// tokens too.
 fn pass_tokens(bytes: &[u8], start: usize)
     requires { start ≤ length bytes.now }
     ensures { (spans : List declared.Span) × AreTokens bytes.now start spans }
@@ -53,7 +54,8 @@ impl Reading {
 
     /// Takes the next token, and returns its fault, if it has one.
     fn take(&mut self, alloc: Global, token: &[u8]) -> Result<Option<Fault>, Memory>
-        ensures { (ts : List Token) (k : ℕ) → AreReadUpTo self.old ts k → slice_get ts k ≡ Some token.now → IfOk result (λ f. IsNextRead f self.new ts k) }
+        ensures { (ts : List Token) (k : ℕ) → AreReadUpTo self.old ts k
+            → slice_get ts k ≡ Some token.now → IfOk result (λ f. IsNextRead f self.new ts k) }
     {
         let subject = self.watch.subject(&self.reader.place);
         let Some(uses) = self.reader.take(alloc, token)? else {
@@ -84,7 +86,8 @@ impl Reading {
         }
     }
 
-    /// The system of the text, whose tokens were all taken, or the fault that the text may not end here.
+    /// The system of the text, whose tokens were all taken, or the fault that the text may not end
+    /// here.
     fn system(self, alloc: Global, bytes: &[u8]) -> Result<System, TextFault>
         requires { AreTokensRead bytes.now self }
         ensures system { IfOk result (Spells bytes.now) }
@@ -112,10 +115,10 @@ fn built(alloc: Global, contexts: Vec<Context>, bridges: Vec<Bridge>) -> Result<
     }
 }
 
-/// The system that the text spells, or the first fault of the text. This is the fault of the first token that has one.
-/// If this token has several, it is the one with the lowest number; for number 5 it is the first limit in the order of
-/// `Limit`. The end of the text counts as a token, with the length of the text as its offset. A text spells at most one
-/// system.
+/// The system that the text spells, or the first fault of the text. This is the fault of the first
+/// token that has one. If this token has several, it is the one with the lowest number; for number
+/// 5 it is the first limit in the order of `Limit`. The end of the text counts as a token, with the
+/// length of the text as its offset. A text spells at most one system.
 pub fn read_system(alloc: Global, bytes: &[u8]) -> Result<System, TextFault>
     ensures system { IfOk result (Spells bytes.now) }
     ensures fault { IfErr result (IsToldOf bytes.now) }

@@ -16,8 +16,9 @@ fn canonical_text_spells(system: &System)
     let _contexts = system.contexts();
 }
 
-/// Appends the canonical text of a system. It does not show the marks of the rules. If they have none, it spells the
-/// system, so that reading it yields the same system. If there is no memory for all of it, `out` stays as it was.
+/// Appends the canonical text of a system. It does not show the marks of the rules. If they have
+/// none, it spells the system, so that reading it yields the same system. If there is no memory for
+/// all of it, `out` stays as it was.
 pub fn write_system(system: &System, out: &mut Text) -> Result<(), Memory>
     ensures text { OnOk result (out.new ≡ out.old ++ canonical_text system.now) }
     ensures unchanged { OnErr result (out.new ≡ out.old) }

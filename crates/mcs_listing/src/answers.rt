@@ -14,8 +14,8 @@ use mcs_solver::LocalSolver;
 use mcs_system::System;
 use std::alloc::Global;
 
-/// Writes the answers that the solvers of the nodes keep, each with its certificate. The solvers have to keep
-/// certificates, and to have been asked exactly the questions of a level.
+/// Writes the answers that the solvers of the nodes keep, each with its certificate. The solvers
+/// have to keep certificates, and to have been asked exactly the questions of a level.
 ///
 /// Stops if a write fails, or for want of memory. Then the contract says how much was written.
 pub fn write_answers<K: Sink>(
@@ -26,11 +26,16 @@ pub fn write_answers<K: Sink>(
 ) -> Result<(), Stop>
     requires { (level : ℕ) × AreAsked system.now level (oracles_of nodes.list.items) }
     ensures later { (K.device sink.old).faults ≤ (K.device sink.new).faults }
-    ensures unfailed { ¬ IsErrOf result Stop.WriteFault → (K.device sink.new).faults ≡ (K.device sink.old).faults }
+    ensures unfailed { ¬ IsErrOf result Stop.WriteFault
+        → (K.device sink.new).faults ≡ (K.device sink.old).faults }
     ensures notes { (K.device sink.new).notes ≡ (K.device sink.old).notes }
-    ensures ok { (level : ℕ) → AreAsked system.now level (oracles_of nodes.list.items) → OnOk result (HasProved system.now level (K.device sink.old).written (K.device sink.new).written) }
-    ensures stop { (level : ℕ) → AreAsked system.now level (oracles_of nodes.list.items) → IfErr result (λ stop. StopsAnswers stop system.now level
-        (Rose (K.device sink.old).faults (K.device sink.new).faults) (K.device sink.old).written (K.device sink.new).written) }
+    ensures ok { (level : ℕ) → AreAsked system.now level (oracles_of nodes.list.items)
+        → OnOk result (HasProved system.now level (K.device sink.old).written
+        (K.device sink.new).written) }
+    ensures stop { (level : ℕ) → AreAsked system.now level (oracles_of nodes.list.items)
+        → IfErr result (λ stop. StopsAnswers stop system.now level
+        (Rose (K.device sink.old).faults (K.device sink.new).faults) (K.device sink.old).written
+        (K.device sink.new).written) }
 {
     let solvers = nodes.into_oracles()?;
     Ok(write_proof(alloc, system, &solvers, sink)?)

@@ -1,4 +1,5 @@
-//! What an evaluation begins with: a plan, and for each context a node with a solver of which nothing was asked.
+//! What an evaluation begins with: a plan, and for each context a node with a solver of which
+//! nothing was asked.
 
 ghost use Rattle.std.specs.Prelude.{◌≡◌, cond, [], ◌∷◌, map, length, IfOk};
 ghost use Rattle.std.specs.Arc.{arc_value};
@@ -26,8 +27,8 @@ pub struct Beginning<N> {
     pub budget: u64,
 }
 
-/// What an evaluation of the system begins with, within a budget of questions: a node with a solver for each context.
-/// The solvers keep certificates if `keep` holds. Stops only for want of memory.
+/// What an evaluation of the system begins with, within a budget of questions: a node with a solver
+/// for each context. The solvers keep certificates if `keep` holds. Stops only for want of memory.
 pub fn begin_evaluation(
     alloc: Global,
     system: &Arc<System>,
@@ -35,9 +36,11 @@ pub fn begin_evaluation(
     keep: bool,
 ) -> Result<Beginning<Nodes<LocalSolver>>, Memory>
     ensures budget { IfOk result (λ b. b.budget ≡ budget) }
-    ensures begins { IfOk result (λ b. Begins (arc_value system.now) (arc_value b.plan) b.budget b.nodes.list.items) }
+    ensures begins { IfOk result (λ b. Begins (arc_value system.now)
+        (arc_value b.plan) b.budget b.nodes.list.items) }
     ensures sure { IfOk result (λ b. AreSure (oracles_of b.nodes.list.items)) }
-    ensures keeps { IfOk result (λ b. HaveOrigin (cond keep ([] ∷ []) []) (oracles_of b.nodes.list.items)) }
+    ensures keeps { IfOk result (λ b. HaveOrigin (cond keep ([] ∷ []) [])
+        (oracles_of b.nodes.list.items)) }
 {
     let plan = Arc::new(alloc, Plan::of(alloc, system.clone()?)?)?;
     let solvers = solvers_of(alloc, system, keep)?;
@@ -49,10 +52,12 @@ pub fn begin_evaluation(
     })
 }
 
-/// A solver for each context of the system, in their order. The solvers keep certificates if `keep` holds.
+/// A solver for each context of the system, in their order. The solvers keep certificates if `keep`
+/// holds.
 fn solvers_of(alloc: Global, system: &Arc<System>, keep: bool) -> Result<Vec<LocalSolver>, Memory>
     ensures { IfOk result (λ solvers.
-        solvers.items ≡ map (λ i. solver_with keep (arc_value system.now) i []) (range_with_len 0 (length (arc_value system.now).contexts))) }
+        solvers.items ≡ map (λ i. solver_with keep (arc_value system.now) i [])
+        (range_with_len 0 (length (arc_value system.now).contexts))) }
 {
     let mut solvers = Vec::new(alloc);
     for context in 0..system.contexts().len() as u32 {

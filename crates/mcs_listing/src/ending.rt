@@ -1,7 +1,10 @@
 //! Why a run stops before its end, and the line that is noted for it.
 
 ghost use Rattle.std.specs.Prelude.{◌≡◌, ◌++◌, OnOk};
-ghost use Rattle.mcs_listing.specs.Endings.{line_of, refusal_line, unfinished_line, fault_line, told_limit, status_of, stop_for_words, stop_for_text, stop_for_unwritten, stop_for_work, IsEndingTold, IsToldAs};
+ghost use Rattle.mcs_listing.specs.Endings.{line_of, refusal_line, unfinished_line, fault_line};
+ghost use Rattle.mcs_listing.specs.Endings.{told_limit, status_of, stop_for_words, stop_for_text};
+ghost use Rattle.mcs_listing.specs.Endings.{stop_for_unwritten, stop_for_work, IsEndingTold};
+ghost use Rattle.mcs_listing.specs.Endings.{IsToldAs};
 ghost use Rattle.mcs_listing.specs.declared.ending.Stop.TheVariants as stops;
 
 use crate::status::Status;
@@ -103,8 +106,8 @@ impl From<Unwritten> for Stop {
     }
 }
 
-/// Why the run stops, if its work stops for this reason. `budget` is that of the run. No oracle of a run can miss an
-/// answer.
+/// Why the run stops, if its work stops for this reason. `budget` is that of the run. No oracle of
+/// a run can miss an answer.
 pub fn stop_for_work(stop: WorkStop, budget: u64) -> Stop
     ensures { result ≡ stop_for_work budget stop }
 {
@@ -211,8 +214,8 @@ fn push_limit(line: &mut Text, limit: Option<Limit>) -> Result<(), Memory>
     line.push_number(limit.most() as u64)
 }
 
-/// Notes the line of the stop, and returns its status. If there is no memory for the line, the want of memory is noted
-/// and returned instead. The line of a write fault needs no memory.
+/// Notes the line of the stop, and returns its status. If there is no memory for the line, the want
+/// of memory is noted and returned instead. The line of a write fault needs no memory.
 pub fn tell<K: Sink>(alloc: Global, sink: &mut K, stop: Stop) -> Status
     ensures told { IsEndingTold stop result (K.device sink.old) (K.device sink.new) }
     ensures fault { stop ≡ stops.WriteFault → result ≡ Status.WriteFault }

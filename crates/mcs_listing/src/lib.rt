@@ -1,5 +1,5 @@
-//! What a run does that needs neither threads nor the check of reports: its files are read, a system is listed within a
-//! budget by whatever plays its rounds, and how the run ends is told.
+//! What a run does that needs neither threads nor the check of reports: its files are read, a
+//! system is listed within a budget by whatever plays its rounds, and how the run ends is told.
 #![tactic(auto)]
 
 mod answers;

@@ -17,7 +17,8 @@ pub fn print_number<K: Sink>(
     system: &System,
     sink: &mut K,
 ) -> Result<(), Unwritten>
-    ensures { Writes (number_line number system.now) (K.device sink.old) (K.device sink.new) result }
+    ensures { Writes (number_line number system.now) (K.device sink.old)
+        (K.device sink.new) result }
 {
     let mut line = Text::new(alloc);
     push_number_line(&mut line, number, system)?;

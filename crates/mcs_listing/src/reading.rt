@@ -4,7 +4,8 @@ ghost use Rattle.std.specs.Prelude.{◌≡◌, ◌≤◌, [], ◌∷◌, length,
 ghost use Rattle.mcs_ports.specs.Causes.{Rose};
 ghost use Rattle.mcs_listing.specs.Jobs.{told_all, OfOneFile};
 ghost use Rattle.mcs_proof_text.specs.Reports.{most_report_bytes};
-ghost use Rattle.mcs_listing.specs.Texts.{most_text_bytes, IsTextOf, StopsReading, StopsReport, StopsText};
+ghost use Rattle.mcs_listing.specs.Texts.{most_text_bytes, IsTextOf, StopsReading, StopsReport};
+ghost use Rattle.mcs_listing.specs.Texts.{StopsText};
 
 use crate::ending::{Refusal, Stop};
 use mcs_language::read_system;
@@ -23,9 +24,11 @@ pub fn system_in<H: Shelf>(alloc: Global, file: &str, shelf: &mut H) -> Result<S
     ensures later { H.faults shelf.old ≤ H.faults shelf.new }
     ensures failures_later { H.failures shelf.old ≤ H.failures shelf.new }
     ensures held { H.held shelf.new ≡ H.held shelf.old }
-    ensures system { IfOk result (λ system. IfSome (told_all (H.held shelf.old) (file.now ∷ [])) (OfOneFile (IsTextOf system))) }
+    ensures system { IfOk result (λ system. IfSome (told_all (H.held shelf.old) (file.now ∷ []))
+        (OfOneFile (IsTextOf system))) }
     ensures stop { IfErr result (λ stop. StopsReading stop
-        (Rose (H.faults shelf.old) (H.faults shelf.new)) (Rose (H.failures shelf.old) (H.failures shelf.new))
+        (Rose (H.faults shelf.old) (H.faults shelf.new))
+        (Rose (H.failures shelf.old) (H.failures shelf.new))
         (told_all (H.held shelf.old) (file.now ∷ []))) }
 {
     let bytes = match read_whole(alloc, shelf, file, MOST_TEXT_BYTES) {
@@ -50,9 +53,11 @@ fn system_of(alloc: Global, bytes: &[u8]) -> Result<System, Stop>
 pub fn report_in<H: Shelf>(alloc: Global, file: &str, shelf: &mut H) -> Result<Vec<u8>, Stop>
     ensures later { H.faults shelf.old ≤ H.faults shelf.new }
     ensures few { IfOk result (λ bytes. length bytes.items ≤ most_report_bytes) }
-    ensures bytes { IfOk result (λ bytes. IfSome (told_all (H.held shelf.old) (file.now ∷ [])) (OfOneFile (λ told. told ≡ bytes.items))) }
+    ensures bytes { IfOk result (λ bytes. IfSome (told_all (H.held shelf.old) (file.now ∷ []))
+        (OfOneFile (λ told. told ≡ bytes.items))) }
     ensures stop { IfErr result (λ stop. StopsReport stop
-        (Rose (H.faults shelf.old) (H.faults shelf.new)) (Rose (H.failures shelf.old) (H.failures shelf.new))
+        (Rose (H.faults shelf.old) (H.faults shelf.new))
+        (Rose (H.failures shelf.old) (H.failures shelf.new))
         (told_all (H.held shelf.old) (file.now ∷ []))) }
 {
     match read_whole(alloc, shelf, file, MOST_REPORT_BYTES) {

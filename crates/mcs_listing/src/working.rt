@@ -13,8 +13,9 @@ use mcs_work::{Task, WorkStop, work};
 use std::alloc::Global;
 use std::sync::Arc;
 
-/// Does the task by an evaluation that the player plays: prints its listing of the system. The nodes come back in every
-/// case, and what the player has shown of the last round, if one was played. The causes of a stop are those of `work`.
+/// Does the task by an evaluation that the player plays: prints its listing of the system. The
+/// nodes come back in every case, and what the player has shown of the last round, if one was
+/// played. The causes of a stop are those of `work`.
 pub fn work_by<P: Player + Drop, K: Sink>(
     alloc: Global,
     beginning: Beginning<P::Over>,
@@ -23,10 +24,13 @@ pub fn work_by<P: Player + Drop, K: Sink>(
     task: Task,
     sink: &mut K,
 ) -> (Result<(), WorkStop>, Parts<P::Over, P::Trail>)
-    requires begins { Begins (arc_value system) (arc_value beginning.plan) beginning.budget (P.Over.seen beginning.nodes) }
+    requires begins { Begins (arc_value system) (arc_value beginning.plan) beginning.budget
+        (P.Over.seen beginning.nodes) }
     requires can { P.can_play player }
-    ensures { HasWorked (P.leaves (P.workers player)) P.plays_last (P.workers player) task (arc_value system) beginning.budget
-        (oracles_of (P.Over.seen beginning.nodes)) (P.Over.seen result.1.nodes) result.1.trail (K.device sink.old) (K.device sink.new) result.0 }
+    ensures { HasWorked (P.leaves (P.workers player)) P.plays_last (P.workers player) task
+        (arc_value system) beginning.budget
+        (oracles_of (P.Over.seen beginning.nodes)) (P.Over.seen result.1.nodes) result.1.trail
+        (K.device sink.old) (K.device sink.new) result.0 }
 {
     let Beginning {
         plan,
@@ -38,8 +42,8 @@ pub fn work_by<P: Player + Drop, K: Sink>(
     (ended, evaluation.into_parts())
 }
 
-/// Does the task on one thread, and waits for nobody. The nodes come back in every case. The causes of a stop are those
-/// of `work`.
+/// Does the task on one thread, and waits for nobody. The nodes come back in every case. The causes
+/// of a stop are those of `work`.
 pub fn work_in_turn<O: Oracle, K: Sink, G: Gate>(
     alloc: Global,
     beginning: Beginning<Nodes<O>>,
@@ -48,8 +52,10 @@ pub fn work_in_turn<O: Oracle, K: Sink, G: Gate>(
     sink: &mut K,
     gate: &G,
 ) -> (Result<(), WorkStop>, Nodes<O>)
-    requires { Begins (arc_value system) (arc_value beginning.plan) beginning.budget beginning.nodes.list.items }
-    ensures { IsWorked 1 task (arc_value system) beginning.budget (oracles_of beginning.nodes.list.items) (oracles_of result.1.list.items)
+    requires { Begins (arc_value system) (arc_value beginning.plan) beginning.budget
+        beginning.nodes.list.items }
+    ensures { IsWorked 1 task (arc_value system) beginning.budget
+        (oracles_of beginning.nodes.list.items) (oracles_of result.1.list.items)
         (K.device sink.old) (K.device sink.new) result.0 }
 {
     let player = TurnPlayer::new(gate);

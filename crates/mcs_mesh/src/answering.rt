@@ -1,4 +1,5 @@
-//! What is told of a system from the nodes of its contexts, once all questions of a level were asked.
+//! What is told of a system from the nodes of its contexts, once all questions of a level were
+//! asked.
 
 ghost use Rattle.std.specs.Prelude.{◌≡◌, ◌≤◌, ℕ, IfOk, Some, length, slice_get};
 ghost use Rattle.mcs_sets.specs.Sets.{size, Within};
@@ -19,9 +20,10 @@ use mcs_node::Node;
 use mcs_states::Oracle;
 use std::alloc::Global;
 
-/// The minimal diagnoses of the plan's system with at most so many marks, in the order of pairs: what `repairs` of an
-/// evaluator answers. The nodes are those of the plan, one for each context, in order, and all are done in one round of
-/// this level or a higher one. Stops only for want of memory.
+/// The minimal diagnoses of the plan's system with at most so many marks, in the order of pairs:
+/// what `repairs` of an evaluator answers. The nodes are those of the plan, one for each context,
+/// in order, and all are done in one round of this level or a higher one. Stops only for want of
+/// memory.
 pub fn repairs_of<O: Oracle>(
     alloc: Global,
     plan: &Plan,
@@ -37,10 +39,10 @@ pub fn repairs_of<O: Oracle>(
     Ok(pairs)
 }
 
-/// The projected equilibria of the plan's system that the pair changes, in the order of states: what `states` of an
-/// evaluator answers. The nodes are those of the plan, one for each context, in order, and all are done in one round
-/// whose level is no less than the number of the pair's marks. Each of the marks is one that a repair of the system may
-/// have. Stops only for want of memory.
+/// The projected equilibria of the plan's system that the pair changes, in the order of states:
+/// what `states` of an evaluator answers. The nodes are those of the plan, one for each context, in
+/// order, and all are done in one round whose level is no less than the number of the pair's marks.
+/// Each of the marks is one that a repair of the system may have. Stops only for want of memory.
 pub fn states_of<O: Oracle>(
     alloc: Global,
     plan: &Plan,
@@ -57,10 +59,11 @@ pub fn states_of<O: Oracle>(
     Ok(states)
 }
 
-/// The level at which all is known of the contexts of nodes that are done in one round: that of the round, or the least
-/// that it may have, if there are no nodes.
+/// The level at which all is known of the contexts of nodes that are done in one round: that of the
+/// round, or the least that it may have, if there are no nodes.
 fn level_known<O: Oracle>(nodes: &[Node<O>], least: u32) -> u32
-    ensures { (m : System) → AreDone m least nodes.now → (least ≤ result) × AreKnown m result (known_to nodes.now) }
+    ensures { (m : System) → AreDone m least nodes.now
+        → (least ≤ result) × AreKnown m result (known_to nodes.now) }
 {
     look_at_each(nodes);
     match nodes {
@@ -78,8 +81,8 @@ fn look_at_each<O: Oracle>(nodes: &[Node<O>])
     }
 }
 
-/// The equilibria of the plan's system that the pair changes, once all questions of a level were asked that is no less
-/// than the number of the pair's marks.
+/// The equilibria of the plan's system that the pair changes, once all questions of a level were
+/// asked that is no less than the number of the pair's marks.
 pub(crate) fn changed_states<N: NodeList>(
     alloc: Global,
     plan: &Plan,

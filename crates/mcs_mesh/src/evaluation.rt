@@ -1,11 +1,13 @@
 //! The evaluator, whoever plays its rounds.
 
-ghost use Rattle.std.specs.Prelude.{◌≡◌, ◌<◌, ℕ, true, false, Some, None, IfOk, IfErr, OnOk, map, length};
+ghost use Rattle.std.specs.Prelude.{◌≡◌, ◌<◌, ℕ, true, false, Some, None, IfOk, IfErr, OnOk, map};
+ghost use Rattle.std.specs.Prelude.{length};
 ghost use Rattle.mcs_states.specs.Evaluators.{KeepsRest, HasDone, HasHalted};
 ghost use Rattle.std.specs.Arc.{arc_value};
 ghost use Rattle.std.specs.Option.{option_copied};
 ghost use Rattle.mcs_mesh.specs.Players.{oracles_of, AreNodesOf};
-ghost use Rattle.mcs_mesh.specs.Rounds.{evaluator_state_of, AreFresh, AreNew, HasLastRound, HasShown, IsHaltOfRound, IsLastRound};
+ghost use Rattle.mcs_mesh.specs.Rounds.{evaluator_state_of, AreFresh, AreNew, HasLastRound};
+ghost use Rattle.mcs_mesh.specs.Rounds.{HasShown, IsHaltOfRound, IsLastRound};
 
 use crate::answering::{changed_first, changed_states};
 use crate::found::{Found, is_reached};
@@ -20,17 +22,20 @@ use std::marker::Model;
 use std::mem;
 use std::sync::Arc;
 
-/// Evaluates a system: a player plays rounds over the nodes of its contexts, in which their oracles are asked the
-/// questions of a level, and for what is asked of it the evaluation makes rows of each and joins these in one final step.
+/// Evaluates a system: a player plays rounds over the nodes of its contexts, in which their oracles
+/// are asked the questions of a level, and for what is asked of it the evaluation makes rows of
+/// each and joins these in one final step.
 ///
-/// It is seen as its evaluator, the level of the last round that was played, if one was, and its nodes.
+/// It is seen as its evaluator, the level of the last round that was played, if one was, and its
+/// nodes.
 #[derive(Drop)]
 pub struct Evaluation<P: Player + Drop> {
     plan: Arc<Plan>,
     pub(crate) player: P,
     pub(crate) nodes: P::Over,
     budget: u64,
-    // The greatest level done. It may be above that of the last round, and has then the same questions and rows.
+    // The greatest level done. It may be above that of the last round, and has then the same
+    // questions and rows.
     done: Option<u32>,
     // The level of the last round that was played, if one was.
     pub(crate) level: Option<u32>,
@@ -47,19 +52,24 @@ pub struct Evaluation<P: Player + Drop> {
 impl<P: Player + Drop> Model for Evaluation<P> {
     ghost use Rattle.std.specs.Prelude.{◌≡◌, ℕ, true, None, Some};
     ghost use Rattle.std.specs.Arc.{arc_value};
-    ghost use Rattle.mcs_mesh.specs.Rounds.{EvaluationData, HasLastRound, HasShown, IsEvaluation, IsHaltOfRound, coded_evaluation, evaluation_of};
+    ghost use Rattle.mcs_mesh.specs.Rounds.{EvaluationData, HasLastRound, HasShown, IsEvaluation};
+    ghost use Rattle.mcs_mesh.specs.Rounds.{IsHaltOfRound, coded_evaluation, evaluation_of};
     ghost use Rattle.mcs_mesh.specs.Found.{AreRepairsFound};
 
     ghost Value = { EvaluationData };
 
     ghost coded = { coded_evaluation };
 
-    ghost view = { λ l. evaluation_of (P.workers l.player) (arc_value l.plan) l.budget l.done l.halt l.replayed l.level (P.Over.seen l.nodes) };
+    ghost view = { λ l. evaluation_of (P.workers l.player)
+        (arc_value l.plan) l.budget l.done l.halt l.replayed l.level (P.Over.seen l.nodes) };
 
-    ghost invariant = { λ l. IsEvaluation (evaluation_of (P.workers l.player) (arc_value l.plan) l.budget l.done l.halt l.replayed l.level (P.Over.seen l.nodes)) l.asked
+    ghost invariant = { λ l. IsEvaluation (evaluation_of (P.workers l.player)
+        (arc_value l.plan) l.budget l.done l.halt l.replayed l.level (P.Over.seen l.nodes)) l.asked
         × AreRepairsFound (arc_value l.plan) l.found.level l.found.pairs.items
         × P.can_play l.player
-        × ((level : ℕ) → l.level ≡ Some level → HasShown (P.leaves (P.workers l.player) (arc_value l.plan) level l.budget (P.Over.seen l.nodes)) l.halt l.trail)
+        × ((level : ℕ) → l.level ≡ Some level → HasShown
+        (P.leaves (P.workers l.player) (arc_value l.plan) level l.budget (P.Over.seen l.nodes))
+        l.halt l.trail)
         × (P.plays_last ≡ true → l.halt ≡ None → HasLastRound (arc_value l.plan) l.done l.level)
         × IsHaltOfRound l.budget l.level l.halt
         × (l.level ≡ None → l.trail ≡ None) };
@@ -73,8 +83,8 @@ pub struct Parts<N, T> {
 }
 
 impl<P: Player + Drop> Evaluation<P> {
-    /// An evaluator of the plan's system within a budget of questions, over new nodes, one for each context, in order,
-    /// of which none was asked. The player plays its rounds.
+    /// An evaluator of the plan's system within a budget of questions, over new nodes, one for each
+    /// context, in order, of which none was asked. The player plays its rounds.
     pub fn played_by(
         alloc: Global,
         plan: Arc<Plan>,
@@ -82,10 +92,12 @@ impl<P: Player + Drop> Evaluation<P> {
         budget: u64,
         player: P,
     ) -> Evaluation<P>
-        requires new { AreNew (arc_value plan) budget (oracles_of (P.Over.seen nodes)) (P.Over.seen nodes) }
+        requires new { AreNew (arc_value plan) budget (oracles_of (P.Over.seen nodes))
+            (P.Over.seen nodes) }
         requires own { AreFresh (arc_value plan) (oracles_of (P.Over.seen nodes)) }
         requires can { P.can_play player }
-        ensures state { result.state ≡ evaluator_state_of (P.workers player) (arc_value plan) budget None None (oracles_of (P.Over.seen nodes)) }
+        ensures state { result.state ≡ evaluator_state_of (P.workers player)
+            (arc_value plan) budget None None (oracles_of (P.Over.seen nodes)) }
         ensures none { result.last ≡ None }
     {
         Evaluation {
@@ -106,8 +118,9 @@ impl<P: Player + Drop> Evaluation<P> {
         }
     }
 
-    /// Does the round of the level, unless it, or that of a greater one, was done, or it has no other questions and
-    /// rows than the greatest one done. That of the last level is played all the same if the player plays this.
+    /// Does the round of the level, unless it, or that of a greater one, was done, or it has no
+    /// other questions and rows than the greatest one done. That of the last level is played all
+    /// the same if the player plays this.
     fn reach(&mut self, alloc: Global, level: u32) -> Result<(), Halt>
         requires { self.old.state.halted ≡ false }
         ensures done { OnOk result (HasDone self.old.state self.new.state level) }
@@ -160,18 +173,22 @@ impl<P: Player + Drop> Evaluation<P> {
         }
     }
 
-    /// The nodes, back, and what the player has shown of the last round, if one was played. Unless the evaluation has
-    /// halted, that round was of the greatest level done, or of one below it with the same questions and rows; where the
-    /// player plays the last level, it was of that level if this was done. A halt other than want of memory is that of
-    /// this round.
+    /// The nodes, back, and what the player has shown of the last round, if one was played. Unless
+    /// the evaluation has halted, that round was of the greatest level done, or of one below it
+    /// with the same questions and rows; where the player plays the last level, it was of that
+    /// level if this was done. A halt other than want of memory is that of this round.
     pub fn into_parts(self) -> Parts<P::Over, P::Trail>
         ensures nodes { P.Over.seen result.nodes ≡ self.nodes }
         ensures oracles { self.state.oracles ≡ oracles_of (P.Over.seen result.nodes) }
         ensures own { AreNodesOf self.state.system self.state.budget (P.Over.seen result.nodes) }
-        ensures shown { (level : ℕ) → self.last ≡ Some level → HasShown (P.leaves self.state.workers self.state.system level self.state.budget self.nodes) self.state.halt result.trail }
+        ensures shown { (level : ℕ) → self.last ≡ Some level
+            → HasShown (P.leaves self.state.workers self.state.system level self.state.budget
+            self.nodes) self.state.halt result.trail }
         ensures unshown { self.last ≡ None → result.trail ≡ None }
-        ensures last { self.state.halted ≡ false → IsLastRound self.state.system self.last self.state.done }
-        ensures reaches { P.plays_last ≡ true → self.state.halted ≡ false → HasLastRound self.state.system self.state.done self.last }
+        ensures last { self.state.halted ≡ false
+            → IsLastRound self.state.system self.last self.state.done }
+        ensures reaches { P.plays_last ≡ true → self.state.halted ≡ false
+            → HasLastRound self.state.system self.state.done self.last }
         ensures halt { IsHaltOfRound self.state.budget self.last self.state.halt }
     {
         let Evaluation { nodes, trail, .. } = self;
@@ -180,7 +197,9 @@ impl<P: Player + Drop> Evaluation<P> {
 
     /// What the player has shown of the last round, if one was played.
     pub fn trail(&self) -> Option<&P::Trail>
-        ensures shown { (level : ℕ) → self.now.last ≡ Some level → HasShown (P.leaves self.now.state.workers self.now.state.system level self.now.state.budget self.now.nodes) self.now.state.halt (option_copied result) }
+        ensures shown { (level : ℕ) → self.now.last ≡ Some level
+            → HasShown (P.leaves self.now.state.workers self.now.state.system level
+            self.now.state.budget self.now.nodes) self.now.state.halt (option_copied result) }
         ensures unshown { self.now.last ≡ None → option_copied result ≡ None }
     {
         self.trail.as_ref()

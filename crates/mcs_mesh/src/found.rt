@@ -19,7 +19,8 @@ use std::alloc::Global;
 /// So many of the minimal diagnoses that are known are looked for at most in the marks of each row.
 const MOST_LOOKED_FOR: usize = 128;
 
-/// The minimal diagnoses with at most so many marks, in the order of pairs; none where no level is told.
+/// The minimal diagnoses with at most so many marks, in the order of pairs; none where no level is
+/// told.
 #[derive(Drop)]
 pub(crate) struct Found {
     pub level: Option<u32>,
@@ -38,8 +39,9 @@ pub(crate) fn is_reached(done: Option<u32>, level: u32) -> bool
 }
 
 impl Found {
-    /// The minimal diagnoses with at most so many marks, in the order of pairs: those that were found before, where
-    /// these are all. All questions of the level `done`, which is no less, were asked.
+    /// The minimal diagnoses with at most so many marks, in the order of pairs: those that were
+    /// found before, where these are all. All questions of the level `done`, which is no less, were
+    /// asked.
     pub(crate) fn repairs<N: NodeList>(
         &mut self,
         alloc: Global,
@@ -62,8 +64,8 @@ impl Found {
         Ok(few)
     }
 
-    /// Finds the minimal diagnoses with at most so many marks, or more of them at once. Those that were found
-    /// before have no more, and are not found anew.
+    /// Finds the minimal diagnoses with at most so many marks, or more of them at once. Those that
+    /// were found before have no more, and are not found anew.
     fn find<N: NodeList>(
         &mut self,
         alloc: Global,
@@ -93,7 +95,8 @@ impl Found {
 /// Those of the sets of marks that have at most so many.
 fn few_of(alloc: Global, pairs: &[Marks], level: u32) -> Result<Vec<Marks>, Memory>
     requires { IsAscending PairBefore pairs.now }
-    ensures { IfOk result (λ few. IsListing (λ p. IsAmong p pairs.now × (size p ≤ level)) PairBefore few.items) }
+    ensures { IfOk result (λ few. IsListing (λ p. IsAmong p pairs.now × (size p ≤ level))
+        PairBefore few.items) }
 {
     let mut few = Vec::new(alloc);
     for marks in pairs {

@@ -15,8 +15,8 @@ fn changeable(system: &System) -> Active
     allowed.removed().union(allowed.forced())
 }
 
-/// Whether no context has more than so many rules into it that a repair may change: each higher level has then the
-/// same questions, and the contexts have the same rows.
+/// Whether no context has more than so many rules into it that a repair may change: each higher
+/// level has then the same questions, and the contexts have the same rows.
 pub(crate) fn has_few_rules(system: &System, level: u32) -> bool
     ensures { IsTrue result → HasFewRules system.now level }
 {
@@ -29,7 +29,8 @@ pub(crate) fn has_few_rules(system: &System, level: u32) -> bool
     true
 }
 
-/// Whether a level was done, and each level above the greatest one done has the same questions and rows.
+/// Whether a level was done, and each level above the greatest one done has the same questions and
+/// rows.
 fn is_all_done(system: &System, done: Option<u32>) -> bool
     ensures { IsTrue result → (d : ℕ) × (done ≡ Some d) × HasFewRules system.now d }
 {
@@ -39,8 +40,9 @@ fn is_all_done(system: &System, done: Option<u32>) -> bool
     }
 }
 
-/// Whether the round of the level is left out: it has the same questions and rows as that of the greatest level done.
-/// The player has that of the last level played all the same, if it plays this.
+/// Whether the round of the level is left out: it has the same questions and rows as that of the
+/// greatest level done. The player has that of the last level played all the same, if it plays
+/// this.
 pub(crate) fn is_left_out<P: Player>(system: &System, done: Option<u32>, level: u32) -> bool
     ensures done { result ≡ true → (d : ℕ) × (done ≡ Some d) × HasFewRules system.now d }
     ensures last { result ≡ true → P.plays_last ≡ true → ¬ (level ≡ length system.now.bridges) }
@@ -51,9 +53,9 @@ pub(crate) fn is_left_out<P: Player>(system: &System, done: Option<u32>, level: 
     is_all_done(system, done)
 }
 
-/// Up to which level repairs are searched for when this one is asked for. If each level above it has the same rows, it
-/// is twice this level, so that few levels need a final step of their own. If no repair has more marks, it is the
-/// highest level there is.
+/// Up to which level repairs are searched for when this one is asked for. If each level above it
+/// has the same rows, it is twice this level, so that few levels need a final step of their own. If
+/// no repair has more marks, it is the highest level there is.
 pub(crate) fn level_ahead(system: &System, level: u32) -> u32
     ensures no_less { level ≤ result }
     ensures above { level < result → HasFewRules system.now level }

@@ -2,14 +2,15 @@
 
 ghost use Rattle.std.specs.Prelude.{◌≡◌, IfErr, OnErr, OnOk, map};
 ghost use Rattle.mcs_states.specs.declared.halt.Halt.TheVariants as halts;
-ghost use Rattle.mcs_mesh.specs.Players.{AreDelivered, AreExpected, AreSomeDelivered, IsDelivered, IsExpected, IsTakenIn, as_new};
+ghost use Rattle.mcs_mesh.specs.Players.{AreDelivered, AreExpected, AreSomeDelivered, IsDelivered};
+ghost use Rattle.mcs_mesh.specs.Players.{IsExpected, IsTakenIn, as_new};
 
 use mcs_node::{Letter, Node};
 use mcs_states::{Halt, Oracle};
 use std::alloc::Global;
 
-/// Delivers the letters that the node of context `i` has put out, which are supplies for which their addressees wait.
-/// Want of memory stops an addressee.
+/// Delivers the letters that the node of context `i` has put out, which are supplies for which
+/// their addressees wait. Want of memory stops an addressee.
 pub(crate) fn deliver_all<O: Oracle>(
     alloc: Global,
     i: u32,

@@ -1,5 +1,5 @@
-//! The evaluation of a system: rounds of questions to its contexts, which a player plays, and one final step. The player
-//! of this crate takes one context after the other on one thread.
+//! The evaluation of a system: rounds of questions to its contexts, which a player plays, and one
+//! final step. The player of this crate takes one context after the other on one thread.
 #![tactic(auto)]
 
 mod answering;

@@ -12,8 +12,8 @@ use mcs_states::Oracle;
 use std::alloc::Global;
 use std::sync::Arc;
 
-/// A node for each context of the plan's system, within a budget of questions, with these oracles, in order, of which
-/// none was asked.
+/// A node for each context of the plan's system, within a budget of questions, with these oracles,
+/// in order, of which none was asked.
 pub fn nodes_of<O: Oracle>(
     alloc: Global,
     plan: &Arc<Plan>,
@@ -22,7 +22,8 @@ pub fn nodes_of<O: Oracle>(
 ) -> Result<Vec<Node<O>>, Memory>
     requires one_each { length oracles.items ≡ length (arc_value plan.now).contexts }
     requires own { AreFresh (arc_value plan.now) (map O.stands oracles.items) }
-    ensures { IfOk result (λ nodes. AreNew (arc_value plan.now) budget (map O.stands oracles.items) nodes.items) }
+    ensures { IfOk result (λ nodes. AreNew (arc_value plan.now) budget
+        (map O.stands oracles.items) nodes.items) }
 {
     let mut nodes = Vec::with_capacity(alloc, plan.system().contexts().len())?;
     for oracle in oracles {

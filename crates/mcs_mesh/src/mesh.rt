@@ -16,13 +16,14 @@ use mcs_states::Oracle;
 use std::alloc::Global;
 use std::sync::Arc;
 
-/// Evaluates a system on one thread: it asks each context, through its oracle and in import order, its questions of a
-/// level, and for what is asked of it makes rows of each and joins these in one final step. It waits for nobody.
+/// Evaluates a system on one thread: it asks each context, through its oracle and in import order,
+/// its questions of a level, and for what is asked of it makes rows of each and joins these in one
+/// final step. It waits for nobody.
 pub type Mesh<'a, O, G> = Evaluation<TurnPlayer<'a, O, G>>;
 
 impl<'a, O: Oracle, G: Gate> Mesh<'a, O, G> {
-    /// An evaluator of the plan's system within a budget of questions, with one oracle for each context, in order, of
-    /// which none was asked. The gate is called before each question.
+    /// An evaluator of the plan's system within a budget of questions, with one oracle for each
+    /// context, in order, of which none was asked. The gate is called before each question.
     pub fn new(
         alloc: Global,
         plan: Arc<Plan>,
@@ -32,7 +33,8 @@ impl<'a, O: Oracle, G: Gate> Mesh<'a, O, G> {
     ) -> Result<Mesh<'a, O, G>, Memory>
         requires one_each { length oracles.items ≡ length (arc_value plan).contexts }
         requires own { AreFresh (arc_value plan) (map O.stands oracles.items) }
-        ensures state { IfOk result (λ mesh. mesh.state ≡ evaluator_state_of 1 (arc_value plan) budget None None (map O.stands oracles.items)) }
+        ensures state { IfOk result (λ mesh. mesh.state
+            ≡ evaluator_state_of 1 (arc_value plan) budget None None (map O.stands oracles.items)) }
         ensures none { IfOk result (λ mesh. mesh.last ≡ None) }
     {
         let list = nodes_of(alloc, &plan, budget, oracles)?;
@@ -40,8 +42,9 @@ impl<'a, O: Oracle, G: Gate> Mesh<'a, O, G> {
         Ok(Evaluation::played_by(alloc, plan, Nodes { list }, budget, player))
     }
 
-    /// The nodes of the contexts, in order, as the last round has left them. They make a sound configuration of it,
-    /// whatever has stopped it. Unless the evaluator has halted, each of them is done, and nothing is left to happen.
+    /// The nodes of the contexts, in order, as the last round has left them. They make a sound
+    /// configuration of it, whatever has stopped it. Unless the evaluator has halted, each of them
+    /// is done, and nothing is left to happen.
     pub fn nodes(&self) -> &[Node<O>]
         ensures nodes { result.now ≡ self.now.nodes }
         ensures round { (level : ℕ) → self.now.last ≡ Some level → IsLastRoundOf self.now level }

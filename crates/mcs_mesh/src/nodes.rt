@@ -18,8 +18,9 @@ use mcs_states::Oracle;
 use mcs_table::Table;
 use std::alloc::Global;
 
-/// The nodes of all contexts, in order: what a player plays rounds over, and what an evaluation takes the tables of the
-/// final steps from. An evaluation and its player need not know of what oracles they are.
+/// The nodes of all contexts, in order: what a player plays rounds over, and what an evaluation
+/// takes the tables of the final steps from. An evaluation and its player need not know of what
+/// oracles they are.
 pub trait NodeList: Drop {
     /// The oracles of the nodes.
     type Of: Oracle;
@@ -30,9 +31,9 @@ pub trait NodeList: Drop {
     /// No nodes.
     fn none(alloc: Global) -> Self;
 
-    /// A table for each context, in some order, once all questions of the level were asked. It has the minimal ones of
-    /// the local rows whose marks contain none of the pairs, at least those that are compatible with a row of each
-    /// table before. Stops only for want of memory.
+    /// A table for each context, in some order, once all questions of the level were asked. It has
+    /// the minimal ones of the local rows whose marks contain none of the pairs, at least those
+    /// that are compatible with a row of each table before. Stops only for want of memory.
     fn minimal_tables(
         &self,
         alloc: Global,
@@ -44,18 +45,21 @@ pub trait NodeList: Drop {
         requires known { AreKnown plan.now level (known_to (seen self.now)) }
         ensures { IfOk result (λ tables. AreFittingTables plan.now level pairs.now tables.items) };
 
-    /// Of the local rows of each context those whose marks are the ones that the pair makes of their state, once all
-    /// questions of a level were asked that is no less than the number of the pair's marks. Stops only for want of
-    /// memory.
+    /// Of the local rows of each context those whose marks are the ones that the pair makes of
+    /// their state, once all questions of a level were asked that is no less than the number of the
+    /// pair's marks. Stops only for want of memory.
     fn changed_tables(&self, alloc: Global, plan: &Plan, pair: Pair) -> Result<Vec<Table>, Memory>
         requires one_each { length (seen self.now) ≡ length plan.now.contexts }
-        requires known { (k : ℕ) × (size pair ≤ k) × AreKnown plan.now k (known_to (seen self.now)) }
+        requires known { (k : ℕ) × (size pair ≤ k)
+            × AreKnown plan.now k (known_to (seen self.now)) }
         requires allowed { Within pair (allowed_marks plan.now) }
-        ensures { IfOk result (λ tables. (k : ℕ) × (size pair ≤ k) × AreChangedAt plan.now k pair tables.items) };
+        ensures { IfOk result (λ tables. (k : ℕ) × (size pair ≤ k)
+            × AreChangedAt plan.now k pair tables.items) };
 
     /// The oracles of the nodes, in order. Stops only for want of memory.
     fn into_oracles(self) -> Result<Vec<Self::Of>, Memory>
-        ensures { IfOk result (λ oracles. map Self.Of.stands oracles.items ≡ oracles_of (seen self)) };
+        ensures { IfOk result (λ oracles. map Self.Of.stands oracles.items
+            ≡ oracles_of (seen self)) };
 }
 
 /// The nodes of all contexts, in order, and nothing besides.

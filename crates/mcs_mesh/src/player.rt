@@ -26,8 +26,8 @@ pub struct Round<N> {
     pub nodes: N,
 }
 
-/// What is left of a round: all nodes, the number of all questions of its level, or why it stopped, and what the player
-/// shows of it besides.
+/// What is left of a round: all nodes, the number of all questions of its level, or why it stopped,
+/// and what the player shows of it besides.
 #[derive(Drop)]
 pub struct Played<N, T> {
     pub nodes: N,
@@ -45,8 +45,8 @@ pub trait Player {
     /// How many workers play.
     ghost workers: { Self → ℕ };
 
-    /// Whether the round of the last level, which is the number of the rules, is played even where it has no other
-    /// questions than one before.
+    /// Whether the round of the last level, which is the number of the rules, is played even where
+    /// it has no other questions than one before.
     ghost plays_last: { Bool };
 
     /// Whether it is.
@@ -56,19 +56,23 @@ pub trait Player {
     /// That it can play, and plays as is said of `play`.
     ghost can_play: { Self → Type 0 };
 
-    /// What holds of the nodes that a round of the system leaves, played by so many workers, of this level and within
-    /// this budget, with this total or halt, and of what is shown besides.
+    /// What holds of the nodes that a round of the system leaves, played by so many workers, of
+    /// this level and within this budget, with this total or halt, and of what is shown besides.
     ghost leaves: { ℕ → System → ℕ → ℕ → List NodeData → Result ℕ Halt → Self.Trail → Type 0 };
 
-    /// Plays the round: lets each node have the supplies that it needs, and be asked the questions of the level that
-    /// were not asked before. All nodes come back in every case, and of their oracles nothing but the journals ever
-    /// changes. Where no halt comes back each node has finished the round, and the total is the number of all questions
-    /// of the level, which is within the budget. `Spent` comes back only if the level has more questions than the
-    /// budget, `Missing` only if an oracle lacks the answer to a question of the level. `Memory` may come back in place
-    /// of any other answer. The nodes can't be played any more after a halt.
+    /// Plays the round: lets each node have the supplies that it needs, and be asked the questions
+    /// of the level that were not asked before. All nodes come back in every case, and of their
+    /// oracles nothing but the journals ever changes. Where no halt comes back each node has
+    /// finished the round, and the total is the number of all questions of the level, which is
+    /// within the budget. `Spent` comes back only if the level has more questions than the budget,
+    /// `Missing` only if an oracle lacks the answer to a question of the level. `Memory` may come
+    /// back in place of any other answer. The nodes can't be played any more after a halt.
     fn play(&self, alloc: Global, round: Round<Self::Over>) -> Played<Self::Over, Self::Trail>
         requires can { can_play self.now }
-        requires ready { IsReadyRound (arc_value round.plan) round.level round.budget round.asked (Self.Over.seen round.nodes) }
-        ensures played { IsPlayed (arc_value round.plan) round.level round.budget (Self.Over.seen round.nodes) (Self.Over.seen result.nodes) result.total }
-        ensures left { leaves (workers self.now) (arc_value round.plan) round.level round.budget (Self.Over.seen result.nodes) result.total result.trail };
+        requires ready { IsReadyRound (arc_value round.plan) round.level round.budget round.asked
+            (Self.Over.seen round.nodes) }
+        ensures played { IsPlayed (arc_value round.plan) round.level round.budget
+            (Self.Over.seen round.nodes) (Self.Over.seen result.nodes) result.total }
+        ensures left { leaves (workers self.now) (arc_value round.plan) round.level round.budget
+            (Self.Over.seen result.nodes) result.total result.trail };
 }

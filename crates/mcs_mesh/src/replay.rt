@@ -1,6 +1,7 @@
 //! Replays: events of a round over the nodes of all contexts, in any order.
 
-ghost use Rattle.std.specs.Prelude.{◌≡◌, ◌+◌, ◌<◌, ◌^◌, ◌↔◌, ℕ, List, None, Some, cond, false, true, IfOk, IsTrue, OnOk, map};
+ghost use Rattle.std.specs.Prelude.{◌≡◌, ◌+◌, ◌<◌, ◌^◌, ◌↔◌, ℕ, List, None, Some, cond, false};
+ghost use Rattle.std.specs.Prelude.{true, IfOk, IsTrue, OnOk, map};
 ghost use Rattle.mcs_system.specs.Plain.{System};
 ghost use Rattle.mcs_states.specs.Evaluators.{KeepsRest};
 ghost use Rattle.mcs_states.specs.Oracles.{OracleState};
@@ -9,7 +10,9 @@ ghost use Rattle.mcs_node.specs.Letters.{LetterData};
 ghost use Rattle.mcs_node.specs.Replay.{is_ignored, is_skipped};
 ghost use Rattle.mcs_mesh.specs.Players.{as_new};
 ghost use Rattle.mcs_mesh.specs.Rounds.{AreNew};
-ghost use Rattle.mcs_mesh.specs.Replays.{AreAllDone, AreOfRound, AreToldOf, Begins, GoesOn, Grants, IsHandedOut, IsOfRound, LeavesReplay, Receives, TellsLowest, course, outcome_of};
+ghost use Rattle.mcs_mesh.specs.Replays.{AreAllDone, AreOfRound, AreToldOf, Begins, GoesOn, Grants};
+ghost use Rattle.mcs_mesh.specs.Replays.{IsHandedOut, IsOfRound, LeavesReplay, Receives};
+ghost use Rattle.mcs_mesh.specs.Replays.{TellsLowest, course, outcome_of};
 
 use crate::mesh::Mesh;
 use crate::turns::counted;
@@ -57,8 +60,10 @@ impl Counts {
     fn with(self, outcome: Outcome) -> Counts
         requires ignored { self.ignored + 1 < 2 ^ 64 }
         requires skipped { self.skipped + 1 < 2 ^ 64 }
-        ensures ignored { result.ignored ≡ self.ignored + cond (is_ignored (outcome_of outcome)) 1 0 }
-        ensures skipped { result.skipped ≡ self.skipped + cond (is_skipped (outcome_of outcome)) 1 0 }
+        ensures ignored { result.ignored
+            ≡ self.ignored + cond (is_ignored (outcome_of outcome)) 1 0 }
+        ensures skipped { result.skipped
+            ≡ self.skipped + cond (is_skipped (outcome_of outcome)) 1 0 }
     {
         let Counts { ignored, skipped } = self;
         match outcome {
@@ -75,10 +80,11 @@ impl Counts {
     }
 }
 
-/// Does the events, one after the other, over the nodes of all contexts, to which nothing has happened, and tells what
-/// came of them. An event that is not possible is skipped. A delivery brings a copy of the letter that was put out as
-/// number so many, counted from 0. A node is granted its need on top of the needs that were granted so far, and the
-/// asker asks its questions. After want of memory nothing is known of the round.
+/// Does the events, one after the other, over the nodes of all contexts, to which nothing has
+/// happened, and tells what came of them. An event that is not possible is skipped. A delivery
+/// brings a copy of the letter that was put out as number so many, counted from 0. A node is
+/// granted its need on top of the needs that were granted so far, and the asker asks its questions.
+/// After want of memory nothing is known of the round.
 pub(crate) fn replay_events<A: Asker>(
     alloc: Global,
     level: u32,
@@ -87,8 +93,11 @@ pub(crate) fn replay_events<A: Asker>(
     events: &[Event],
 ) -> Result<Replay, Memory>
     requires asks { A.asks asker.now }
-    requires new { (m : System) × (budget : ℕ) × (oracles : List OracleState) × AreNew m budget oracles nodes.old }
-    ensures replayed { (m : System) (budget : ℕ) (oracles : List OracleState) → AreNew m budget oracles nodes.old → IfOk result (λ told. LeavesReplay m budget level events.now nodes.new told) }
+    requires new { (m : System) × (budget : ℕ) × (oracles : List OracleState)
+        × AreNew m budget oracles nodes.old }
+    ensures replayed { (m : System) (budget : ℕ) (oracles : List OracleState)
+        → AreNew m budget oracles nodes.old
+        → IfOk result (λ told. LeavesReplay m budget level events.now nodes.new told) }
     ensures same { map as_new nodes.new ≡ map as_new nodes.old }
 {
     let mut letters = Vec::new(alloc);
@@ -116,7 +125,9 @@ fn step<A: Asker>(
 ) -> Result<Outcome, Memory>
     requires of_round { AreOfRound level nodes.old }
     requires asks { A.asks asker.now }
-    ensures goes { IfOk result (λ outcome. GoesOn level event (outcome_of outcome) (course nodes.old letters.old.items total.old) (course nodes.new letters.new.items total.new)) }
+    ensures goes { IfOk result (λ outcome. GoesOn level event (outcome_of outcome)
+        (course nodes.old letters.old.items total.old)
+        (course nodes.new letters.new.items total.new)) }
     ensures same { map as_new nodes.new ≡ map as_new nodes.old }
 {
     match event {
@@ -134,7 +145,9 @@ fn begin_at<O: Oracle>(
     i: u32,
 ) -> Result<Outcome, Memory>
     requires { AreOfRound level nodes.old }
-    ensures goes { IfOk result (λ outcome. (letters : List LetterData) (total : ℕ) → GoesOn level (events.Begin i) (outcome_of outcome) (course nodes.old letters total) (course nodes.new letters total)) }
+    ensures goes { IfOk result (λ outcome. (letters : List LetterData) (total : ℕ)
+        → GoesOn level (events.Begin i) (outcome_of outcome) (course nodes.old letters total)
+        (course nodes.new letters total)) }
     ensures same { map as_new nodes.new ≡ map as_new nodes.old }
 {
     let here = i as usize;
@@ -157,8 +170,8 @@ fn begin_node<O: Oracle>(alloc: Global, level: u32, node: &mut Node<O>) -> Resul
     Ok(Outcome::Taken)
 }
 
-/// The node of context `i` is granted its need on top of the total; skipped where there is none, or it does not wait
-/// for its grant.
+/// The node of context `i` is granted its need on top of the total; skipped where there is none, or
+/// it does not wait for its grant.
 fn grant_at<A: Asker>(
     alloc: Global,
     nodes: &mut [Node<A::Of>],
@@ -168,7 +181,10 @@ fn grant_at<A: Asker>(
     i: u32,
 ) -> Result<Outcome, Memory>
     requires { A.asks asker.now }
-    ensures goes { IfOk result (λ outcome. (level : ℕ) → GoesOn level (events.Grant i) (outcome_of outcome) (course nodes.old letters.old.items total.old) (course nodes.new letters.new.items total.new)) }
+    ensures goes { IfOk result (λ outcome. (level : ℕ)
+        → GoesOn level (events.Grant i) (outcome_of outcome)
+        (course nodes.old letters.old.items total.old)
+        (course nodes.new letters.new.items total.new)) }
     ensures same { map as_new nodes.new ≡ map as_new nodes.old }
 {
     let place = i as usize;
@@ -178,7 +194,8 @@ fn grant_at<A: Asker>(
     grant_node(alloc, &mut nodes[place], asker, letters, total)
 }
 
-/// Grants the node its need on top of the total, where it waits for its grant, and hands out what it puts out.
+/// Grants the node its need on top of the total, where it waits for its grant, and hands out what
+/// it puts out.
 fn grant_node<A: Asker>(
     alloc: Global,
     node: &mut Node<A::Of>,
@@ -187,7 +204,8 @@ fn grant_node<A: Asker>(
     total: &mut u64,
 ) -> Result<Outcome, Memory>
     requires { A.asks asker.now }
-    ensures grants { IfOk result (λ outcome. Grants node.old node.new letters.old.items letters.new.items total.old total.new (outcome_of outcome)) }
+    ensures grants { IfOk result (λ outcome. Grants node.old node.new letters.old.items
+        letters.new.items total.old total.new (outcome_of outcome)) }
     ensures same { as_new node.new ≡ as_new node.old }
 {
     let Some(need) = node.needs() else {
@@ -200,15 +218,17 @@ fn grant_node<A: Asker>(
     Ok(Outcome::Taken)
 }
 
-/// A copy of the letter that was put out as number `n` comes to its addressee; skipped where there is none, ignored
-/// where the letter is not taken.
+/// A copy of the letter that was put out as number `n` comes to its addressee; skipped where there
+/// is none, ignored where the letter is not taken.
 fn deliver<O: Oracle>(
     alloc: Global,
     nodes: &mut [Node<O>],
     letters: &mut Vec<Letter>,
     n: u32,
 ) -> Result<Outcome, Memory>
-    ensures goes { IfOk result (λ outcome. (level total : ℕ) → GoesOn level (events.Deliver n) (outcome_of outcome) (course nodes.old letters.old.items total) (course nodes.new letters.new.items total)) }
+    ensures goes { IfOk result (λ outcome. (level total : ℕ)
+        → GoesOn level (events.Deliver n) (outcome_of outcome)
+        (course nodes.old letters.old.items total) (course nodes.new letters.new.items total)) }
     ensures same { map as_new nodes.new ≡ map as_new nodes.old }
 {
     let Some(letter) = letters.get(n as usize) else {
@@ -229,7 +249,8 @@ fn receive<O: Oracle>(
     letter: Letter,
     letters: &mut Vec<Letter>,
 ) -> Result<Outcome, Memory>
-    ensures receives { IfOk result (λ outcome. Receives letter node.old node.new letters.old.items letters.new.items (outcome_of outcome)) }
+    ensures receives { IfOk result (λ outcome. Receives letter node.old node.new letters.old.items
+        letters.new.items (outcome_of outcome)) }
     ensures same { as_new node.new ≡ as_new node.old }
 {
     match node.handle(alloc, letter) {
@@ -300,15 +321,18 @@ fn lowest_halt<O: Oracle>(nodes: &[Node<O>]) -> Option<Halt>
 }
 
 impl<'a, O: Oracle, G: Gate> Mesh<'a, O, G> {
-    /// Does the events of a round of the level, one after the other, over the nodes of the contexts, and tells what
-    /// came of them. An event that is not possible is skipped; a delivery brings a copy of the letter that was put out
-    /// as number so many, counted from 0. So a round in which the letters come in any order can be played, and looked
-    /// at (`nodes`). No round was played before. Afterwards the evaluator can be asked no more, as after a halt; want
-    /// of memory leaves it so too.
+    /// Does the events of a round of the level, one after the other, over the nodes of the
+    /// contexts, and tells what came of them. An event that is not possible is skipped; a delivery
+    /// brings a copy of the letter that was put out as number so many, counted from 0. So a round
+    /// in which the letters come in any order can be played, and looked at (`nodes`). No round was
+    /// played before. Afterwards the evaluator can be asked no more, as after a halt; want of
+    /// memory leaves it so too.
     pub fn replay(&mut self, alloc: Global, level: u32, events: &[Event]) -> Result<Replay, Memory>
         requires going { self.old.state.halted ≡ false }
         requires first { self.old.last ≡ None }
-        ensures replayed { IfOk result (λ told. (self.new.last ≡ Some level) × LeavesReplay self.old.state.system self.old.state.budget level events.now self.new.nodes told) }
+        ensures replayed { IfOk result (λ told. (self.new.last ≡ Some level)
+            × LeavesReplay self.old.state.system self.old.state.budget level events.now
+            self.new.nodes told) }
         ensures halted { self.new.state.halted ≡ true }
         ensures rest { KeepsRest self.old.state self.new.state }
     {

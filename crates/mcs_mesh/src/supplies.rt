@@ -21,7 +21,8 @@ pub(crate) fn supplies_for<O: Oracle>(
     requires in_range { i < length plan.now.contexts }
     requires one_each { length nodes.now ≡ length plan.now.contexts }
     ensures { IfOk result (λ told. (order : List ℕ) → IsImportOrder plan.now order
-        → map (λ supply. supply.items) told.items ≡ supplies_at (known_to nodes.now) (supplied plan.now order i)) }
+        → map (λ supply. supply.items) told.items
+        ≡ supplies_at (known_to nodes.now) (supplied plan.now order i)) }
 {
     let mut told = Vec::new(alloc);
     for j in plan.supplied(i) {

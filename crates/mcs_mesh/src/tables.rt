@@ -19,7 +19,8 @@ use mcs_states::Oracle;
 use mcs_table::Table;
 use std::alloc::Global;
 
-/// How many rows the table of context `i` may come to, as far as the number of its answers and of its inputs tells.
+/// How many rows the table of context `i` may come to, as far as the number of its answers and of
+/// its inputs tells.
 fn most_rows<O: Oracle>(plan: &Plan, i: u32, nodes: &[Node<O>]) -> u64
     requires in_range { i < length plan.now.contexts }
     requires one_each { length nodes.now ≡ length plan.now.contexts }
@@ -49,16 +50,17 @@ fn all_contexts(alloc: Global, plan: &Plan) -> Result<Vec<u32>, Memory>
     Ok(all)
 }
 
-/// All contexts, in the order in which their tables are made. Those of few rows come first, since a later table needs no
-/// row that is compatible with none of an earlier one. Of two that may have equally many, the one that is first in the
-/// import order comes first.
+/// All contexts, in the order in which their tables are made. Those of few rows come first, since a
+/// later table needs no row that is compatible with none of an earlier one. Of two that may have
+/// equally many, the one that is first in the import order comes first.
 fn order_of_making<O: Oracle>(
     alloc: Global,
     plan: &Plan,
     nodes: &[Node<O>],
 ) -> Result<Vec<u32>, Memory>
     requires { length nodes.now ≡ length plan.now.contexts }
-    ensures { IfOk result (λ order. IsPermutation (range_with_len 0 (length plan.now.contexts)) order.items) }
+    ensures { IfOk result (λ order. IsPermutation
+        (range_with_len 0 (length plan.now.contexts)) order.items) }
 {
     let sizes = sizes(alloc, plan, nodes)?;
     let mut order = all_contexts(alloc, plan)?;
@@ -69,8 +71,9 @@ fn order_of_making<O: Oracle>(
     Ok(order)
 }
 
-/// A table for each context, in some order, once all questions of the level were asked. It has the minimal ones of the
-/// local rows whose marks contain none of the pairs, at least those that are compatible with a row of each table before.
+/// A table for each context, in some order, once all questions of the level were asked. It has the
+/// minimal ones of the local rows whose marks contain none of the pairs, at least those that are
+/// compatible with a row of each table before.
 pub(crate) fn minimal_tables<O: Oracle>(
     alloc: Global,
     plan: &Plan,
@@ -102,8 +105,9 @@ pub(crate) fn minimal_tables<O: Oracle>(
     Ok(tables)
 }
 
-/// Of the local rows of each context those whose marks are the ones that the pair makes of their state, once all
-/// questions of a level were asked that is no less than the number of the pair's marks.
+/// Of the local rows of each context those whose marks are the ones that the pair makes of their
+/// state, once all questions of a level were asked that is no less than the number of the pair's
+/// marks.
 pub(crate) fn changed_tables<O: Oracle>(
     alloc: Global,
     plan: &Plan,
@@ -113,7 +117,8 @@ pub(crate) fn changed_tables<O: Oracle>(
     requires one_each { length nodes.now ≡ length plan.now.contexts }
     requires known { (k : ℕ) × (size pair ≤ k) × AreKnown plan.now k (known_to nodes.now) }
     requires allowed { Within pair (allowed_marks plan.now) }
-    ensures { IfOk result (λ tables. (k : ℕ) × (size pair ≤ k) × AreChangedAt plan.now k pair tables.items) }
+    ensures { IfOk result (λ tables. (k : ℕ) × (size pair ≤ k)
+        × AreChangedAt plan.now k pair tables.items) }
 {
     let mut tables = Vec::new(alloc);
     for i in 0..plan.system().contexts().len() as u32 {

@@ -1,10 +1,12 @@
 //! Rounds that are played on one thread, one context after the other.
 
-ghost use Rattle.std.specs.Prelude.{◌≡◌, ◌+◌, ◌≤◌, ◌^◌, ◌⊎◌, ℕ, IfErr, IfOk, OnErr, OnOk, false, map};
+ghost use Rattle.std.specs.Prelude.{◌≡◌, ◌+◌, ◌≤◌, ◌^◌, ◌⊎◌, ℕ, IfErr, IfOk, OnErr, OnOk, false};
+ghost use Rattle.std.specs.Prelude.{map};
 ghost use Rattle.std.specs.Arc.{arc_value};
 ghost use Rattle.std.specs.List.{AllByRecursion};
 ghost use Rattle.mcs_node.specs.Nodes.{WaitsForGrant, begun_at};
-ghost use Rattle.mcs_mesh.specs.Players.{CanBegin, FinishesOn, HasGrantCause, HasStoppedOn, HaveBegunSome, IsPlayed, IsReadyRound, as_new};
+ghost use Rattle.mcs_mesh.specs.Players.{CanBegin, FinishesOn, HasGrantCause, HasStoppedOn};
+ghost use Rattle.mcs_mesh.specs.Players.{HaveBegunSome, IsPlayed, IsReadyRound, as_new};
 ghost use Rattle.mcs_mesh.specs.Rounds.{IsSoundRound};
 
 use crate::letters::deliver_all;
@@ -17,9 +19,9 @@ use mcs_ports::Gate;
 use mcs_states::{Halt, Oracle};
 use std::alloc::Global;
 
-/// Plays rounds on one thread: all nodes begin, then each is granted its total in the import order, and the letters that
-/// it puts out are delivered at once, so that a node has every supply when it is granted. The gate is called before each
-/// question. It waits for nobody.
+/// Plays rounds on one thread: all nodes begin, then each is granted its total in the import order,
+/// and the letters that it puts out are delivered at once, so that a node has every supply when it
+/// is granted. The gate is called before each question. It waits for nobody.
 ///
 /// Whatever stops a round, the nodes that it leaves make a sound configuration of it.
 #[derive(Drop)]
@@ -55,9 +57,12 @@ impl<'a, O: Oracle, G: Gate> Player for TurnPlayer<'a, O, G> {
 
     fn play(&self, alloc: Global, round: Round<Nodes<O>>) -> Played<Nodes<O>, ()>
         requires can { Unit {0} }
-        requires ready { IsReadyRound (arc_value round.plan) round.level round.budget round.asked round.nodes.list.items }
-        ensures played { IsPlayed (arc_value round.plan) round.level round.budget round.nodes.list.items result.nodes.list.items result.total }
-        ensures left { IsSoundRound (arc_value round.plan) round.level round.budget result.nodes.list.items }
+        requires ready { IsReadyRound (arc_value round.plan) round.level round.budget round.asked
+            round.nodes.list.items }
+        ensures played { IsPlayed (arc_value round.plan) round.level round.budget
+            round.nodes.list.items result.nodes.list.items result.total }
+        ensures left { IsSoundRound (arc_value round.plan) round.level round.budget
+            result.nodes.list.items }
     {
         let Round {
             plan,
@@ -87,8 +92,10 @@ fn play_in_turn<A: Asker>(
 ) -> Result<u64, Halt>
     requires ready { (budget : ℕ) × IsReadyRound plan.now level budget asked nodes.old }
     requires asks { A.asks asker.now }
-    ensures played { (budget : ℕ) → IsReadyRound plan.now level budget asked nodes.old → IsPlayed plan.now level budget nodes.old nodes.new result }
-    ensures left { (budget : ℕ) → IsReadyRound plan.now level budget asked nodes.old → IsSoundRound plan.now level budget nodes.new }
+    ensures played { (budget : ℕ) → IsReadyRound plan.now level budget asked nodes.old
+        → IsPlayed plan.now level budget nodes.old nodes.new result }
+    ensures left { (budget : ℕ) → IsReadyRound plan.now level budget asked nodes.old
+        → IsSoundRound plan.now level budget nodes.new }
 {
     begin_all(alloc, level, nodes)?;
     let mut total = asked;
@@ -113,8 +120,9 @@ pub fn begin_all<O: Oracle>(alloc: Global, level: u32, nodes: &mut [Node<O>]) ->
     Ok(())
 }
 
-/// Grants the node, which waits for it, its need on top of the questions that were asked so far. Then it is done, and the
-/// total of both comes back; or it has stopped, or was granted nothing for want of memory.
+/// Grants the node, which waits for it, its need on top of the questions that were asked so far.
+/// Then it is done, and the total of both comes back; or it has stopped, or was granted nothing for
+/// want of memory.
 fn grant_need<A: Asker>(
     alloc: Global,
     asked: u64,

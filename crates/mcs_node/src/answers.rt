@@ -1,6 +1,7 @@
 //! The answers of a context: what was asked before is not asked again.
 
-ghost use Rattle.std.specs.Prelude.{◌≡◌, ◌<◌, ◌⊎◌, ◌++◌, ℕ, IfOk, IsOk, IsErrOf, OnOk, IfErr, [], map, drop, false, true};
+ghost use Rattle.std.specs.Prelude.{◌≡◌, ◌<◌, ◌⊎◌, ◌++◌, ℕ, IfOk, IsOk, IsErrOf, OnOk, IfErr, []};
+ghost use Rattle.std.specs.Prelude.{map, drop, false, true};
 ghost use Rattle.std.specs.List.{AllByRecursion};
 ghost use Rattle.mcs_sets.specs.Sets.{Within};
 ghost use Rattle.mcs_base.specs.Listings.{IsListing};
@@ -10,7 +11,8 @@ ghost use Rattle.mcs_system.specs.Plain.{System};
 ghost use Rattle.mcs_states.specs.declared.halt.Halt.TheVariants as halts;
 ghost use Rattle.mcs_rows.specs.Answers.{answered_of};
 ghost use Rattle.mcs_states.specs.Oracles.{with_journal};
-ghost use Rattle.mcs_node.specs.Known.{AreRight, HasAsked, HasAskingCause, IsAmongAsked, IsKnown, IsTaken, first_is, knowledge_of, new_of, questions_in};
+ghost use Rattle.mcs_node.specs.Known.{AreRight, HasAsked, HasAskingCause, IsAmongAsked, IsKnown};
+ghost use Rattle.mcs_node.specs.Known.{IsTaken, first_is, knowledge_of, new_of, questions_in};
 
 use crate::asking::{Asked, Asker};
 use crate::known::Known;
@@ -36,7 +38,8 @@ pub(crate) fn new_questions(
     asked: &[Active],
     before: &[Answer],
 ) -> Result<Vec<Active>, Memory>
-    ensures { IfOk result (λ new. new.items ≡ new_of (questions_in (map answered_of before.now)) asked.now) }
+    ensures { IfOk result (λ new. new.items
+        ≡ new_of (questions_in (map answered_of before.now)) asked.now) }
 {
     let mut new = Vec::new(alloc);
     let mut at = 0;
@@ -50,16 +53,19 @@ pub(crate) fn new_questions(
     Ok(new)
 }
 
-/// Takes the answer to the question: the first of those that were given before, if that is to it, else the first of the
-/// new ones.
+/// Takes the answer to the question: the first of those that were given before, if that is to it,
+/// else the first of the new ones.
 fn next_answer(
     question: Active,
     before: &mut VecDeque<Answer>,
     new: &mut VecDeque<Answer>,
 ) -> Answer
-    requires { first_is question (questions_in (map answered_of before.old.items)) ≡ false → first_is question (questions_in (map answered_of new.old.items)) ≡ true }
+    requires { first_is question (questions_in (map answered_of before.old.items)) ≡ false
+        → first_is question (questions_in (map answered_of new.old.items)) ≡ true }
     ensures to { result.active ≡ question }
-    ensures taken { IsTaken question (answered_of result) (map answered_of before.old.items) (map answered_of before.new.items) (map answered_of new.old.items) (map answered_of new.new.items) }
+    ensures taken { IsTaken question (answered_of result) (map answered_of before.old.items)
+        (map answered_of before.new.items) (map answered_of new.old.items)
+        (map answered_of new.new.items) }
 {
     let answer = match before.front() {
         Some(answer) if answer.active == question => before.pop_front(),
@@ -71,16 +77,19 @@ fn next_answer(
     }
 }
 
-/// The answers to the questions, in their order: those that were given before, and those to the new questions.
+/// The answers to the questions, in their order: those that were given before, and those to the new
+/// questions.
 fn merged(
     alloc: Global,
     asked: &[Active],
     before: Vec<Answer>,
     new: Vec<Answer>,
 ) -> Result<Vec<Answer>, Memory>
-    requires { questions_in (map answered_of new.items) ≡ new_of (questions_in (map answered_of before.items)) asked.now }
+    requires { questions_in (map answered_of new.items)
+        ≡ new_of (questions_in (map answered_of before.items)) asked.now }
     ensures questions { IfOk result (λ all. questions_in (map answered_of all.items) ≡ asked.now) }
-    ensures right { IfOk result (λ all. (m : System) (i : ℕ) → AreRight m i (map answered_of before.items)
+    ensures right { IfOk result (λ all. (m : System) (i : ℕ)
+        → AreRight m i (map answered_of before.items)
         → AreRight m i (map answered_of new.items) → AreRight m i (map answered_of all.items)) }
 {
     let mut before = VecDeque::from(before);
@@ -99,11 +108,14 @@ fn known_with(
     known: Known,
     answers: Result<Vec<Answer>, Halt>,
 ) -> Result<Known, Halt>
-    requires { IfOk answers (λ new. questions_in (map answered_of new.items) ≡ new_of (questions_in (knowledge_of known).answers) asked.now) }
+    requires { IfOk answers (λ new. questions_in (map answered_of new.items)
+        ≡ new_of (questions_in (knowledge_of known).answers) asked.now) }
     ensures questions { IfOk result (λ all. questions_in (knowledge_of all).answers ≡ asked.now) }
-    ensures known { IfOk result (λ all. (m : System) (level i : ℕ) → AreRight m i (knowledge_of known).answers
+    ensures known { IfOk result (λ all. (m : System) (level i : ℕ)
+        → AreRight m i (knowledge_of known).answers
         → IfOk answers (λ new. AreRight m i (map answered_of new.items))
-        → IsListing (IsQuestionAt m level i) (λ a b. a < b) asked.now → IsKnown m level i (knowledge_of all)) }
+        → IsListing (IsQuestionAt m level i) (λ a b. a < b) asked.now
+        → IsKnown m level i (knowledge_of all)) }
     ensures asked { OnOk result (IsOk answers) }
     ensures cause { IfErr result (λ halt. (halt ≡ halts.Memory) ⊎ IsErrOf answers halt) }
 {
@@ -119,8 +131,9 @@ pub(crate) struct FoundOut<O: Oracle> {
     pub known: Result<Known, Halt>,
 }
 
-/// Asks the oracle of the context those of the questions that were not answered before; then it is known what the
-/// context may supply at each level of which these are all questions. The oracle comes back in every case.
+/// Asks the oracle of the context those of the questions that were not answered before; then it is
+/// known what the context may supply at each level of which these are all questions. The oracle
+/// comes back in every case.
 pub(crate) fn find_out<A: Asker>(
     alloc: Global,
     context: u32,
@@ -131,18 +144,27 @@ pub(crate) fn find_out<A: Asker>(
 ) -> FoundOut<A::Of>
     requires asks { A.asks asker.now }
     requires context { (A.Of.stands oracle).context ≡ context }
-    requires rules { AllByRecursion (λ x. Within x (rules_into (A.Of.stands oracle).system context)) asked.now }
-    requires before { HasAsked (A.Of.stands oracle).system context (A.Of.stands oracle) (knowledge_of known).answers }
+    requires rules { AllByRecursion (λ x. Within x
+        (rules_into (A.Of.stands oracle).system context)) asked.now }
+    requires before { HasAsked (A.Of.stands oracle).system context (A.Of.stands oracle)
+        (knowledge_of known).answers }
     requires right { AreRight (A.Of.stands oracle).system context (knowledge_of known).answers }
     requires among { IsAmongAsked (questions_in (knowledge_of known).answers) asked.now }
-    ensures questions { IfOk result.known (λ all. questions_in (knowledge_of all).answers ≡ asked.now) }
-    ensures known { IfOk result.known (λ all. (level : ℕ) → IsListing (IsQuestionAt (A.Of.stands oracle).system level context) (λ a b. a < b) asked.now
+    ensures questions { IfOk result.known (λ all. questions_in (knowledge_of all).answers
+        ≡ asked.now) }
+    ensures known { IfOk result.known (λ all. (level : ℕ)
+        → IsListing (IsQuestionAt (A.Of.stands oracle).system level context)
+        (λ a b. a < b) asked.now
         → IsKnown (A.Of.stands oracle).system level context (knowledge_of all)) }
-    ensures now { IfOk result.known (λ all. HasAsked (A.Of.stands oracle).system context (A.Of.stands result.oracle) (knowledge_of all).answers) }
+    ensures now { IfOk result.known (λ all. HasAsked (A.Of.stands oracle).system context
+        (A.Of.stands result.oracle) (knowledge_of all).answers) }
     ensures journal { IfOk result.known (λ _. A.Of.stands result.oracle
-        ≡ with_journal ((A.Of.stands oracle).journal ++ new_of (questions_in (knowledge_of known).answers) asked.now) (A.Of.stands oracle)) }
-    ensures cause { IfErr result.known (HasAskingCause context (A.Of.stands oracle) (new_of (questions_in (knowledge_of known).answers) asked.now)) }
-    ensures rest { with_journal [] (A.Of.stands result.oracle) ≡ with_journal [] (A.Of.stands oracle) }
+        ≡ with_journal ((A.Of.stands oracle).journal
+        ++ new_of (questions_in (knowledge_of known).answers) asked.now) (A.Of.stands oracle)) }
+    ensures cause { IfErr result.known (HasAskingCause context (A.Of.stands oracle)
+        (new_of (questions_in (knowledge_of known).answers) asked.now)) }
+    ensures rest { with_journal [] (A.Of.stands result.oracle)
+        ≡ with_journal [] (A.Of.stands oracle) }
 {
     let new = match new_questions(alloc, asked, &known.answers) {
         Ok(new) => new,

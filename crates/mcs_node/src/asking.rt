@@ -29,10 +29,11 @@ pub trait Asker {
     /// That it can ask, and asks as is said of `ask_all`.
     ghost asks: { Self → Type 0 };
 
-    /// Asks the oracle of the context each of the questions, which are sets of the rules into it, and gives it back
-    /// with the answers, in the order of the questions; then its journal has grown by the questions, in this order.
-    /// Stops with `Missing` only at a question that the oracle lacks, and with want of memory; never with `Spent`. Of
-    /// the oracle nothing but its journal ever changes.
+    /// Asks the oracle of the context each of the questions, which are sets of the rules into it,
+    /// and gives it back with the answers, in the order of the questions; then its journal has
+    /// grown by the questions, in this order. Stops with `Missing` only at a question that the
+    /// oracle lacks, and with want of memory; never with `Spent`. Of the oracle nothing but its
+    /// journal ever changes.
     fn ask_all(
         &self,
         alloc: Global,
@@ -42,10 +43,15 @@ pub trait Asker {
     ) -> Asked<Self::Of>
         requires asks { asks self.now }
         requires context { (Self.Of.stands oracle).context ≡ context }
-        requires rules { AllByRecursion (λ x. Within x (rules_into (Self.Of.stands oracle).system context)) questions.now }
-        ensures answers { IfOk result.answers (λ answers. HasAskedAll (Self.Of.stands oracle) (Self.Of.stands result.oracle) questions.now (map answered_of answers.items)) }
-        ensures cause { IfErr result.answers (HasAskingCause context (Self.Of.stands oracle) questions.now) }
-        ensures rest { with_journal [] (Self.Of.stands result.oracle) ≡ with_journal [] (Self.Of.stands oracle) };
+        requires rules { AllByRecursion (λ x. Within x
+            (rules_into (Self.Of.stands oracle).system context)) questions.now }
+        ensures answers { IfOk result.answers (λ answers.
+            HasAskedAll (Self.Of.stands oracle) (Self.Of.stands result.oracle) questions.now
+            (map answered_of answers.items)) }
+        ensures cause { IfErr result.answers (HasAskingCause context
+            (Self.Of.stands oracle) questions.now) }
+        ensures rest { with_journal [] (Self.Of.stands result.oracle)
+            ≡ with_journal [] (Self.Of.stands oracle) };
 }
 
 /// Asks one question after the other, and calls the gate before each.
@@ -88,8 +94,10 @@ fn ask_each<O: Oracle, G: Gate>(
     gate: &G,
 ) -> Result<Vec<Answer>, Halt>
     requires context { (O.stands oracle.old).context ≡ context }
-    requires rules { AllByRecursion (λ x. Within x (rules_into (O.stands oracle.old).system context)) questions.now }
-    ensures answers { IfOk result (λ answers. HasAskedAll (O.stands oracle.old) (O.stands oracle.new) questions.now (map answered_of answers.items)) }
+    requires rules { AllByRecursion (λ x. Within x
+        (rules_into (O.stands oracle.old).system context)) questions.now }
+    ensures answers { IfOk result (λ answers. HasAskedAll (O.stands oracle.old)
+        (O.stands oracle.new) questions.now (map answered_of answers.items)) }
     ensures cause { IfErr result (HasAskingCause context (O.stands oracle.old) questions.now) }
     ensures rest { with_journal [] (O.stands oracle.new) ≡ with_journal [] (O.stands oracle.old) }
 {
@@ -111,7 +119,8 @@ fn ask_one<O: Oracle, G: Gate>(
 ) -> Result<Answer, Halt>
     requires context { (O.stands oracle.old).context ≡ context }
     requires rules { Within question (rules_into (O.stands oracle.old).system context) }
-    ensures answer { IfOk result (λ a. HasAskedAll (O.stands oracle.old) (O.stands oracle.new) (question ∷ []) (answered_of a ∷ [])) }
+    ensures answer { IfOk result (λ a. HasAskedAll (O.stands oracle.old) (O.stands oracle.new)
+        (question ∷ []) (answered_of a ∷ [])) }
     ensures cause { IfErr result (HasAskingCause context (O.stands oracle.old) (question ∷ [])) }
     ensures rest { with_journal [] (O.stands oracle.new) ≡ with_journal [] (O.stands oracle.old) }
 {

@@ -7,8 +7,9 @@ use mcs_base::{Memory, Vars};
 use mcs_states::Halt;
 use std::sync::Arc;
 
-/// What a letter says: what its sender may supply at the level, each once, in the order of states; or that the sender
-/// stopped, and why. The letters of a sender share the list of what it may supply.
+/// What a letter says: what its sender may supply at the level, each once, in the order of states;
+/// or that the sender stopped, and why. The letters of a sender share the list of what it may
+/// supply.
 #[derive(Drop)]
 pub enum Content {
     Supply(Arc<Vec<Vars>>),
@@ -16,7 +17,8 @@ pub enum Content {
 }
 
 impl Content {
-    /// The same content, whose list is shared and not copied. Want of memory where the list has too many owners.
+    /// The same content, whose list is shared and not copied. Want of memory where the list has too
+    /// many owners.
     pub fn copy(&self) -> Result<Content, Memory>
         ensures { IfOk result (λ copy. content_of copy ≡ content_of self.now) }
     {

@@ -7,8 +7,8 @@ use mcs_base::Vars;
 use mcs_rows::Answer;
 use std::alloc::Global;
 
-/// What is known of a context: its answers to the questions of the greatest level done, ascending, and what it may
-/// supply at this level, in the order of states.
+/// What is known of a context: its answers to the questions of the greatest level done, ascending,
+/// and what it may supply at this level, in the order of states.
 #[derive(Drop)]
 pub struct Known {
     pub answers: Vec<Answer>,

@@ -1,5 +1,5 @@
-//! Letters. What a letter says is true: that is the invariant of its type, which a proof knows wherever a letter comes
-//! from.
+//! Letters. What a letter says is true: that is the invariant of its type, which a proof knows
+//! wherever a letter comes from.
 
 ghost use Rattle.std.specs.Prelude.{◌≡◌, IfOk};
 ghost use Rattle.std.specs.Arc.{arc_value};
@@ -17,9 +17,9 @@ use mcs_states::Halt;
 use std::marker::Model;
 use std::sync::Arc;
 
-/// A letter of a round, from a context to one that it supplies. It is true: a supply is the listing of what the sender
-/// may supply at the level; a stop for too many questions names the level, and one for a missing answer a context and a
-/// question to it at the level.
+/// A letter of a round, from a context to one that it supplies. It is true: a supply is the listing
+/// of what the sender may supply at the level; a stop for too many questions names the level, and
+/// one for a missing answer a context and a question to it at the level.
 #[derive(Drop)]
 pub struct Letter {
     plan: Arc<Plan>,
@@ -37,18 +37,38 @@ impl Model for Letter {
 
     ghost coded = { coded_letter };
 
-    ghost view = { λ l. record { plan = arc_value l.plan; level = l.level; from = l.from; to = l.to; content = content_of l.content } };
+    ghost view = { λ l. record {
+      plan = arc_value l.plan;
+      level = l.level;
+      from = l.from;
+      to = l.to;
+      content = content_of l.content;
+    } };
 
-    ghost invariant = { λ l. IsTrueLetter (record { plan = arc_value l.plan; level = l.level; from = l.from; to = l.to; content = content_of l.content }) };
+    ghost invariant = { λ l. IsTrueLetter (record {
+      plan = arc_value l.plan;
+      level = l.level;
+      from = l.from;
+      to = l.to;
+      content = content_of l.content;
+    }) };
 }
 
 impl Letter {
-    /// A letter by which context `from` of the plan's system tells context `to`, which it supplies, all that it may
-    /// supply at the level: each state once, in the order of states. The list may be shared with other letters.
+    /// A letter by which context `from` of the plan's system tells context `to`, which it supplies,
+    /// all that it may supply at the level: each state once, in the order of states. The list may
+    /// be shared with other letters.
     pub fn supply(plan: Arc<Plan>, level: u32, from: u32, to: u32, states: Arc<Vec<Vars>>) -> Letter
         requires fits { Supplies (arc_value plan) from to }
-        requires listing { IsListing (MaySupply (arc_value plan) level from) StateBefore (arc_value states).items }
-        ensures { result ≡ record { plan = arc_value plan; level = level; from = from; to = to; content = Supply (arc_value states).items } }
+        requires listing { IsListing (MaySupply (arc_value plan) level from) StateBefore
+            (arc_value states).items }
+        ensures { result ≡ record {
+          plan = arc_value plan;
+          level = level;
+          from = from;
+          to = to;
+          content = Supply (arc_value states).items;
+        } }
     {
         Letter {
             plan,
@@ -59,13 +79,20 @@ impl Letter {
         }
     }
 
-    /// A letter by which context `from` of the plan's system tells context `to`, which it supplies, that it stopped in
-    /// the round of the level. The halt is one that this round may tell: more questions than the budget at the level, a
-    /// question of the level that has no answer, or want of memory.
+    /// A letter by which context `from` of the plan's system tells context `to`, which it supplies,
+    /// that it stopped in the round of the level. The halt is one that this round may tell: more
+    /// questions than the budget at the level, a question of the level that has no answer, or want
+    /// of memory.
     pub fn stop(plan: Arc<Plan>, level: u32, from: u32, to: u32, halt: Halt) -> Letter
         requires fits { Supplies (arc_value plan) from to }
         requires halt { IsTrueHalt (arc_value plan) level halt }
-        ensures { result ≡ record { plan = arc_value plan; level = level; from = from; to = to; content = Stop halt } }
+        ensures { result ≡ record {
+          plan = arc_value plan;
+          level = level;
+          from = from;
+          to = to;
+          content = Stop halt;
+        } }
     {
         Letter {
             plan,
@@ -122,8 +149,8 @@ impl Letter {
         content
     }
 
-    /// An equal letter, which shares the plan and the list of states with this one. Want of memory where one of the two
-    /// has too many owners.
+    /// An equal letter, which shares the plan and the list of states with this one. Want of memory
+    /// where one of the two has too many owners.
     pub fn copy(&self) -> Result<Letter, Memory>
         ensures { IfOk result (λ copy. copy ≡ self.now) }
     {

@@ -1,5 +1,5 @@
-//! One context in a round of questions: the letters that it has and puts out, what it is asked, and how it stops. What
-//! rounds of letters come to is here too, as laws of plain data.
+//! One context in a round of questions: the letters that it has and puts out, what it is asked, and
+//! how it stops. What rounds of letters come to is here too, as laws of plain data.
 #![tactic(auto)]
 
 mod answers;

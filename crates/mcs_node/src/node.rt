@@ -1,6 +1,8 @@
 //! Nodes: one context in one round after the other.
 
-ghost use Rattle.std.specs.Prelude.{◌≡◌, ◌<◌, ◌↔◌, ◌+◌, ℕ, List, [], map, length, slice_index, false, None, IfOk, IfErr, OnOk, OnErr, IfSome, IfNone, IsTrue, MatchOption, Ok, Err, ◌⊎◌};
+ghost use Rattle.std.specs.Prelude.{◌≡◌, ◌<◌, ◌↔◌, ◌+◌, ℕ, List, [], map, length, slice_index};
+ghost use Rattle.std.specs.Prelude.{false, None, IfOk, IfErr, OnOk, OnErr, IfSome, IfNone, IsTrue};
+ghost use Rattle.std.specs.Prelude.{MatchOption, Ok, Err, ◌⊎◌};
 ghost use Rattle.std.specs.List.{AllByRecursion};
 ghost use Rattle.mcs_states.specs.declared.halt.Halt.TheVariants as halts;
 ghost use Rattle.std.specs.Arc.{arc_value};
@@ -10,7 +12,9 @@ ghost use Rattle.mcs_rows.specs.Answers.{answered_of};
 ghost use Rattle.mcs_node.specs.Rounds.{Supplies};
 ghost use Rattle.mcs_node.specs.Letters.{shared_states};
 ghost use Rattle.mcs_node.specs.Known.{knowledge_of};
-ghost use Rattle.mcs_node.specs.Nodes.{HandsOut, HasTaken, IsAbove, IsAwaited, IsFreshOracle, IsGranted, IsLocalOf, IsNeed, IsNewNode, IsNodeData, NodeData, WaitsForGrant, begun_at};
+ghost use Rattle.mcs_node.specs.Nodes.{HandsOut, HasTaken, IsAbove, IsAwaited, IsFreshOracle};
+ghost use Rattle.mcs_node.specs.Nodes.{IsGranted, IsLocalOf, IsNeed, IsNewNode, IsNodeData};
+ghost use Rattle.mcs_node.specs.Nodes.{NodeData, WaitsForGrant, begun_at};
 ghost use Rattle.mcs_node.specs.declared.handled.Handled.TheVariants.{Ignored, Took};
 
 use crate::answers::{FoundOut, find_out};
@@ -32,8 +36,9 @@ use std::marker::Model;
 use std::mem;
 use std::sync::Arc;
 
-/// One context of a system in a round of questions. It has letters from the contexts that supply it, asks its oracle
-/// the questions of the level once it is granted to, and puts out letters to the contexts that it supplies.
+/// One context of a system in a round of questions. It has letters from the contexts that supply
+/// it, asks its oracle the questions of the level once it is granted to, and puts out letters to
+/// the contexts that it supplies.
 #[derive(Drop)]
 pub struct Node<O: Oracle> {
     plan: Arc<Plan>,
@@ -70,16 +75,19 @@ impl<O: Oracle> Model for Node<O> {
       level = level_in n.round;
       state = state_in n.context n.receivers.items n.round;
       receivers = n.receivers.items;
-      outbox = outbox_in (arc_value n.plan) n.context n.receivers.items (knowledge_of n.known).supplies n.round;
+      outbox = outbox_in (arc_value n.plan) n.context n.receivers.items
+          (knowledge_of n.known).supplies n.round;
       known = knowledge_of n.known;
     } };
 
-    ghost invariant = { λ n. IsNode (arc_value n.plan) n.context n.budget (oracle_in O.stands n.oracle) (is_some n.oracle) n.receivers.items (knowledge_of n.known) n.before n.round };
+    ghost invariant = { λ n. IsNode (arc_value n.plan) n.context n.budget
+        (oracle_in O.stands n.oracle) (is_some n.oracle) n.receivers.items
+        (knowledge_of n.known) n.before n.round };
 }
 
 impl<O: Oracle> Node<O> {
-    /// A node of the context of the plan's system, within a budget of questions, with its oracle, of which nothing was
-    /// asked.
+    /// A node of the context of the plan's system, within a budget of questions, with its oracle,
+    /// of which nothing was asked.
     pub fn new(
         alloc: Global,
         plan: Arc<Plan>,
@@ -104,10 +112,11 @@ impl<O: Oracle> Node<O> {
         })
     }
 
-    /// Begins the round of the level, which is above that of each round begun before; the node has not stopped. It
-    /// takes all that the letters of the round need beside what a supply says, so that a stop takes no memory later,
-    /// and where it waits for no supply it works out the questions. The letters of an earlier round that were not
-    /// handed out are dropped. After want of memory the node is as before.
+    /// Begins the round of the level, which is above that of each round begun before; the node has
+    /// not stopped. It takes all that the letters of the round need beside what a supply says, so
+    /// that a stop takes no memory later, and where it waits for no supply it works out the
+    /// questions. The letters of an earlier round that were not handed out are dropped. After want
+    /// of memory the node is as before.
     pub fn begin(&mut self, alloc: Global, level: u32) -> Result<(), Memory>
         requires going { self.old.state.halt ≡ None }
         requires above { IsAbove self.old.level level }
@@ -120,10 +129,11 @@ impl<O: Oracle> Node<O> {
         Ok(())
     }
 
-    /// Takes a letter, or ignores it: exactly where its plan is not this one, its level is not that of the round begun,
-    /// it is to another context, its sender does not supply this one, or a letter of this sender was had in the round;
-    /// then nothing changes. The first stop stops the node, which puts out a stop in the place of each letter; want of
-    /// memory for the questions, at the last supply, stops it too. A node that has stopped still takes letters.
+    /// Takes a letter, or ignores it: exactly where its plan is not this one, its level is not that
+    /// of the round begun, it is to another context, its sender does not supply this one, or a
+    /// letter of this sender was had in the round; then nothing changes. The first stop stops the
+    /// node, which puts out a stop in the place of each letter; want of memory for the questions,
+    /// at the last supply, stops it too. A node that has stopped still takes letters.
     pub fn handle(&mut self, alloc: Global, letter: Letter) -> Handled
         ensures took { (result ≡ Took) ↔ IsAwaited letter self.old }
         ensures nothing { result ≡ Ignored → self.new ≡ self.old }
@@ -141,8 +151,9 @@ impl<O: Oracle> Node<O> {
         Handled::Took
     }
 
-    /// The number of the questions of the round that were not asked before, where the node waits for its grant: exactly
-    /// where the round was begun, every supply was had, the node has not stopped, and it was granted nothing.
+    /// The number of the questions of the round that were not asked before, where the node waits
+    /// for its grant: exactly where the round was begun, every supply was had, the node has not
+    /// stopped, and it was granted nothing.
     pub fn needs(&self) -> Option<u64>
         ensures { MatchOption result (¬ WaitsForGrant self.now) (λ n. IsNeed self.now n) }
     {
@@ -153,10 +164,11 @@ impl<O: Oracle> Node<O> {
         Some((round.questions.len() - self.known.answers.len()) as u64)
     }
 
-    /// Grants the node, which waits for it, a total: the number of questions asked before the round and by all nodes
-    /// granted so far, its own among them. More than the budget stops the node with `Spent`, before anything is asked.
-    /// Else the new questions are asked, by the asker, and the node is done and puts out its supplies; or it stops with
-    /// `Missing`, for a question that its oracle lacks, or with want of memory, and puts out stops.
+    /// Grants the node, which waits for it, a total: the number of questions asked before the round
+    /// and by all nodes granted so far, its own among them. More than the budget stops the node
+    /// with `Spent`, before anything is asked. Else the new questions are asked, by the asker, and
+    /// the node is done and puts out its supplies; or it stops with `Missing`, for a question that
+    /// its oracle lacks, or with want of memory, and puts out stops.
     pub fn grant<A: Asker<Of = O>>(&mut self, alloc: Global, total: u64, asker: &A)
         requires waits { WaitsForGrant self.old }
         requires asks { A.asks asker.now }
@@ -195,9 +207,11 @@ impl<O: Oracle> Node<O> {
         self.round = Some(round);
     }
 
-    /// The next letter that the node has put out; `None` exactly where all were handed out. It takes no memory.
+    /// The next letter that the node has put out; `None` exactly where all were handed out. It
+    /// takes no memory.
     pub fn next_out(&mut self) -> Option<Letter>
-        ensures { MatchOption result ((self.old.outbox ≡ []) × (self.new ≡ self.old)) (HandsOut self.old self.new) }
+        ensures { MatchOption result ((self.old.outbox ≡ []) × (self.new ≡ self.old))
+            (HandsOut self.old self.new) }
     {
         let round = self.round.as_mut()?;
         next_letter(&self.receivers, self.context, round)
@@ -237,8 +251,8 @@ impl<O: Oracle> Node<O> {
         }
     }
 
-    /// What is known of the context: the answers to all questions of the greatest level at which the node was done, and
-    /// what it may supply there, as long as the node has not stopped.
+    /// What is known of the context: the answers to all questions of the greatest level at which
+    /// the node was done, and what it may supply there, as long as the node has not stopped.
     pub fn known(&self) -> &Known
         ensures known { knowledge_of result.now ≡ self.now.known }
         ensures node { IsNodeData self.now }
@@ -246,11 +260,13 @@ impl<O: Oracle> Node<O> {
         &self.known
     }
 
-    /// All local rows of the context at the level of the round, as a table on its local variables; `None` exactly
-    /// where the node is not done. They are made when they are asked for. There may be 4 to the number of its rules
-    /// of them, and an evaluation wants few of these, so it does not call this.
+    /// All local rows of the context at the level of the round, as a table on its local variables;
+    /// `None` exactly where the node is not done. They are made when they are asked for. There may
+    /// be 4 to the number of its rules of them, and an evaluation wants few of these, so it does
+    /// not call this.
     pub fn local(&self, alloc: Global) -> Result<Option<Table>, Memory>
-        ensures { IfOk result (λ local. MatchOption local (self.now.state.done ≡ false) (IsLocalOf self.now)) }
+        ensures { IfOk result (λ local. MatchOption local (self.now.state.done ≡ false)
+            (IsLocalOf self.now)) }
     {
         let Some(round) = &self.round else {
             return Ok(None);
@@ -284,7 +300,8 @@ impl<O: Oracle> Node<O> {
 
 /// The contexts that the context of the plan's system supplies, ascending.
 fn receivers_of(alloc: Global, plan: &Plan, context: u32) -> Result<Vec<u32>, Memory>
-    ensures { IfOk result (λ receivers. IsListing (Supplies plan.now context) (λ a b. a < b) receivers.items) }
+    ensures { IfOk result (λ receivers. IsListing (Supplies plan.now context)
+        (λ a b. a < b) receivers.items) }
 {
     let mut receivers = Vec::new(alloc);
     for other in 0..plan.system().contexts().len() as u32 {
@@ -316,7 +333,8 @@ struct Finish {
 /// What is known, with a list of the supplies that so many letters share.
 fn with_copies(alloc: Global, known: Result<Known, Halt>, letters: usize) -> Result<Finish, Halt>
     ensures known { IfOk result (λ r. known ≡ Ok r.known) }
-    ensures copies { IfOk result (λ r. (length r.copies.items ≡ letters) × AllByRecursion (λ copy. shared_states copy ≡ r.known.supplies.items) r.copies.items) }
+    ensures copies { IfOk result (λ r. (length r.copies.items ≡ letters)
+        × AllByRecursion (λ copy. shared_states copy ≡ r.known.supplies.items) r.copies.items) }
     ensures cause { IfErr result (λ halt. (halt ≡ halts.Memory) ⊎ (known ≡ Err halt)) }
 {
     let known = known?;

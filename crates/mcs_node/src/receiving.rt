@@ -1,6 +1,7 @@
 //! What a letter makes of a round.
 
-ghost use Rattle.std.specs.Prelude.{◌≡◌, ◌<◌, ◌≤◌, ℕ, List, IfOk, IfSome, IfNone, map, length, slice_get, slice_set, Some};
+ghost use Rattle.std.specs.Prelude.{◌≡◌, ◌<◌, ◌≤◌, ℕ, List, IfOk, IfSome, IfNone, map, length};
+ghost use Rattle.std.specs.Prelude.{slice_get, slice_set, Some};
 ghost use Rattle.mcs_base.specs.Listings.{IsListing};
 ghost use Rattle.mcs_system.specs.Imports.{IsImportOrder, supplied};
 ghost use Rattle.mcs_system.specs.Levels.{IsQuestionAt};
@@ -19,11 +20,13 @@ use mcs_states::Halt;
 use std::alloc::Global;
 use std::sync::Arc;
 
-/// The place, among the contexts that supply this one, of the sender of a letter that the round waits for.
+/// The place, among the contexts that supply this one, of the sender of a letter that the round
+/// waits for.
 pub(crate) fn awaited(plan: &Plan, context: u32, round: &InRound, letter: &Letter) -> Option<usize>
     requires { context < length plan.now.contexts }
     ensures place { IfSome result (λ p. IsForRound plan.now context round.now letter.now
-        × ((order : List ℕ) → IsImportOrder plan.now order → slice_get (supplied plan.now order context) p ≡ Some letter.now.from)) }
+        × ((order : List ℕ) → IsImportOrder plan.now order
+        → slice_get (supplied plan.now order context) p ≡ Some letter.now.from)) }
     ensures none { IfNone result (IsForRound plan.now context round.now letter.now → ⊥) }
 {
     let of_round = letter.level() == round.level && letter.to() == context;
@@ -43,9 +46,9 @@ fn is_stop(content: &Content) -> bool
     }
 }
 
-/// The round has had a letter of this context, which is that at the place among those that supply this one. A supply is
-/// kept at the place; where it was the last one, the questions are worked out, and want of memory for them stops the
-/// node. A stop stops it, unless it stopped before.
+/// The round has had a letter of this context, which is that at the place among those that supply
+/// this one. A supply is kept at the place; where it was the last one, the questions are worked
+/// out, and want of memory for them stops the node. A stop stops it, unless it stopped before.
 pub(crate) fn take_in(
     alloc: Global,
     plan: &Plan,
@@ -81,17 +84,20 @@ pub(crate) fn take_in(
 /// Keeps what was told at the place.
 fn keep(round: &mut InRound, place: usize, states: Arc<Vec<Vars>>)
     requires { place < length round.old.told.items }
-    ensures told { map shared_states round.new.told.items ≡ slice_set (map shared_states round.old.told.items) place (shared_states states) }
+    ensures told { map shared_states round.new.told.items
+        ≡ slice_set (map shared_states round.old.told.items) place (shared_states states) }
     ensures rest { round.new ≡ record round.old { told = round.new.told } }
 {
     round.told[place] = states;
 }
 
-/// Works out the questions of the round, if every supply was had. Want of memory for them stops the node.
+/// Works out the questions of the round, if every supply was had. Want of memory for them stops the
+/// node.
 fn work_out(alloc: Global, plan: &Plan, context: u32, round: &mut InRound)
     requires in_range { context < length plan.now.contexts }
     requires waits { round.old.stage ≡ Waits }
-    requires told { length round.old.told.items ≤ length round.old.had.items → AreToldAll plan.now context round.old }
+    requires told { length round.old.told.items ≤ length round.old.had.items
+        → AreToldAll plan.now context round.old }
     ensures { IsWorkedOut plan.now context round.old round.new }
 {
     if round.had.len() < round.told.len() {
@@ -119,8 +125,10 @@ fn told_questions(
 ) -> Result<Vec<Active>, Memory>
     requires in_range { context < length plan.now.contexts }
     requires supplied { (order : List ℕ) → IsImportOrder plan.now order
-        → AreSupplies plan.now level (supplied plan.now order context) (map shared_states told.now) }
-    ensures { IfOk result (λ sets. IsListing (IsQuestionAt plan.now level context) (λ a b. a < b) sets.items) }
+        → AreSupplies plan.now level (supplied plan.now order context)
+        (map shared_states told.now) }
+    ensures { IfOk result (λ sets. IsListing (IsQuestionAt plan.now level context)
+        (λ a b. a < b) sets.items) }
 {
     let lists = lists_of(alloc, told)?;
     questions(alloc, plan, context, &lists, level)

@@ -1,12 +1,14 @@
 //! What a node keeps of a round.
 
-ghost use Rattle.std.specs.Prelude.{◌≡◌, ◌<◌, ◌≤◌, ◌↔◌, ℕ, List, IfOk, IfSome, IfNone, IsTrue, Some, true, [], map, length, slice_get, vec_capacity};
+ghost use Rattle.std.specs.Prelude.{◌≡◌, ◌<◌, ◌≤◌, ◌↔◌, ℕ, List, IfOk, IfSome, IfNone, IsTrue};
+ghost use Rattle.std.specs.Prelude.{Some, true, [], map, length, slice_get, vec_capacity};
 ghost use Rattle.std.specs.Arc.{arc_value};
 ghost use Rattle.mcs_base.specs.Listings.{IsAmong, IsListing};
 ghost use Rattle.mcs_system.specs.Imports.{IsImportOrder, supplied};
 ghost use Rattle.mcs_system.specs.Levels.{IsQuestionAt};
 ghost use Rattle.mcs_node.specs.declared.round.Stage.TheVariants.{Done, Stopped};
-ghost use Rattle.mcs_node.specs.Keeping.{IsBegun, IsReady, by_itself_in, done_in, froms, halt_in, level_done};
+ghost use Rattle.mcs_node.specs.Keeping.{IsBegun, IsReady, by_itself_in, done_in, froms, halt_in};
+ghost use Rattle.mcs_node.specs.Keeping.{level_done};
 
 use crate::shared::owners;
 use mcs_base::{Active, Memory, Vars};
@@ -106,7 +108,8 @@ impl InRound {
         self.stage = Stage::Done { total };
     }
 
-    /// Whether it waits for its grant: every supply was had, and it has neither stopped nor been granted anything.
+    /// Whether it waits for its grant: every supply was had, and it has neither stopped nor been
+    /// granted anything.
     pub fn is_ready(&self) -> bool
         ensures { IsTrue result ↔ IsReady self.now }
     {
@@ -134,8 +137,10 @@ fn first_questions(
     suppliers: &[u32],
 ) -> Result<Vec<Active>, Memory>
     requires in_range { context < length plan.now.contexts }
-    requires suppliers { (order : List ℕ) → IsImportOrder plan.now order → suppliers.now ≡ supplied plan.now order context }
-    ensures { IfOk result (λ sets. suppliers.now ≡ [] → IsListing (IsQuestionAt plan.now level context) (λ a b. a < b) sets.items) }
+    requires suppliers { (order : List ℕ) → IsImportOrder plan.now order
+        → suppliers.now ≡ supplied plan.now order context }
+    ensures { IfOk result (λ sets. suppliers.now ≡ []
+        → IsListing (IsQuestionAt plan.now level context) (λ a b. a < b) sets.items) }
 {
     if suppliers.is_empty() {
         return questions(alloc, plan, context, &[], level);
@@ -143,7 +148,8 @@ fn first_questions(
     Ok(Vec::new(alloc))
 }
 
-/// The round of the level of the context, as it begins: so many letters can be put out without want of memory.
+/// The round of the level of the context, as it begins: so many letters can be put out without want
+/// of memory.
 pub(crate) fn begun_round(
     alloc: Global,
     plan: &Arc<Plan>,

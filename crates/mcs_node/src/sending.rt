@@ -7,11 +7,13 @@ ghost use Rattle.mcs_node.specs.Keeping.{HandsOutLast, HandsOutNone, MayHandOut}
 use crate::letter::Letter;
 use crate::round::{InRound, Stage};
 
-/// The next letter of the context that was not handed out yet: to the last of the receivers for which there is an
-/// envelope.
+/// The next letter of the context that was not handed out yet: to the last of the receivers for
+/// which there is an envelope.
 pub(crate) fn next_letter(receivers: &[u32], context: u32, round: &mut InRound) -> Option<Letter>
-    requires { (m : System) × (supplies : List ℕ) × MayHandOut m context receivers.now supplies round.old }
-    ensures { (m : System) (supplies : List ℕ) → MayHandOut m context receivers.now supplies round.old → MatchOption result
+    requires { (m : System) × (supplies : List ℕ)
+        × MayHandOut m context receivers.now supplies round.old }
+    ensures { (m : System) (supplies : List ℕ)
+        → MayHandOut m context receivers.now supplies round.old → MatchOption result
         (HandsOutNone m context receivers.now supplies round.old round.new)
         (HandsOutLast m context receivers.now supplies round.old round.new) }
 {

@@ -16,7 +16,8 @@ pub(crate) fn owners<T: Drop>(
     count: usize,
 ) -> Result<Vec<Arc<T>>, Memory>
     ensures count { IfOk result (λ owners. length owners.items ≡ count) }
-    ensures same { IfOk result (λ owners. AllByRecursion (λ owner. arc_value owner ≡ arc_value one.now) owners.items) }
+    ensures same { IfOk result (λ owners. AllByRecursion
+        (λ owner. arc_value owner ≡ arc_value one.now) owners.items) }
 {
     let mut owners = Vec::new(alloc);
     for _ in 0..count {
@@ -32,7 +33,8 @@ pub(crate) fn copies(
     count: usize,
 ) -> Result<Vec<Arc<Vec<Vars>>>, Memory>
     ensures count { IfOk result (λ copies. length copies.items ≡ count) }
-    ensures same { IfOk result (λ copies. AllByRecursion (λ copy. shared_states copy ≡ states.now) copies.items) }
+    ensures same { IfOk result (λ copies. AllByRecursion
+        (λ copy. shared_states copy ≡ states.now) copies.items) }
 {
     if count == 0 {
         return Ok(Vec::new(alloc));
@@ -43,7 +45,8 @@ pub(crate) fn copies(
 
 /// What is shared, in lists of their own.
 pub(crate) fn lists_of(alloc: Global, shared: &[Arc<Vec<Vars>>]) -> Result<Vec<Vec<Vars>>, Memory>
-    ensures { IfOk result (λ lists. map (λ list. list.items) lists.items ≡ map shared_states shared.now) }
+    ensures { IfOk result (λ lists. map (λ list. list.items) lists.items
+        ≡ map shared_states shared.now) }
 {
     let mut lists = Vec::new(alloc);
     for list in shared {

@@ -18,7 +18,8 @@ const HALTS: &[(u64, Halting)] = &[
     (3, Halting::ByMemory),
 ];
 
-/// Why the round stops then: where the oracle does not halt it, the budget of one question is spent.
+/// Why the round stops then: where the oracle does not halt it, the budget of one question is
+/// spent.
 fn halt_by(halting: Halting) -> Halt {
     match halting {
         Halting::Never => Halt::Spent { level: 0, drawn: 2 },
@@ -30,8 +31,8 @@ fn halt_by(halting: Halting) -> Halt {
     }
 }
 
-/// Whether of the nodes the first is done, the second has stopped by itself with the halt, and the third was granted
-/// nothing.
+/// Whether of the nodes the first is done, the second has stopped by itself with the halt, and the
+/// third was granted nothing.
 fn are_stopped(mesh: &Meshed<'_>, halt: Halt) -> bool {
     match mesh.nodes() {
         [first, second, third] => {

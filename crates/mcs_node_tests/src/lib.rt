@@ -1,4 +1,5 @@
-//! Tests of nodes and of rounds: letters between two contexts, replays of events, rings of contexts, rounds that halt.
+//! Tests of nodes and of rounds: letters between two contexts, replays of events, rings of
+//! contexts, rounds that halt.
 #![tactic(auto)]
 
 mod halting;

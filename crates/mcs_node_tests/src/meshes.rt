@@ -65,7 +65,8 @@ fn oracle_of(
 
 /// An oracle for each context of the system, in order, of which nothing was asked.
 fn oracles_of(alloc: Global, system: &Arc<System>, at: HaltAt) -> Result<Vec<HaltingOracle>, Memory>
-    ensures one_each { IfOk result (λ oracles. length oracles.items ≡ length (arc_value system.now).contexts) }
+    ensures one_each { IfOk result (λ oracles. length oracles.items
+        ≡ length (arc_value system.now).contexts) }
     ensures fresh { IfOk result (λ oracles. AreFresh (arc_value system.now) oracles.items) }
 {
     let mut oracles = Vec::new(alloc);

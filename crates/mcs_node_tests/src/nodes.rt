@@ -40,7 +40,8 @@ fn begun(
     }
 }
 
-/// The nodes of the first two contexts, which have begun the round of level 0; `None` if there are fewer.
+/// The nodes of the first two contexts, which have begun the round of level 0; `None` if there are
+/// fewer.
 pub(crate) fn begin_two(
     alloc: Global,
     system: &Arc<System>,
@@ -59,7 +60,8 @@ pub(crate) fn begin_two(
     }
 }
 
-/// Grants the node its need on top of the questions that were asked, if it waits for that; the total then.
+/// Grants the node its need on top of the questions that were asked, if it waits for that; the
+/// total then.
 pub(crate) fn grant(alloc: Global, node: &mut Node<LocalSolver>, asked: u64) -> Option<u64> {
     let need = node.needs()?;
     let total = asked.checked_add(need)?;

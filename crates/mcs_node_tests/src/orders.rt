@@ -46,8 +46,8 @@ const ORDERS: [[usize; 4]; 24] = [
     [3, 2, 1, 0],
 ];
 
-/// All begin; twice, what is between comes in this order, since a letter may have come before it was put out; then the
-/// third is granted.
+/// All begin; twice, what is between comes in this order, since a letter may have come before it
+/// was put out; then the third is granted.
 fn events_in(alloc: Global, order: &[usize; 4]) -> Result<Vec<Event>, Memory> {
     let mut events = [Begin(0), Begin(1), Begin(2)].to_vec(alloc)?;
     for place in order.iter().chain(order) {
@@ -84,8 +84,9 @@ fn rows_after(
     rows_of(alloc, &mesh)
 }
 
-/// Whether the round has five local rows in each order of its events, the same in all: one of each of the first two
-/// contexts; of the third one for no change, and one for each of its rules removed.
+/// Whether the round has five local rows in each order of its events, the same in all: one of each
+/// of the first two contexts; of the third one for no change, and one for each of its rules
+/// removed.
 fn are_alike(alloc: Global, system: &Arc<System>) -> Result<bool, Memory> {
     let first = rows_after(alloc, system, &ORDERS[0])?;
     let mut are_alike = first.as_ref().map(|rows| rows.len()) == Some(5);

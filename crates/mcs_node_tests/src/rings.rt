@@ -23,7 +23,8 @@ fn contexts_of(alloc: Global, size: u64) -> Result<Text, Memory> {
     Ok(text)
 }
 
-/// Each of so many contexts is told what the next one believes, and the last one what the first one does.
+/// Each of so many contexts is told what the next one believes, and the last one what the first one
+/// does.
 fn ring_of(alloc: Global, size: u64) -> Result<Text, Memory> {
     let mut text = contexts_of(alloc, size)?;
     for i in 0..size {
@@ -45,7 +46,8 @@ fn empty_pair() -> Pair
     Pair::new(Marks::empty())
 }
 
-/// Whether the system, a ring, has two equilibria, all beliefs and none, after two questions to each context.
+/// Whether the system, a ring, has two equilibria, all beliefs and none, after two questions to
+/// each context.
 fn has_two_states(alloc: Global, system: &Arc<System>) -> Result<bool, Memory> {
     let contexts = system.contexts().len() as u64;
     let mut mesh = mesh_of(alloc, system, 1000, NOWHERE, &IdleGate)?;

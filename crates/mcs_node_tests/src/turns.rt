@@ -15,13 +15,14 @@ use std::test::Fail;
 pub(crate) const TOLD: &str =
     "context c1 program { a. } context c2 program {} bridge r1: c2:p if c1:a.";
 
-/// Whether the first node waits for a grant of one question, and the second one does not wait for one.
+/// Whether the first node waits for a grant of one question, and the second one does not wait for
+/// one.
 fn is_first_turn(nodes: &Two) -> bool {
     nodes.first.needs() == Some(1) && nodes.second.needs() == None
 }
 
-/// Whether the first node is granted its question and its letter is taken once; then the second one waits for a grant
-/// of one question.
+/// Whether the first node is granted its question and its letter is taken once; then the second one
+/// waits for a grant of one question.
 fn takes_first_turn(alloc: Global, nodes: &mut Two) -> Result<bool, Memory> {
     let total = grant(alloc, &mut nodes.first, 0);
     let handled = hand_twice(alloc, &mut nodes.first, &mut nodes.second)?;
@@ -33,7 +34,8 @@ fn takes_first_turn(alloc: Global, nodes: &mut Two) -> Result<bool, Memory> {
     )
 }
 
-/// Whether both nodes are done after two questions, of which the first tells that one state may be supplied.
+/// Whether both nodes are done after two questions, of which the first tells that one state may be
+/// supplied.
 fn takes_second_turn(alloc: Global, nodes: &mut Two) -> bool {
     let total = grant(alloc, &mut nodes.second, 1);
     total == Some(2)
@@ -59,7 +61,8 @@ fn take_turns(alloc: Global, system: &Arc<System>) -> Result<bool, Memory> {
     is_right
 }
 
-/// Whether the second node stops by itself when it is granted two questions, which are more than the budget.
+/// Whether the second node stops by itself when it is granted two questions, which are more than
+/// the budget.
 fn is_stopped_second(alloc: Global, nodes: &mut Two) -> Result<bool, Memory> {
     let is_taken = takes_first_turn(alloc, nodes)?;
     let total = grant(alloc, &mut nodes.second, 1);
@@ -95,7 +98,8 @@ fn carries_stop(alloc: Global, nodes: &mut Two) -> bool {
     is_stop && handled == Handled::Took
 }
 
-/// Whether the first node of the system stops within a budget of no question, and stops the second one.
+/// Whether the first node of the system stops within a budget of no question, and stops the second
+/// one.
 fn stops_both(alloc: Global, system: &Arc<System>) -> Result<bool, Memory> {
     let Some(mut nodes) = begin_two(alloc, system, 0)? else {
         return Ok(false);
@@ -111,7 +115,8 @@ fn stops_both(alloc: Global, system: &Arc<System>) -> Result<bool, Memory> {
     Ok(is_right)
 }
 
-/// Whether a letter of the first node to the third one is ignored by the second one, which still waits for its grant.
+/// Whether a letter of the first node to the third one is ignored by the second one, which still
+/// waits for its grant.
 fn is_ignored(alloc: Global, nodes: &mut Two) -> bool {
     let total = grant(alloc, &mut nodes.first, 0);
     let Some(letter) = nodes.first.next_out() else {

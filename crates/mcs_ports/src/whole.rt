@@ -1,6 +1,7 @@
 //! Reading a file whole, and writing a piece whole.
 
-ghost use Rattle.std.specs.Prelude.{◌≡◌, ◌⊎◌, ℕ, ◌<◌, ◌≤◌, ◌+◌, [], List, Some, length, take, drop, is_some, IsNone, IsSome, IfSome, IfOk, OnOk, OnErr, IsErrOf};
+ghost use Rattle.std.specs.Prelude.{◌≡◌, ◌⊎◌, ℕ, ◌<◌, ◌≤◌, ◌+◌, [], List, Some, length, take, drop};
+ghost use Rattle.std.specs.Prelude.{is_some, IsNone, IsSome, IfSome, IfOk, OnOk, OnErr, IsErrOf};
 ghost use Rattle.mcs_ports.specs.Causes.{Rose, HasCause};
 ghost use Rattle.mcs_ports.specs.Pieces.{TakesAtMost, appended};
 ghost use Rattle.mcs_ports.specs.declared.whole.ReadAnswer.TheVariants.{Memory};
@@ -44,12 +45,14 @@ impl From<AllocError> for ReadAnswer {
 // The greatest number of bytes that one read asks for.
 const PIECE: usize = 4096;
 
-/// Reads the file with this name whole, if it has at most `limit` bytes. The limit may be any number.
+/// Reads the file with this name whole, if it has at most `limit` bytes. The limit may be any
+/// number.
 ///
-/// `Fault` is returned only if the shelf's count of faults rose, as it does if the file does not exist. For a file that
-/// exists its count of failures rose too. `TooLong` is returned only if the file has more than `limit` bytes; one byte
-/// more than the limit is then read. For such a file `Ok` is not returned. `Memory` is returned if memory ran out. In
-/// each case at most `limit + 1` bytes are read.
+/// `Fault` is returned only if the shelf's count of faults rose, as it does if the file does not
+/// exist. For a file that exists its count of failures rose too. `TooLong` is returned only if the
+/// file has more than `limit` bytes; one byte more than the limit is then read. For such a file
+/// `Ok` is not returned. `Memory` is returned if memory ran out. In each case at most `limit + 1`
+/// bytes are read.
 pub fn read_whole<H: Shelf>(
     alloc: Global,
     shelf: &mut H,
@@ -58,12 +61,14 @@ pub fn read_whole<H: Shelf>(
 ) -> Result<Vec<u8>, ReadAnswer>
     ensures later { H.faults shelf.old ≤ H.faults shelf.new }
     ensures failures_later { H.failures shelf.old ≤ H.failures shelf.new }
-    ensures fault { IsErrOf result ReadAnswer.Fault → Rose (H.faults shelf.old) (H.faults shelf.new) }
+    ensures fault { IsErrOf result ReadAnswer.Fault
+        → Rose (H.faults shelf.old) (H.faults shelf.new) }
     ensures within { IfOk result (λ bytes. length bytes.items ≤ limit) }
     ensures same_held { H.held shelf.new ≡ H.held shelf.old }
     ensures tells { is_some (H.left shelf.new) ≡ is_some (H.left shelf.old) }
 
-    // If the shelf reports what it holds, the result is that of the file, and there is a cause if it is refused.
+    // If the shelf reports what it holds, the result is that of the file, and there is a cause if
+    // it is refused.
     ensures whole { IfOk result (λ bytes. IfSome (H.held shelf.old)
         (λ files. files name.now ≡ Some bytes.items)) }
     ensures too_long { IsErrOf result ReadAnswer.TooLong → IfSome (H.held shelf.old)
@@ -92,8 +97,10 @@ pub fn read_whole<H: Shelf>(
 fn read_rest<H: Shelf>(alloc: Global, shelf: &mut H, limit: usize) -> Result<Vec<u8>, ReadAnswer>
     ensures later { H.faults shelf.old ≤ H.faults shelf.new }
     ensures failures_later { H.failures shelf.old ≤ H.failures shelf.new }
-    ensures fault { IsErrOf result ReadAnswer.Fault → Rose (H.faults shelf.old) (H.faults shelf.new) }
-    ensures failure { IsErrOf result ReadAnswer.Fault → Rose (H.failures shelf.old) (H.failures shelf.new) }
+    ensures fault { IsErrOf result ReadAnswer.Fault
+        → Rose (H.faults shelf.old) (H.faults shelf.new) }
+    ensures failure { IsErrOf result ReadAnswer.Fault
+        → Rose (H.failures shelf.old) (H.failures shelf.new) }
     ensures within { IfOk result (λ bytes. length bytes.items ≤ limit) }
     ensures same_held { H.held shelf.new ≡ H.held shelf.old }
     ensures tells { is_some (H.left shelf.new) ≡ is_some (H.left shelf.old) }
@@ -121,12 +128,13 @@ fn read_rest<H: Shelf>(alloc: Global, shelf: &mut H, limit: usize) -> Result<Vec
 
 /// Writes the piece whole. No memory is needed.
 ///
-/// `Failed` is returned only if the sink's count of faults rose; then a prefix of the piece was written. If the piece
-/// was written whole, no write failed, and the count is as before.
+/// `Failed` is returned only if the sink's count of faults rose; then a prefix of the piece was
+/// written. If the piece was written whole, no write failed, and the count is as before.
 pub fn write_whole<K: Sink>(sink: &mut K, bytes: &[u8]) -> Result<(), Failed>
     ensures cause { HasCause (K.device sink.old).faults (K.device sink.new).faults result }
     ensures quiet { OnOk result ((K.device sink.new).faults ≡ (K.device sink.old).faults) }
-    ensures written { OnOk result ((K.device sink.new).written ≡ appended (K.device sink.old).written bytes.now) }
+    ensures written { OnOk result ((K.device sink.new).written
+        ≡ appended (K.device sink.old).written bytes.now) }
     ensures prefix { OnErr result ((n : ℕ) × (n ≤ length bytes.now)
         × ((K.device sink.new).written ≡ appended (K.device sink.old).written (take n bytes.now))) }
     ensures notes { (K.device sink.new).notes ≡ (K.device sink.old).notes }

@@ -1,5 +1,5 @@
-//! The search for answer sets without a certificate. It is guided by sets of atoms without external support. For tight
-//! programs it splits on one belief after the other.
+//! The search for answer sets without a certificate. It is guided by sets of atoms without external
+//! support. For tight programs it splits on one belief after the other.
 
 ghost use Rattle.std.specs.Prelude.{◌≡◌, ◌<◌, ◌≤◌, List, false, length, map, IfOk, IsTrue};
 ghost use Rattle.mcs_system.specs.Logic.{holds_all};
@@ -8,9 +8,11 @@ ghost use Rattle.mcs_cnf.specs.Entailments.{IsModelAt};
 ghost use Rattle.mcs_evidence.specs.Programs.{rule_formula};
 ghost use Rattle.mcs_evidence.specs.Pushing.{AreNamesOf};
 ghost use Rattle.mcs_evidence.specs.Supports.{support_formula};
-ghost use Rattle.mcs_program.specs.Asked.{program_names, program_rules, AreAllViews, IsListingFor, IsTight, listing_left, listing_rest};
+ghost use Rattle.mcs_program.specs.Asked.{program_names, program_rules, AreAllViews, IsListingFor};
+ghost use Rattle.mcs_program.specs.Asked.{IsTight, listing_left, listing_rest};
 ghost use Rattle.mcs_program.specs.Clauses.{AddsFormula, AreMeantBy};
-ghost use Rattle.mcs_program.specs.Listings.{first_formulas, IsPartListing, IsUnfounded, IsSupported};
+ghost use Rattle.mcs_program.specs.Listings.{first_formulas, IsPartListing, IsUnfounded};
+ghost use Rattle.mcs_program.specs.Listings.{IsSupported};
 
 use crate::answer::find_model;
 use crate::asked::LogicProgram;
@@ -29,9 +31,9 @@ use mcs_trace::Cnf;
 use std::alloc::Global;
 use std::slice;
 
-/// The state of the search. It has the clauses of what is known of the answer sets that are not listed yet. It has the
-/// sets of places whose loop formulas are known, besides those of one atom. It has the views of the answer sets found,
-/// in the order of states.
+/// The state of the search. It has the clauses of what is known of the answer sets that are not
+/// listed yet. It has the sets of places whose loop formulas are known, besides those of one atom.
+/// It has the views of the answer sets found, in the order of states.
 #[derive(Drop)]
 pub struct Listing {
     pub known: ClauseBase,
@@ -48,7 +50,8 @@ fn add_support(
 ) -> Result<(), Memory>
     requires over { AreNamesOf (program_names program.now) set.now }
     requires room { length (program_names program.now) ≤ known.old.vars }
-    ensures { IfOk result (λ _. AddsFormula (program_names program.now) (support_formula (program_rules program.now) set.now) known.old known.new) }
+    ensures { IfOk result (λ _. AddsFormula (program_names program.now)
+        (support_formula (program_rules program.now) set.now) known.old known.new) }
 {
     let mut more = Cnf::new(alloc, known.vars());
     push_support(alloc, &mut more, program.atoms, program.rules, set)?;
@@ -57,8 +60,10 @@ fn add_support(
 
 /// Adds that each true atom has support of its own.
 fn add_own(alloc: Global, known: &mut ClauseBase, program: &LogicProgram<'_>) -> Result<(), Memory>
-    requires { AreMeantBy (program_names program.now) (map rule_formula (program_rules program.now)) known.old }
-    ensures { IfOk result (λ _. AreMeantBy (program_names program.now) (first_formulas (program_names program.now) (program_rules program.now)) known.new) }
+    requires { AreMeantBy (program_names program.now)
+        (map rule_formula (program_rules program.now)) known.old }
+    ensures { IfOk result (λ _. AreMeantBy (program_names program.now)
+        (first_formulas (program_names program.now) (program_rules program.now)) known.new) }
 {
     let atoms = program.atoms;
     for atom in atoms {
@@ -67,15 +72,17 @@ fn add_own(alloc: Global, known: &mut ClauseBase, program: &LogicProgram<'_>) ->
     Ok(())
 }
 
-/// A set of places without external support in the model, of which an atom is true in the model; or `None` if there is
-/// none, so that the model is an answer set.
+/// A set of places without external support in the model, of which an atom is true in the model; or
+/// `None` if there is none, so that the model is an answer set.
 fn unfounded_in(
     alloc: Global,
     program: &LogicProgram<'_>,
     model: Vars,
 ) -> Result<Option<Vars>, Memory>
-    requires { IsModelAt (program_names program.now) (map rule_formula (program_rules program.now)) model }
-    ensures { IfOk result (IsUnfounded (program_names program.now) (program_rules program.now) model) }
+    requires { IsModelAt (program_names program.now)
+        (map rule_formula (program_rules program.now)) model }
+    ensures { IfOk result (IsUnfounded (program_names program.now)
+        (program_rules program.now) model) }
 {
     let smaller = smaller_clauses(alloc, program.atoms, program.rules, model)?;
     let found = satisfy_from(alloc, &smaller, program.atoms);
@@ -88,7 +95,8 @@ fn unfounded_in(
 
 /// The clauses that are known at first: the rules, and that each true atom has support of its own.
 fn first_clauses(alloc: Global, program: &LogicProgram<'_>) -> Result<ClauseBase, Memory>
-    ensures { IfOk result (AreMeantBy (program_names program.now) (first_formulas (program_names program.now) (program_rules program.now))) }
+    ensures { IfOk result (AreMeantBy (program_names program.now)
+        (first_formulas (program_names program.now) (program_rules program.now))) }
 {
     let cnf = clauses_of_rules(alloc, program)?;
     let known = ClauseBase::of(alloc, &cnf);
@@ -106,7 +114,8 @@ fn first_clauses(alloc: Global, program: &LogicProgram<'_>) -> Result<ClauseBase
 impl Listing {
     /// The state at first: the rules are known, and that each true atom has support of its own.
     fn new(alloc: Global, program: &LogicProgram<'_>) -> Result<Listing, Memory>
-        ensures { IfOk result (λ s. (beliefs : List plain.Formula) → IsPartListing (program_names program.now) (program_rules program.now) beliefs s) }
+        ensures { IfOk result (λ s. (beliefs : List plain.Formula)
+            → IsPartListing (program_names program.now) (program_rules program.now) beliefs s) }
     {
         let known = first_clauses(alloc, program)?;
         Ok(Listing {
@@ -124,7 +133,8 @@ impl Listing {
         set: Vars,
     ) -> Result<(), Memory>
         requires { length (program_names program.now) ≤ self.old.known.vars }
-        ensures { IfOk result (λ _. IsSupported (program_names program.now) (program_rules program.now) set self.old self.new) }
+        ensures { IfOk result (λ _. IsSupported (program_names program.now)
+            (program_rules program.now) set self.old self.new) }
     {
         let names = names_at(alloc, program.atoms, set)?;
         add_support(alloc, &mut self.known, program, &names)?;
@@ -132,8 +142,8 @@ impl Listing {
         Ok(())
     }
 
-    /// Takes a model of what is known. If it is an answer set, its view is listed; otherwise the loop formula of a set
-    /// without external support becomes known.
+    /// Takes a model of what is known. If it is an answer set, its view is listed; otherwise the
+    /// loop formula of a set without external support becomes known.
     fn take_up(
         &mut self,
         alloc: Global,
@@ -141,9 +151,11 @@ impl Listing {
         model: Vars,
     ) -> Result<(), Memory>
         requires listed { IsListingFor placed.now.program.now self.old }
-        requires model { IsModelAt (program_names placed.now.program.now) (listing_rest placed.now.program.now self.old) model }
+        requires model { IsModelAt (program_names placed.now.program.now)
+            (listing_rest placed.now.program.now self.old) model }
         ensures listed { IfOk result (λ _. IsListingFor placed.now.program.now self.new) }
-        ensures less { IfOk result (λ _. listing_left placed.now.program.now self.new < listing_left placed.now.program.now self.old) }
+        ensures less { IfOk result (λ _. listing_left placed.now.program.now self.new
+            < listing_left placed.now.program.now self.old) }
     {
         match unfounded_in(alloc, placed.program, model)? {
             Some(set) => self.support(alloc, placed.program, set),
@@ -158,8 +170,11 @@ impl Listing {
     fn step(&mut self, alloc: Global, placed: &PlacedProgram<'_>) -> Result<bool, Memory>
         requires { IsListingFor placed.now.program.now self.old }
         ensures listed { IfOk result (λ _. IsListingFor placed.now.program.now self.new) }
-        ensures goes { IfOk result (λ goes. IsTrue goes → listing_left placed.now.program.now self.new < listing_left placed.now.program.now self.old) }
-        ensures ends { IfOk result (λ goes. goes ≡ false → (a : List plain.Name) → ¬ IsTrue (holds_all a (listing_rest placed.now.program.now self.new))) }
+        ensures goes { IfOk result (λ goes. IsTrue goes
+            → listing_left placed.now.program.now self.new
+            < listing_left placed.now.program.now self.old) }
+        ensures ends { IfOk result (λ goes. goes ≡ false → (a : List plain.Name)
+            → ¬ IsTrue (holds_all a (listing_rest placed.now.program.now self.new))) }
     {
         match find_model(&mut self.known, placed.program)? {
             Some(model) => {
@@ -174,7 +189,8 @@ impl Listing {
 /// Takes steps until all answer sets are listed.
 fn go_on(alloc: Global, placed: &PlacedProgram<'_>) -> Result<Listing, Memory>
     ensures listed { IfOk result (IsListingFor placed.now.program.now) }
-    ensures all { IfOk result (λ s. (a : List plain.Name) → ¬ IsTrue (holds_all a (listing_rest placed.now.program.now s))) }
+    ensures all { IfOk result (λ s. (a : List plain.Name)
+        → ¬ IsTrue (holds_all a (listing_rest placed.now.program.now s))) }
 {
     let mut listing = Listing::new(alloc, placed.program)?;
     loop {
@@ -202,8 +218,8 @@ fn list_by_models(alloc: Global, placed: &PlacedProgram<'_>) -> Result<Vec<Vars>
     Ok(views)
 }
 
-/// Lists the views of all answer sets of a tight program, belief by belief: each model of the rules in which each true
-/// atom has support of its own is an answer set (Fages 1994).
+/// Lists the views of all answer sets of a tight program, belief by belief: each model of the rules
+/// in which each true atom has support of its own is an answer set (Fages 1994).
 fn list_by_beliefs(alloc: Global, placed: &PlacedProgram<'_>) -> Result<Vec<Vars>, Memory>
     requires { IsTight placed.now.program.now }
     ensures { IfOk result (λ views. AreAllViews placed.now.program.now views.items) }

@@ -1,4 +1,5 @@
-//! The rules of a program, each once. A program has the same answer sets without a rule whose twin it has.
+//! The rules of a program, each once. A program has the same answer sets without a rule whose twin
+//! it has.
 
 ghost use Rattle.std.specs.Prelude.{◌++◌, map, IfOk};
 ghost use Rattle.std.specs.List.{filter_map};
@@ -17,8 +18,8 @@ use mcs_system::{Name, ProgRule, with_facts};
 use std::alloc::Global;
 use std::collections::BTreeSet;
 
-/// Copies of the rules, in order, but for each one whose head, positive and negative body have the atoms of those of an
-/// earlier one.
+/// Copies of the rules, in order, but for each one whose head, positive and negative body have the
+/// atoms of those of an earlier one.
 fn rules_once(alloc: Global, program: &LogicProgram<'_>) -> Result<Vec<ProgRule>, Memory>
     ensures { IfOk result (λ once. IsOnce (program_rules program.now) (map rule_of once.items)) }
 {
@@ -40,8 +41,11 @@ pub(crate) fn once_with_facts(
     added: &[&Name],
 ) -> Result<Vec<ProgRule>, Memory>
     requires { AreNamesOf (program_names program.now) (map (λ b. b.now) added.now) }
-    ensures over { IfOk result (λ all. AreOverRules (program_names program.now) (map rule_of all.items)) }
-    ensures once { IfOk result (λ all. IsOnce (program_rules program.now ++ filter_map fact_of (map plain.Atom (map (λ b. b.now) added.now))) (map rule_of all.items)) }
+    ensures over { IfOk result (λ all. AreOverRules (program_names program.now)
+        (map rule_of all.items)) }
+    ensures once { IfOk result (λ all. IsOnce (program_rules program.now
+        ++ filter_map fact_of (map plain.Atom (map (λ b. b.now) added.now)))
+        (map rule_of all.items)) }
 {
     let once = rules_once(alloc, program)?;
     let all = with_facts(alloc, &once, added);

@@ -11,8 +11,10 @@ ghost use Rattle.mcs_system.specs.Plain.{Atom, Program};
 ghost use Rattle.mcs_system.specs.Seen.{rule_of};
 ghost use Rattle.mcs_system.specs.Views.{IsAcceptedView};
 ghost use Rattle.mcs_trace.specs.Traces.{inferences_of};
-ghost use Rattle.mcs_evidence.specs.Programs.{program_shown_of, rest_formulas, AreOverRules, IsAcceptedProgram, IsRefutation};
-ghost use Rattle.mcs_program.specs.Asked.{program_names, program_rules, program_beliefs, HasFoundAll, IsSearchFor};
+ghost use Rattle.mcs_evidence.specs.Programs.{program_shown_of, rest_formulas, AreOverRules};
+ghost use Rattle.mcs_evidence.specs.Programs.{IsAcceptedProgram, IsRefutation};
+ghost use Rattle.mcs_program.specs.Asked.{program_names, program_rules, program_beliefs};
+ghost use Rattle.mcs_program.specs.Asked.{HasFoundAll, IsSearchFor};
 
 use crate::asked::LogicProgram;
 use crate::listing::list_all;
@@ -25,7 +27,8 @@ use mcs_system::{Name, ProgRule, with_facts};
 use mcs_trace::{ProgramCert, Trace};
 use std::alloc::Global;
 
-/// A trace that no model is left: each has one of these views, or one of the smaller sets undoes it. This has to be so.
+/// A trace that no model is left: each has one of these views, or one of the smaller sets undoes
+/// it. This has to be so.
 fn refute_rest(
     alloc: Global,
     program: &LogicProgram<'_>,
@@ -33,9 +36,11 @@ fn refute_rest(
     views: &[Vars],
 ) -> Result<Trace, Memory>
     requires { (a : List plain.Name) → ¬ IsTrue (holds_all a
-        (rest_formulas (program_names program.now) (program_rules program.now) (program_beliefs program.now) smaller.now views.now)) }
+        (rest_formulas (program_names program.now) (program_rules program.now)
+        (program_beliefs program.now) smaller.now views.now)) }
     ensures { IfOk result (λ t. IsRefutation (program_names program.now)
-        (rest_formulas (program_names program.now) (program_rules program.now) (program_beliefs program.now) smaller.now views.now) (inferences_of t)) }
+        (rest_formulas (program_names program.now) (program_rules program.now)
+        (program_beliefs program.now) smaller.now views.now) (inferences_of t)) }
 {
     let rest = rest_clauses(
         alloc,
@@ -72,7 +77,9 @@ fn certified(
 ) -> Result<(Vec<Vars>, ProgramCert), Memory>
     requires search { IsSearchFor program.now search }
     requires all { HasFoundAll program.now search }
-    ensures { IfOk result (λ r. IsAcceptedProgram (program_names program.now) (program_rules program.now) (program_beliefs program.now) r.0.items (program_shown_of r.1)) }
+    ensures { IfOk result (λ r. IsAcceptedProgram (program_names program.now)
+        (program_rules program.now) (program_beliefs program.now) r.0.items
+        (program_shown_of r.1)) }
 {
     let Search {
         known,
@@ -105,10 +112,12 @@ fn parts(
     views: &[Vars],
 ) -> Result<(Vec<u64>, Trace), Memory>
     requires { (a : List plain.Name) → ¬ IsTrue (holds_all a
-        (rest_formulas (program_names program.now) (program_rules program.now) (program_beliefs program.now) smaller.now views.now)) }
+        (rest_formulas (program_names program.now) (program_rules program.now)
+        (program_beliefs program.now) smaller.now views.now)) }
     ensures smaller { IfOk result (λ r. r.0.items ≡ smaller.now) }
     ensures rest { IfOk result (λ r. IsRefutation (program_names program.now)
-        (rest_formulas (program_names program.now) (program_rules program.now) (program_beliefs program.now) smaller.now views.now) (inferences_of r.1)) }
+        (rest_formulas (program_names program.now) (program_rules program.now)
+        (program_beliefs program.now) smaller.now views.now) (inferences_of r.1)) }
 {
     let numbers = numbers(alloc, smaller)?;
     let none = refute_rest(alloc, program, smaller, views)?;
@@ -120,16 +129,18 @@ fn found_and_shown(
     alloc: Global,
     program: &LogicProgram<'_>,
 ) -> Result<(Vec<Vars>, ProgramCert), Memory>
-    ensures { IfOk result (λ r. IsAcceptedProgram (program_names program.now) (program_rules program.now) (program_beliefs program.now) r.0.items (program_shown_of r.1)) }
+    ensures { IfOk result (λ r. IsAcceptedProgram (program_names program.now)
+        (program_rules program.now) (program_beliefs program.now) r.0.items
+        (program_shown_of r.1)) }
 {
     let search = find_all(alloc, program)?;
     certified(alloc, program, search)
 }
 
-/// The views of the beliefs that a program with further facts accepts: for each of its answer sets (Gelfond & Lifschitz
-/// 1991) the numbers, from 0, of the beliefs in it. Each view is there once, in the order of states, and a certificate
-/// shows that they are all. All atoms have to be among `atoms`, of which there are at most 64, and there may be at most
-/// 64 beliefs.
+/// The views of the beliefs that a program with further facts accepts: for each of its answer sets
+/// (Gelfond & Lifschitz 1991) the numbers, from 0, of the beliefs in it. Each view is there once,
+/// in the order of states, and a certificate shows that they are all. All atoms have to be among
+/// `atoms`, of which there are at most 64, and there may be at most 64 beliefs.
 pub fn answer_sets(
     alloc: Global,
     rules: &[ProgRule],
@@ -143,8 +154,12 @@ pub fn answer_sets(
     requires rules { AreOverRules atoms.now (map rule_of rules.now) }
     requires added { AllByRecursion (λ n. IsTrue (is_in n atoms.now)) added.now }
     requires beliefs { AllByRecursion (λ n. IsTrue (is_in n atoms.now)) beliefs.now }
-    ensures exact { IfOk result (λ r. IsListing (IsAcceptedView (with_heads (Program (map rule_of rules.now)) (map Atom added.now)) (map Atom beliefs.now)) StateBefore r.0.items) }
-    ensures accepted { IfOk result (λ r. IsAcceptedProgram atoms.now (map rule_of rules.now ++ filter_map fact_of (map Atom added.now)) (map Atom beliefs.now) r.0.items (program_shown_of r.1)) }
+    ensures exact { IfOk result (λ r. IsListing (IsAcceptedView
+        (with_heads (Program (map rule_of rules.now)) (map Atom added.now))
+        (map Atom beliefs.now)) StateBefore r.0.items) }
+    ensures accepted { IfOk result (λ r. IsAcceptedProgram atoms.now
+        (map rule_of rules.now ++ filter_map fact_of (map Atom added.now))
+        (map Atom beliefs.now) r.0.items (program_shown_of r.1)) }
 {
     let added: Vec<&Name> = added.iter().collect(alloc)?;
     let beliefs: Vec<&Name> = beliefs.iter().collect(alloc)?;
@@ -164,10 +179,13 @@ pub fn answer_sets_from(
     requires different { has_twins atoms.now ≡ false }
     requires rules { AreOverRules atoms.now (map rule_of rules.now) }
     requires added { AllByRecursion (λ n. IsTrue (is_in n atoms.now)) (map (λ b. b.now) added.now) }
-    requires beliefs { AllByRecursion (λ n. IsTrue (is_in n atoms.now)) (map (λ b. b.now) beliefs.now) }
-    ensures exact { IfOk result (λ r. IsListing (IsAcceptedView (with_heads (Program (map rule_of rules.now)) (map Atom (map (λ b. b.now) added.now)))
+    requires beliefs { AllByRecursion (λ n. IsTrue (is_in n atoms.now))
+        (map (λ b. b.now) beliefs.now) }
+    ensures exact { IfOk result (λ r. IsListing (IsAcceptedView
+        (with_heads (Program (map rule_of rules.now)) (map Atom (map (λ b. b.now) added.now)))
         (map Atom (map (λ b. b.now) beliefs.now))) StateBefore r.0.items) }
-    ensures accepted { IfOk result (λ r. IsAcceptedProgram atoms.now (map rule_of rules.now ++ filter_map fact_of (map Atom (map (λ b. b.now) added.now)))
+    ensures accepted { IfOk result (λ r. IsAcceptedProgram atoms.now
+        (map rule_of rules.now ++ filter_map fact_of (map Atom (map (λ b. b.now) added.now)))
         (map Atom (map (λ b. b.now) beliefs.now)) r.0.items (program_shown_of r.1)) }
 {
     let all = with_facts(alloc, rules, added)?;
@@ -194,8 +212,10 @@ pub fn list_answer_sets(
     requires different { has_twins atoms.now ≡ false }
     requires rules { AreOverRules atoms.now (map rule_of rules.now) }
     requires added { AllByRecursion (λ n. IsTrue (is_in n atoms.now)) (map (λ b. b.now) added.now) }
-    requires beliefs { AllByRecursion (λ n. IsTrue (is_in n atoms.now)) (map (λ b. b.now) beliefs.now) }
-    ensures exact { IfOk result (λ r. IsListing (IsAcceptedView (with_heads (Program (map rule_of rules.now)) (map Atom (map (λ b. b.now) added.now)))
+    requires beliefs { AllByRecursion (λ n. IsTrue (is_in n atoms.now))
+        (map (λ b. b.now) beliefs.now) }
+    ensures exact { IfOk result (λ r. IsListing (IsAcceptedView
+        (with_heads (Program (map rule_of rules.now)) (map Atom (map (λ b. b.now) added.now)))
         (map Atom (map (λ b. b.now) beliefs.now))) StateBefore r.items) }
 {
     let given = LogicProgram {

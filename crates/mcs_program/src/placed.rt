@@ -13,5 +13,8 @@ use crate::placing::Placing;
 pub(crate) struct PlacedProgram<'a> {
     pub(crate) program: &'a LogicProgram<'a>,
     pub(crate) placing: Placing,
-    ghost right: { IsPlacing program.now.atoms.now (map rule_of program.now.rules.now) (map (λ b. b.now) program.now.beliefs.now) placing } by { IsPlacing-prop program.now.atoms.now (map rule_of program.now.rules.now) (map (λ b. b.now) program.now.beliefs.now) placing },
+    ghost right: { IsPlacing program.now.atoms.now (map rule_of program.now.rules.now)
+        (map (λ b. b.now) program.now.beliefs.now) placing } by { IsPlacing-prop
+            program.now.atoms.now (map rule_of program.now.rules.now)
+            (map (λ b. b.now) program.now.beliefs.now) placing },
 }

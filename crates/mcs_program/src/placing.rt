@@ -7,7 +7,9 @@ ghost use Rattle.mcs_system.specs.Seen.{rule_of};
 ghost use Rattle.mcs_evidence.specs.Programs.{IsOverRule};
 ghost use Rattle.mcs_evidence.specs.Pushing.{AreNamesOf};
 ghost use Rattle.mcs_program.specs.Asked.{program_names, program_rules, belief_names};
-ghost use Rattle.mcs_program.specs.Placing.{places_within, do_meet, placed_holds, placed_blocked, lies_beside, IsPlaceOf, ArePlaces, IsPlacedRule, IsPlacing};
+ghost use Rattle.mcs_program.specs.Placing.{places_within, do_meet, placed_holds, placed_blocked};
+ghost use Rattle.mcs_program.specs.Placing.{lies_beside, IsPlaceOf, ArePlaces, IsPlacedRule};
+ghost use Rattle.mcs_program.specs.Placing.{IsPlacing};
 
 use crate::asked::LogicProgram;
 use mcs_base::{Memory, Vars};
@@ -84,7 +86,8 @@ impl PlacedRule {
         !lies_within(self.pos, places) || do_meet(self.neg, places) || do_meet(self.head, places)
     }
 
-    /// Whether the reduct by the atoms at `places` does not have the rule, or the atoms at `less` satisfy it there.
+    /// Whether the reduct by the atoms at `places` does not have the rule, or the atoms at `less`
+    /// satisfy it there.
     fn is_blocked(&self, less: Vars, places: Vars) -> bool
         ensures { result ≡ placed_blocked less places self.now }
     {
@@ -115,7 +118,8 @@ pub(crate) fn lies_beside(rules: &[PlacedRule], places: Vars, less: Vars) -> boo
 
 /// The rules, by the places of their atoms, in order.
 fn placed_rules(alloc: Global, program: &LogicProgram<'_>) -> Result<Vec<PlacedRule>, Memory>
-    ensures { IfOk result (λ placed. AllZip (IsPlacedRule (program_names program.now)) (program_rules program.now) placed.items) }
+    ensures { IfOk result (λ placed. AllZip (IsPlacedRule (program_names program.now))
+        (program_rules program.now) placed.items) }
 {
     let rules = program.rules;
     let mut placed = Vec::new(alloc);
@@ -127,7 +131,8 @@ fn placed_rules(alloc: Global, program: &LogicProgram<'_>) -> Result<Vec<PlacedR
 
 /// The places of the beliefs, in order.
 fn places_in_order(alloc: Global, program: &LogicProgram<'_>) -> Result<Vec<u32>, Memory>
-    ensures { IfOk result (λ places. AllZip (IsPlaceOf (program_names program.now)) (belief_names program.now) places.items) }
+    ensures { IfOk result (λ places. AllZip (IsPlaceOf (program_names program.now))
+        (belief_names program.now) places.items) }
 {
     let beliefs = program.beliefs;
     let mut places = Vec::new(alloc);
@@ -140,7 +145,8 @@ fn places_in_order(alloc: Global, program: &LogicProgram<'_>) -> Result<Vec<u32>
 impl Placing {
     /// The rules and the beliefs, by the places of their atoms.
     pub(crate) fn of(alloc: Global, program: &LogicProgram<'_>) -> Result<Placing, Memory>
-        ensures { IfOk result (IsPlacing (program_names program.now) (program_rules program.now) (belief_names program.now)) }
+        ensures { IfOk result (IsPlacing (program_names program.now) (program_rules program.now)
+            (belief_names program.now)) }
     {
         let beliefs = places_in_order(alloc, program)?;
         let rules = placed_rules(alloc, program)?;

@@ -13,8 +13,8 @@ use mcs_base::{Memory, Vars};
 use mcs_sat::ClauseBase;
 use std::alloc::Global;
 
-/// Inserts the view of the model among the views, and adds that the remaining models have another one. Returns its
-/// index.
+/// Inserts the view of the model among the views, and adds that the remaining models have another
+/// one. Returns its index.
 pub(crate) fn put_view(
     alloc: Global,
     known: &mut ClauseBase,
@@ -24,7 +24,9 @@ pub(crate) fn put_view(
 ) -> Result<usize, Memory>
     requires room { length (program_names placed.now.program.now) ≤ known.old.vars }
     requires ascending { IsAscending StateBefore views.old.items }
-    ensures { IfOk result (λ place. IsViewPlaced (program_names placed.now.program.now) (program_beliefs placed.now.program.now) model place known.old views.old.items known.new views.new.items) }
+    ensures { IfOk result (λ place. IsViewPlaced (program_names placed.now.program.now)
+        (program_beliefs
+        placed.now.program.now) model place known.old views.old.items known.new views.new.items) }
 {
     let view = view_of(placed, model);
     push_other(alloc, known, placed.program, view)?;

@@ -6,8 +6,10 @@ ghost use Rattle.mcs_base.specs.Listings.{IsAscending};
 ghost use Rattle.mcs_system.specs.Plain as plain;
 ghost use Rattle.mcs_trace.specs.Traces.{inferences_of};
 ghost use Rattle.mcs_cnf.specs.Entailments.{IsModelAt};
-ghost use Rattle.mcs_program.specs.Asked.{program_names, program_rules, program_beliefs, search_rest, search_left, HasFoundAll, IsSearchFor};
-ghost use Rattle.mcs_program.specs.Searches.{IsFoundFor, IsProgramSearch, IsExcluded, IsPlaced, IsViewListed};
+ghost use Rattle.mcs_program.specs.Asked.{program_names, program_rules, program_beliefs};
+ghost use Rattle.mcs_program.specs.Asked.{search_rest, search_left, HasFoundAll, IsSearchFor};
+ghost use Rattle.mcs_program.specs.Searches.{IsFoundFor, IsProgramSearch, IsExcluded, IsPlaced};
+ghost use Rattle.mcs_program.specs.Searches.{IsViewListed};
 
 use crate::answer::find_model;
 use crate::asked::LogicProgram;
@@ -24,9 +26,9 @@ use mcs_sat::ClauseBase;
 use mcs_trace::{AnswerSetCert, Cnf, Trace};
 use std::alloc::Global;
 
-/// The state of the search. It has the clauses of what is known of the answer sets that are not found yet. It has the
-/// smaller sets by which models were found to be no answer sets. It has the views of the answer sets found, in the
-/// order of states, each with its model.
+/// The state of the search. It has the clauses of what is known of the answer sets that are not
+/// found yet. It has the smaller sets by which models were found to be no answer sets. It has the
+/// views of the answer sets found, in the order of states, each with its model.
 #[derive(Drop)]
 pub struct Search {
     pub known: ClauseBase,
@@ -38,7 +40,8 @@ pub struct Search {
 impl Search {
     /// The state at first: the rules are known.
     fn new(alloc: Global, program: &LogicProgram<'_>) -> Result<Search, Memory>
-        ensures { IfOk result (λ s. (beliefs : List plain.Formula) → IsProgramSearch (program_names program.now) (program_rules program.now) beliefs s) }
+        ensures { IfOk result (λ s. (beliefs : List plain.Formula)
+            → IsProgramSearch (program_names program.now) (program_rules program.now) beliefs s) }
     {
         let cnf = clauses_of_rules(alloc, program)?;
         let known = ClauseBase::of(alloc, &cnf);
@@ -60,7 +63,8 @@ impl Search {
         less: Vars,
     ) -> Result<(), Memory>
         requires { length (program_names program.now) ≤ self.old.known.vars }
-        ensures { IfOk result (λ _. IsExcluded (program_names program.now) (program_rules program.now) less self.old self.new) }
+        ensures { IfOk result (λ _. IsExcluded (program_names program.now)
+            (program_rules program.now) less self.old self.new) }
     {
         let mut more = Cnf::new(alloc, self.known.vars());
         push_beside(alloc, &mut more, program.atoms, program.rules, less)?;
@@ -69,8 +73,8 @@ impl Search {
         Ok(())
     }
 
-    /// Inserts the view of the model among the views, and adds that the remaining models have another one. Returns its
-    /// index.
+    /// Inserts the view of the model among the views, and adds that the remaining models have
+    /// another one. Returns its index.
     fn put_view(
         &mut self,
         alloc: Global,
@@ -79,7 +83,8 @@ impl Search {
     ) -> Result<usize, Memory>
         requires room { length (program_names placed.now.program.now) ≤ self.old.known.vars }
         requires ascending { IsAscending StateBefore self.old.views.items }
-        ensures { IfOk result (λ place. IsPlaced (program_names placed.now.program.now) (program_beliefs placed.now.program.now) model place self.old self.new) }
+        ensures { IfOk result (λ place. IsPlaced (program_names placed.now.program.now)
+            (program_beliefs placed.now.program.now) model place self.old self.new) }
     {
         put_view(alloc, &mut self.known, &mut self.views, placed, model)
     }
@@ -93,7 +98,9 @@ impl Search {
         minimal: Trace,
     ) -> Result<(), Memory>
         requires { IsSearchFor placed.now.program.now self.old }
-        ensures { IfOk result (λ _. IsViewListed (program_names placed.now.program.now) (program_beliefs placed.now.program.now) model (inferences_of minimal) self.old self.new) }
+        ensures { IfOk result (λ _. IsViewListed (program_names placed.now.program.now)
+            (program_beliefs placed.now.program.now) model
+            (inferences_of minimal) self.old self.new) }
     {
         match self.put_view(alloc, placed, model) {
             Ok(place) => {
@@ -111,7 +118,8 @@ impl Search {
         }
     }
 
-    /// Takes a model of what is known. It is an answer set, or a smaller set that undoes it is excluded.
+    /// Takes a model of what is known. It is an answer set, or a smaller set that undoes it is
+    /// excluded.
     fn take_up(
         &mut self,
         alloc: Global,
@@ -119,9 +127,11 @@ impl Search {
         model: Vars,
     ) -> Result<(), Memory>
         requires search { IsSearchFor placed.now.program.now self.old }
-        requires model { IsModelAt (program_names placed.now.program.now) (search_rest placed.now.program.now self.old) model }
+        requires model { IsModelAt (program_names placed.now.program.now)
+            (search_rest placed.now.program.now self.old) model }
         ensures search { IfOk result (λ _. IsSearchFor placed.now.program.now self.new) }
-        ensures less { IfOk result (λ _. search_left placed.now.program.now self.new < search_left placed.now.program.now self.old) }
+        ensures less { IfOk result (λ _. search_left placed.now.program.now self.new
+            < search_left placed.now.program.now self.old) }
     {
         let program = placed.program;
         let smaller = smaller_clauses(alloc, program.atoms, program.rules, model)?;
@@ -133,12 +143,14 @@ impl Search {
         }
     }
 
-    /// A model of what is known, or `None` if there is none. If the set of all atoms is one, it is taken without a
-    /// search. In a program without constraints this is so until a view with all beliefs is found.
+    /// A model of what is known, or `None` if there is none. If the set of all atoms is one, it is
+    /// taken without a search. In a program without constraints this is so until a view with all
+    /// beliefs is found.
     fn next_model(&mut self, placed: &PlacedProgram<'_>) -> Result<Option<Vars>, Memory>
         requires { IsSearchFor placed.now.program.now self.old }
         ensures same { self.new ≡ self.old }
-        ensures found { IfOk result (IsFoundFor (program_names placed.now.program.now) (search_rest placed.now.program.now self.old)) }
+        ensures found { IfOk result (IsFoundFor (program_names placed.now.program.now)
+            (search_rest placed.now.program.now self.old)) }
     {
         let all = all_places(placed.program.atoms.len());
         if is_possible(placed, self, all) {
@@ -147,12 +159,16 @@ impl Search {
         find_model(&mut self.known, placed.program)
     }
 
-    /// Searches for one more model of what is known, minimizes it and takes it. Returns whether there was one.
+    /// Searches for one more model of what is known, minimizes it and takes it. Returns whether
+    /// there was one.
     fn step(&mut self, alloc: Global, placed: &PlacedProgram<'_>) -> Result<bool, Memory>
         requires { IsSearchFor placed.now.program.now self.old }
         ensures search { IfOk result (λ _. IsSearchFor placed.now.program.now self.new) }
-        ensures goes { IfOk result (λ goes. IsTrue goes → search_left placed.now.program.now self.new < search_left placed.now.program.now self.old) }
-        ensures ends { IfOk result (λ goes. goes ≡ false → HasFoundAll placed.now.program.now self.new) }
+        ensures goes { IfOk result (λ goes. IsTrue goes
+            → search_left placed.now.program.now self.new
+            < search_left placed.now.program.now self.old) }
+        ensures ends { IfOk result (λ goes. goes ≡ false
+            → HasFoundAll placed.now.program.now self.new) }
     {
         match self.next_model(placed)? {
             Some(model) => {

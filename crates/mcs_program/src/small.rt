@@ -26,7 +26,8 @@ fn none_beside(rules: &[PlacedRule], smaller: &[Vars], places: Vars) -> bool
 /// Whether all that is known holds if exactly the atoms at these places are true.
 pub(crate) fn is_possible(placed: &PlacedProgram<'_>, search: &Search, places: Vars) -> bool
     requires { IsAscending StateBefore search.now.views.items }
-    ensures { result ≡ may_be_model placed.now.placing search.now.smaller.items search.now.views.items places }
+    ensures { result
+        ≡ may_be_model placed.now.placing search.now.smaller.items search.now.views.items places }
 {
     rules_hold(&placed.placing.rules, places)
         && is_new(&search.views, view_of(placed, places))
@@ -51,7 +52,8 @@ fn without_atom(placed: &PlacedProgram<'_>, search: &Search, model: Vars, place:
     }
 }
 
-/// The model after its atoms were left out one after the other, as far as all that is known still holds.
+/// The model after its atoms were left out one after the other, as far as all that is known still
+/// holds.
 pub(crate) fn made_small(placed: &PlacedProgram<'_>, search: &Search, model: Vars) -> Vars
     requires { IsAscending StateBefore search.now.views.items }
     ensures stays { StaysModel placed.now.program.now search.now model result }

@@ -4,7 +4,8 @@ ghost use Rattle.std.specs.Prelude.{◌≡◌, ◌≤◌, List, length, IfOk, On
 ghost use Rattle.mcs_system.specs.Plain as plain;
 ghost use Rattle.mcs_program.specs.Asked.{program_names, program_beliefs};
 ghost use Rattle.mcs_program.specs.Clauses.{AreMeantBy};
-ghost use Rattle.mcs_program.specs.Splitting.{AgreeWith, AreModelViews, AreModelViewsAdded, IsModelView, IsViewFoundFor};
+ghost use Rattle.mcs_program.specs.Splitting.{AgreeWith, AreModelViews, AreModelViewsAdded};
+ghost use Rattle.mcs_program.specs.Splitting.{IsModelView, IsViewFoundFor};
 
 use crate::answer::find_model;
 use crate::atom_clauses::push_value;
@@ -18,8 +19,10 @@ use std::alloc::Global;
 fn find_view(known: &mut ClauseBase, placed: &PlacedProgram<'_>) -> Result<Option<Vars>, Memory>
     requires { length (program_names placed.now.program.now) ≤ known.old.vars }
     ensures same { known.new ≡ known.old }
-    ensures found { IfOk result (λ found. (fs : List plain.Formula) → AreMeantBy (program_names placed.now.program.now) fs known.old
-        → IsViewFoundFor (program_names placed.now.program.now) (program_beliefs placed.now.program.now) fs found) }
+    ensures found { IfOk result (λ found. (fs : List plain.Formula)
+        → AreMeantBy (program_names placed.now.program.now) fs known.old
+        → IsViewFoundFor (program_names placed.now.program.now)
+        (program_beliefs placed.now.program.now) fs found) }
 {
     match find_model(known, placed.program)? {
         Some(model) => Ok(Some(view_of(placed, model))),
@@ -27,9 +30,9 @@ fn find_view(known: &mut ClauseBase, placed: &PlacedProgram<'_>) -> Result<Optio
     }
 }
 
-/// Adds the views of all models of what is known. `view` is that of one of them, and all of them agree with it on the
-/// first `decided` beliefs. The next belief is then given either value: the one that it has in `view`, without a
-/// search, and the other one, if a search finds a model.
+/// Adds the views of all models of what is known. `view` is that of one of them, and all of them
+/// agree with it on the first `decided` beliefs. The next belief is then given either value: the
+/// one that it has in `view`, without a search, and the other one, if a search finds a model.
 fn add_views(
     known: &mut ClauseBase,
     placed: &PlacedProgram<'_>,
@@ -40,10 +43,13 @@ fn add_views(
     requires room { length (program_names placed.now.program.now) ≤ known.old.vars }
     requires decided { decided ≤ length placed.now.program.now.beliefs.now }
     ensures same { OnOk result (known.new ≡ known.old) }
-    ensures added { OnOk result ((fs : List plain.Formula) → AreMeantBy (program_names placed.now.program.now) fs known.old
-        → IsModelView (program_names placed.now.program.now) (program_beliefs placed.now.program.now) fs view
+    ensures added { OnOk result ((fs : List plain.Formula)
+        → AreMeantBy (program_names placed.now.program.now) fs known.old
+        → IsModelView (program_names placed.now.program.now)
+        (program_beliefs placed.now.program.now) fs view
         → AgreeWith (program_beliefs placed.now.program.now) fs view decided
-        → AreModelViewsAdded (program_names placed.now.program.now) (program_beliefs placed.now.program.now) fs views.old.items views.new.items) }
+        → AreModelViewsAdded (program_names placed.now.program.now)
+        (program_beliefs placed.now.program.now) fs views.old.items views.new.items) }
 {
     let beliefs = placed.program.beliefs;
     if decided == beliefs.len() {
@@ -72,8 +78,10 @@ pub(crate) fn list_views(
     placed: &PlacedProgram<'_>,
 ) -> Result<Vec<Vars>, Memory>
     requires { length (program_names placed.now.program.now) ≤ known.old.vars }
-    ensures { IfOk result (λ views. (fs : List plain.Formula) → AreMeantBy (program_names placed.now.program.now) fs known.old
-        → AreModelViews (program_names placed.now.program.now) (program_beliefs placed.now.program.now) fs views.items) }
+    ensures { IfOk result (λ views. (fs : List plain.Formula)
+        → AreMeantBy (program_names placed.now.program.now) fs known.old
+        → AreModelViews (program_names placed.now.program.now)
+        (program_beliefs placed.now.program.now) fs views.items) }
 {
     let mut views = Vec::new(alloc);
     if let Some(view) = find_view(known, placed)? {

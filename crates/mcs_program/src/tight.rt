@@ -10,9 +10,11 @@ use crate::placing::{PlacedRule, lies_within};
 use crate::view::all_places;
 use mcs_base::Vars;
 
-/// The atoms, among those at the places, that are in no head of a rule whose positive body is not within the set.
+/// The atoms, among those at the places, that are in no head of a rule whose positive body is not
+/// within the set.
 fn based_on(rules: &[PlacedRule], set: Vars, places: Vars) -> Vars
-    ensures { AllByRecursion (λ (r : PlacedRule). do_meet r.head result ≡ true → places_within r.pos set ≡ true) rules.now }
+    ensures { AllByRecursion (λ (r : PlacedRule). do_meet r.head result ≡ true
+        → places_within r.pos set ≡ true) rules.now }
 {
     let mut based = places;
     for rule in rules {
@@ -23,9 +25,9 @@ fn based_on(rules: &[PlacedRule], set: Vars, places: Vars) -> Vars
     based
 }
 
-/// Whether no positive body of the rules leads from one of the atoms on without end. Starting from the empty set, the
-/// atoms whose positive bodies lie within the set are added again and again, until all atoms are in it or nothing
-/// changes.
+/// Whether no positive body of the rules leads from one of the atoms on without end. Starting from
+/// the empty set, the atoms whose positive bodies lie within the set are added again and again,
+/// until all atoms are in it or nothing changes.
 pub(crate) fn is_tight(placed: &PlacedProgram<'_>) -> bool
     ensures { IsTrue result → IsTight placed.now.program.now }
 {

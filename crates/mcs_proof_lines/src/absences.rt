@@ -3,7 +3,9 @@
 ghost use Rattle.std.specs.Prelude.{◌≡◌, ◌≤◌, ◌<◌, length, map, IfSome};
 ghost use Rattle.std.specs.List.{AllByRecursion};
 ghost use Rattle.mcs_evidence.specs.Defaults.{absence_of};
-ghost use Rattle.mcs_proof_lines.specs.Walks.{Gives, IsNumberOf, IsJustOf, may_be_named, may_block, is_just, number_after, unsupported_of, blocked_of, absence_at, absence_of_place, each_at, line_at};
+ghost use Rattle.mcs_proof_lines.specs.Walks.{Gives, IsNumberOf, IsJustOf, may_be_named, may_block};
+ghost use Rattle.mcs_proof_lines.specs.Walks.{is_just, number_after, unsupported_of, blocked_of};
+ghost use Rattle.mcs_proof_lines.specs.Walks.{absence_at, absence_of_place, each_at, line_at};
 
 use crate::evidence::{out_of_place, take_no, take_yes};
 use crate::fault::ReportFault;
@@ -92,8 +94,9 @@ fn read_blocked(justs: &[usize], only: Option<u32>, line: &[u8]) -> Option<(u32,
     may_block(justs, only, number, just)
 }
 
-/// The number of the default that the next line names as unsupported, counted from 1. `justs` are the numbers of
-/// justifications of each default; if `only` is given, no other default may be named.
+/// The number of the default that the next line names as unsupported, counted from 1. `justs` are
+/// the numbers of justifications of each default; if `only` is given, no other default may be
+/// named.
 pub fn next_unsupported(justs: &[usize], only: Option<u32>, lines: &Lines<'_>) -> Option<u32>
     requires { length justs.now ≤ 10 }
     ensures value { result ≡ line_at (unsupported_of justs.now only) lines.now }
@@ -102,8 +105,9 @@ pub fn next_unsupported(justs: &[usize], only: Option<u32>, lines: &Lines<'_>) -
     read_unsupported(justs, only, lines.current()?)
 }
 
-/// The number of the default that the next line names as blocked, and that of its justification, both counted from 1.
-/// `justs` are the numbers of justifications of each default; if `only` is given, no other default may be named.
+/// The number of the default that the next line names as blocked, and that of its justification,
+/// both counted from 1. `justs` are the numbers of justifications of each default; if `only` is
+/// given, no other default may be named.
 pub fn next_blocked(justs: &[usize], only: Option<u32>, lines: &Lines<'_>) -> Option<(u32, u32)>
     requires { length justs.now ≤ 10 }
     ensures value { result ≡ line_at (blocked_of justs.now only) lines.now }
@@ -112,8 +116,9 @@ pub fn next_blocked(justs: &[usize], only: Option<u32>, lines: &Lines<'_>) -> Op
     read_blocked(justs, only, lines.current()?)
 }
 
-/// Takes a certificate that a default is unsupported or blocked; if `only` is given, that this one is. `atoms` are the
-/// names of the atoms, and `justs` the number of justifications of each default.
+/// Takes a certificate that a default is unsupported or blocked; if `only` is given, that this one
+/// is. `atoms` are the names of the atoms, and `justs` the number of justifications of each
+/// default.
 #[tactic(auto, unfolding(crate::specs::Walks::absence_at))]
 pub fn take_absence(
     alloc: Global,
@@ -154,7 +159,8 @@ pub fn take_absences(
     requires atoms { length atoms.now ≤ 64 }
     requires defaults { length justs.now ≤ 10 }
     requires places { AllByRecursion (λ k. k < 64) places }
-    ensures { Gives (λ v. map absence_of v.items) result lines.new (each_at (absence_of_place atoms.now justs.now) places lines.old) }
+    ensures { Gives (λ v. map absence_of v.items) result lines.new
+        (each_at (absence_of_place atoms.now justs.now) places lines.old) }
 {
     let mut outside = Vec::new(alloc);
     for place in places {

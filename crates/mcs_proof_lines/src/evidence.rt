@@ -6,7 +6,9 @@ ghost use Rattle.mcs_trace.specs.Traces.{inference_of, inferences_of};
 ghost use Rattle.mcs_spelling.specs.Words.{step_of};
 ghost use Rattle.mcs_cnf.specs.Entailments.{entailment_of};
 ghost use Rattle.mcs_proof_lines.specs.declared.fault.ReportFault.TheVariants as faults;
-ghost use Rattle.mcs_proof_lines.specs.Walks.{atoms_of_line, Gives, Passes, is_next, expect_at, line_at, steps_at, trace_at, yes_at, atoms_at, no_at, entailment_at, many_at};
+ghost use Rattle.mcs_proof_lines.specs.Walks.{atoms_of_line, Gives, Passes, is_next, expect_at};
+ghost use Rattle.mcs_proof_lines.specs.Walks.{line_at, steps_at, trace_at, yes_at, atoms_at, no_at};
+ghost use Rattle.mcs_proof_lines.specs.Walks.{entailment_at, many_at};
 
 use crate::fault::ReportFault;
 use crate::lines::Lines;
@@ -150,7 +152,8 @@ pub fn take_all_yes(
     count: usize,
     lines: &mut Lines<'_>,
 ) -> Result<Vec<Entail>, ReportFault>
-    ensures { Gives (λ v. map entailment_of v.items) result lines.new (many_at yes_at count lines.old) }
+    ensures { Gives (λ v. map entailment_of v.items) result lines.new
+        (many_at yes_at count lines.old) }
 {
     let mut entails = Vec::new(alloc);
     let mut left = count;
@@ -172,7 +175,8 @@ pub fn take_all_no(
     lines: &mut Lines<'_>,
 ) -> Result<Vec<Entail>, ReportFault>
     requires { length atoms.now ≤ 64 }
-    ensures { Gives (λ v. map entailment_of v.items) result lines.new (many_at (no_at atoms.now) count lines.old) }
+    ensures { Gives (λ v. map entailment_of v.items) result lines.new
+        (many_at (no_at atoms.now) count lines.old) }
 {
     let mut entails = Vec::new(alloc);
     let mut left = count;
@@ -194,7 +198,8 @@ pub fn take_entailments(
     lines: &mut Lines<'_>,
 ) -> Result<Vec<Entail>, ReportFault>
     requires { length atoms.now ≤ 64 }
-    ensures { Gives (λ v. map entailment_of v.items) result lines.new (many_at (entailment_at atoms.now) count lines.old) }
+    ensures { Gives (λ v. map entailment_of v.items) result lines.new
+        (many_at (entailment_at atoms.now) count lines.old) }
 {
     let mut entails = Vec::new(alloc);
     let mut left = count;

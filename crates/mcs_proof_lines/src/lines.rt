@@ -8,9 +8,9 @@ ghost use Rattle.mcs_proof_lines.specs.Walks.{advanced, next_line};
 use mcs_spelling::find;
 use std::marker::Model;
 
-/// The lines of a text, each ended by a line feed, as a cursor at the next one: the bytes from there on, and the place
-/// of the next line feed, if there is one. A call that takes several lines and is refused, also for want of memory, may
-/// have taken some of them.
+/// The lines of a text, each ended by a line feed, as a cursor at the next one: the bytes from
+/// there on, and the place of the next line feed, if there is one. A call that takes several lines
+/// and is refused, also for want of memory, may have taken some of them.
 #[derive(Drop)]
 pub struct Lines<'b> {
     left: &'b [u8],
@@ -26,15 +26,21 @@ impl<'b> Model for Lines<'b> {
 
     ghost Value = { At };
 
-    ghost view = { λ l. record { taken = l.taken; rest = complete_lines l.left.now; tail = incomplete l.left.now } };
+    ghost view = { λ l. record {
+      taken = l.taken;
+      rest = complete_lines l.left.now;
+      tail = incomplete l.left.now;
+    } };
 
-    ghost invariant = { λ l. (l.taken + length l.left.now < 2 ^ 63) × (l.feed ≡ place_of_byte 10 l.left.now) };
+    ghost invariant = { λ l. (l.taken + length l.left.now < 2 ^ 63)
+        × (l.feed ≡ place_of_byte 10 l.left.now) };
 }
 
 impl<'b> Lines<'b> {
     /// The lines of the bytes, of which none was taken.
     pub fn new(bytes: &'b [u8]) -> Lines<'b>
-        ensures { result ≡ record { taken = 0; rest = complete_lines bytes.now; tail = incomplete bytes.now } }
+        ensures { result
+            ≡ record { taken = 0; rest = complete_lines bytes.now; tail = incomplete bytes.now } }
     {
         Lines {
             left: bytes,

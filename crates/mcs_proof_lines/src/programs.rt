@@ -38,7 +38,8 @@ fn take_models(
     lines: &mut Lines<'_>,
 ) -> Result<Vec<AnswerSetCert>, ReportFault>
     requires { length atoms.now ≤ 64 }
-    ensures { Gives (λ v. map model_shown_of v.items) result lines.new (many_at (model_at atoms.now) count lines.old) }
+    ensures { Gives (λ v. map model_shown_of v.items) result lines.new
+        (many_at (model_at atoms.now) count lines.old) }
 {
     let mut models = Vec::new(alloc);
     let mut left = count;

@@ -37,9 +37,11 @@ impl Theory<'_> {
         }
     }
 
-    /// The number of justifications of all defaults at the places, or `None` exactly if it does not fit in 64 bits.
+    /// The number of justifications of all defaults at the places, or `None` exactly if it does not
+    /// fit in 64 bits.
     pub fn count_justs(&self, places: Members) -> Option<usize>
-        ensures { MatchOption result (2 ^ 64 ≤ just_total self.now.justs.now places) (λ n. n ≡ just_total self.now.justs.now places) }
+        ensures { MatchOption result (2 ^ 64 ≤ just_total self.now.justs.now places)
+            (λ n. n ≡ just_total self.now.justs.now places) }
     {
         let mut count: usize = 0;
         for place in places {

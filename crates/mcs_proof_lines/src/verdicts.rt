@@ -4,7 +4,9 @@ ghost use Rattle.std.specs.Prelude.{◌≡◌, ◌≤◌, ◌<◌, ◌^◌, [], 
 ghost use Rattle.std.specs.Option.{option_map};
 ghost use Rattle.mcs_evidence.specs.Defaults.{verdict_of};
 ghost use Rattle.mcs_proof_lines.specs.Walks.{Gives, IsNumberOf, line_at, number_after};
-ghost use Rattle.mcs_proof_lines.specs.Verdicts.{within_from, order_of, terms_of, defaults_of_line, extension_at, applied_at, ungrounded_at, verdict_at, names_set, set_at, verdicts_at};
+ghost use Rattle.mcs_proof_lines.specs.Verdicts.{within_from, order_of, terms_of, defaults_of_line};
+ghost use Rattle.mcs_proof_lines.specs.Verdicts.{extension_at, applied_at, ungrounded_at};
+ghost use Rattle.mcs_proof_lines.specs.Verdicts.{verdict_at, names_set, set_at, verdicts_at};
 
 use crate::absences::{number_after, take_absence, take_absences};
 use crate::evidence::{out_of_place, take_all_no, take_all_yes, take_entailments, take_yes};
@@ -83,7 +85,8 @@ fn next_order(
     lines: &Lines<'_>,
 ) -> Result<Option<Vec<u32>>, Memory>
     requires { length theory.now.justs.now ≤ 10 }
-    ensures { IfOk result (λ o. option_map (λ v. v.items) o ≡ line_at (order_of (length theory.now.justs.now)) lines.now) }
+    ensures { IfOk result (λ o. option_map (λ v. v.items) o
+        ≡ line_at (order_of (length theory.now.justs.now)) lines.now) }
 {
     match lines.current() {
         Some(line) => read_order(alloc, theory.justs.len() as u32, line),
@@ -91,7 +94,8 @@ fn next_order(
     }
 }
 
-/// Takes the rest of a verdict that the set generates an extension, with its defaults in this order.
+/// Takes the rest of a verdict that the set generates an extension, with its defaults in this
+/// order.
 #[tactic(auto, unfolding(crate::specs::Verdicts::extension_at))]
 fn take_extension(
     alloc: Global,
@@ -102,7 +106,8 @@ fn take_extension(
 ) -> Result<SetCert, ReportFault>
     requires atoms { length theory.now.atoms.now ≤ 64 }
     requires defaults { length theory.now.justs.now ≤ 10 }
-    ensures { Gives verdict_of result lines.new (extension_at (terms_of theory.now) set order.items lines.old) }
+    ensures { Gives verdict_of result lines.new (extension_at
+        (terms_of theory.now) set order.items lines.old) }
 {
     let Some(count) = theory.count_justs(set.members()) else {
         return Err(ReportFault::Memory);
@@ -131,7 +136,8 @@ fn take_applied(
 ) -> Result<SetCert, ReportFault>
     requires atoms { length theory.now.atoms.now ≤ 64 }
     requires some { 0 < number }
-    ensures { Gives verdict_of result lines.new (applied_at (terms_of theory.now) number lines.old) }
+    ensures { Gives verdict_of result lines.new (applied_at
+        (terms_of theory.now) number lines.old) }
 {
     let pre = take_yes(alloc, lines)?;
     match take_all_no(alloc, theory.atoms, theory.just_count(number - 1), lines) {
@@ -154,7 +160,8 @@ fn take_ungrounded(
 ) -> Result<SetCert, ReportFault>
     requires atoms { length theory.now.atoms.now ≤ 64 }
     requires closed { closed < 2 ^ 32 }
-    ensures { Gives verdict_of result lines.new (ungrounded_at (terms_of theory.now) set closed lines.old) }
+    ensures { Gives verdict_of result lines.new (ungrounded_at
+        (terms_of theory.now) set closed lines.old) }
 {
     let count = set.minus(closed).count() as usize;
     let pres = take_all_no(alloc, theory.atoms, count, lines)?;
@@ -167,7 +174,8 @@ fn take_ungrounded(
 /// The number of the default that the next line names as one that applies, counted from 1.
 pub fn next_applied(theory: &Theory<'_>, lines: &Lines<'_>) -> Option<u32>
     requires { length theory.now.justs.now ≤ 10 }
-    ensures value { result ≡ line_at (number_after (codes "applied ") (length theory.now.justs.now)) lines.now }
+    ensures value { result
+        ≡ line_at (number_after (codes "applied ") (length theory.now.justs.now)) lines.now }
     ensures within { IfSome result (IsNumberOf theory.now.justs.now) }
 {
     number_after(b"applied ", theory.justs.len() as u32, lines.current()?)
@@ -246,7 +254,8 @@ pub fn take_verdicts(
     requires atoms { length theory.now.atoms.now ≤ 64 }
     requires defaults { length theory.now.justs.now ≤ 10 }
     requires numbers { length theory.now.numbers.now ≤ 64 }
-    ensures { Gives (λ v. map verdict_of v.items) result lines.new (verdicts_at (terms_of theory.now) lines.old) }
+    ensures { Gives (λ v. map verdict_of v.items) result lines.new
+        (verdicts_at (terms_of theory.now) lines.old) }
 {
     let mut sets = Vec::new(alloc);
     let mut left = theory.places().number() + 1;

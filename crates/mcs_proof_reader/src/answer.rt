@@ -7,7 +7,8 @@ ghost use Rattle.mcs_cnf.specs.Entailments.{entailment_of};
 ghost use Rattle.mcs_evidence.specs.Defaults.{defaults_of};
 ghost use Rattle.mcs_asking.specs.Certificates.{OfFormulas};
 ghost use Rattle.mcs_proof_lines.specs.Walks.{Gives};
-ghost use Rattle.mcs_proof_reader.specs.Answers.{state_at, classical_at, default_at, models_at, shown_at, shown_of};
+ghost use Rattle.mcs_proof_reader.specs.Answers.{state_at, classical_at, default_at, models_at};
+ghost use Rattle.mcs_proof_reader.specs.Answers.{shown_at, shown_of};
 ghost use Rattle.mcs_proof_reader.specs.Keeping.{IsWholeAnswer, TakesAndKeeps};
 ghost use Rattle.mcs_proof_reader.specs.Readers.{shown_of_code, AreTexts};
 
@@ -22,8 +23,8 @@ use mcs_system::{Kb, System, TheoryItem};
 use mcs_trace::{ClassicalCert, DefaultCert, Entail};
 use std::alloc::Global;
 
-/// An answer of a report: the number of its first line (counted from 1), the question, the states that are output, and
-/// the certificate.
+/// An answer of a report: the number of its first line (counted from 1), the question, the states
+/// that are output, and the certificate.
 #[derive(Drop)]
 pub struct ReportAnswer {
     pub line: u64,
@@ -42,7 +43,8 @@ struct Shown {
 
 /// One state with the certificate of a classical context.
 fn one_output(alloc: Global, state: Vars, entails: Vec<Entail>) -> Result<Shown, Memory>
-    ensures { IfOk result (λ s. shown_of_code s ≡ (state ∷ [], OfFormulas (map entailment_of entails.items))) }
+    ensures { IfOk result (λ s. shown_of_code s
+        ≡ (state ∷ [], OfFormulas (map entailment_of entails.items))) }
 {
     let mut outputs = Vec::new(alloc);
     match outputs.push(state) {
@@ -110,7 +112,8 @@ fn take_default(
     requires context { context < length system.now.contexts }
     requires texts { AreTexts system.now texts.now }
     requires few { length (defaults_of (map item_of items.now)) ≤ 10 }
-    ensures { Gives shown_of_code result lines.new (default_at system.now context (map item_of items.now) lines.old) }
+    ensures { Gives shown_of_code result lines.new
+        (default_at system.now context (map item_of items.now) lines.old) }
 {
     let allowed = system.vars_of(context);
     let outputs = take_states(alloc, system, texts, allowed, lines)?;
@@ -168,7 +171,8 @@ fn take_shown(
     requires context { context < length system.now.contexts }
     requires texts { AreTexts system.now texts.now }
     requires few { default_count (kb_of kb.now) ≤ 10 }
-    ensures { Gives shown_of_code result lines.new (shown_at system.now context (kb_of kb.now) lines.old) }
+    ensures { Gives shown_of_code result lines.new
+        (shown_at system.now context (kb_of kb.now) lines.old) }
 {
     match kb {
         Kb::Classical(_) => take_classical(alloc, system, texts, context, lines),
@@ -177,8 +181,8 @@ fn take_shown(
     }
 }
 
-/// Takes the states and the certificate of the answer to this question, a context of the system and rules. `line` is
-/// the number of its first line. The texts are those of the system.
+/// Takes the states and the certificate of the answer to this question, a context of the system and
+/// rules. `line` is the number of its first line. The texts are those of the system.
 pub fn take_answer(
     alloc: Global,
     system: &System,
@@ -189,7 +193,8 @@ pub fn take_answer(
 ) -> Result<ReportAnswer, ReportFault>
     requires texts { AreTexts system.now texts.now }
     requires context { question.0 < length system.now.contexts }
-    ensures { TakesAndKeeps (λ m. IsWholeAnswer) system.now question line result lines.new (shown_of system.now question.0 (slice_get system.now.contexts question.0) lines.old) }
+    ensures { TakesAndKeeps (λ m. IsWholeAnswer) system.now question line result lines.new
+        (shown_of system.now question.0 (slice_get system.now.contexts question.0) lines.old) }
 {
     let context = question.0;
     let kb = &system.contexts()[context as usize].kb;

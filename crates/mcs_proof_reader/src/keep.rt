@@ -21,13 +21,15 @@ pub trait Keep {
     /// What is kept of an answer.
     type Kept: Drop;
 
-    /// What holds of an answer, the number of its first line (counted from 1), and what is kept of it.
+    /// What holds of an answer, the number of its first line (counted from 1), and what is kept of
+    /// it.
     ghost Keeps: { plain.System → Answer → ℕ → Self.Kept → Type 0 };
 
-    /// Reads the states and the certificate of the answer to this question, a context of the system and rules into it,
-    /// and returns what is kept of the answer. It begins at the line with the number `line`; that line is taken, and
-    /// the states begin at the next one. The texts are those of the system. `Grammar` is returned exactly if a line is
-    /// out of place, whatever the certificate claims.
+    /// Reads the states and the certificate of the answer to this question, a context of the system
+    /// and rules into it, and returns what is kept of the answer. It begins at the line with the
+    /// number `line`; that line is taken, and the states begin at the next one. The texts are those
+    /// of the system. `Grammar` is returned exactly if a line is out of place, whatever the
+    /// certificate claims.
     fn take(
         &self,
         alloc: Global,
@@ -40,7 +42,8 @@ pub trait Keep {
         requires texts { AreTexts system.now texts.now }
         requires context { question.0 < length system.now.contexts }
         requires rules { Within question.1 (rules_into system.now question.0) }
-        ensures { TakesAndKeeps Keeps system.now question line result lines.new (shown_of system.now question.0 (slice_get system.now.contexts question.0) lines.old) };
+        ensures { TakesAndKeeps Keeps system.now question line result lines.new
+            (shown_of system.now question.0 (slice_get system.now.contexts question.0) lines.old) };
 }
 
 /// Keeps each answer unchanged.

@@ -36,16 +36,18 @@ fn pass_listing(lines: &mut Lines<'_>) -> Result<(), ReportFault>
 /// What precedes the rest in the bytes, which end with it.
 fn front_of<'b>(bytes: &'b [u8], rest: &[u8]) -> &'b [u8]
     requires { (front : List (List ℕ)) × IsFrontOf front bytes.now rest.now }
-    ensures lines { (front : List (List ℕ)) → IsFrontOf front bytes.now rest.now → complete_lines result.now ≡ front }
+    ensures lines { (front : List (List ℕ)) → IsFrontOf front bytes.now rest.now
+        → complete_lines result.now ≡ front }
     ensures whole { incomplete result.now ≡ [] }
 {
     &bytes[..bytes.len() - rest.len()]
 }
 
-/// Takes the lines of the listing, up to and including the first one that begins with `end: `. They are returned as
-/// bytes, each with its line feed.
+/// Takes the lines of the listing, up to and including the first one that begins with `end: `. They
+/// are returned as bytes, each with its line feed.
 pub(crate) fn take_listing<'b>(lines: &mut Lines<'b>) -> Result<&'b [u8], ReportFault>
-    ensures read { Gives (λ listing. complete_lines listing.now) result lines.new (listing_at lines.old) }
+    ensures read { Gives (λ listing. complete_lines listing.now) result lines.new
+        (listing_at lines.old) }
     ensures whole { IfOk result (λ listing. incomplete listing.now ≡ []) }
 {
     let bytes = lines.left();

@@ -3,7 +3,9 @@
 ghost use Rattle.std.specs.Prelude.{◌≡◌, ◌<◌, length, IfOk, IfSome, None};
 ghost use Rattle.mcs_system.specs.Seen.{context_of};
 ghost use Rattle.mcs_proof_lines.specs.Walks.{line_at};
-ghost use Rattle.mcs_proof_reader.specs.Questions.{context_from, rules_of_text, question_of, next_question, comes_after, state_in_words, state_after, states_at};
+ghost use Rattle.mcs_proof_reader.specs.Questions.{context_from, rules_of_text, question_of};
+ghost use Rattle.mcs_proof_reader.specs.Questions.{next_question, comes_after, state_in_words};
+ghost use Rattle.mcs_proof_reader.specs.Questions.{state_after, states_at};
 ghost use Rattle.mcs_proof_reader.specs.Readers.{AreTexts};
 
 use crate::texts::Texts;
@@ -126,8 +128,8 @@ pub(crate) fn next_state(
     }
 }
 
-/// Takes states from the next lines, as long as they are in order: sets of allowed variables. The texts are those of the
-/// system.
+/// Takes states from the next lines, as long as they are in order: sets of allowed variables. The
+/// texts are those of the system.
 #[tactic(auto, unfolding(crate::specs::Questions::states_at))]
 pub fn take_states(
     alloc: Global,
@@ -137,7 +139,8 @@ pub fn take_states(
     lines: &mut Lines<'_>,
 ) -> Result<Vec<Vars>, Memory>
     requires { AreTexts system.now texts.now }
-    ensures { IfOk result (λ v. states_at system.now allowed None lines.old ≡ (v.items, lines.new)) }
+    ensures { IfOk result (λ v. states_at system.now allowed None lines.old
+        ≡ (v.items, lines.new)) }
 {
     let mut states = Vec::new(alloc);
     let mut last = None;

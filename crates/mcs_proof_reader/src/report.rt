@@ -4,7 +4,8 @@ ghost use Rattle.std.specs.Prelude.{◌≡◌, ◌≤◌, ◌<◌, ℕ, [], None
 ghost use Rattle.mcs_spelling.specs.Lines.{complete_lines, incomplete};
 ghost use Rattle.mcs_proof_lines.specs.Walks.{ReturnsReading, Passes};
 ghost use Rattle.mcs_proof_reader.specs.Answers.{answer_at, answers_at};
-ghost use Rattle.mcs_proof_reader.specs.Keeping.{IsNextKept, AreReadAndKept, IsKeptReport, IsReportFault};
+ghost use Rattle.mcs_proof_reader.specs.Keeping.{IsNextKept, AreReadAndKept, IsKeptReport};
+ghost use Rattle.mcs_proof_reader.specs.Keeping.{IsReportFault};
 ghost use Rattle.mcs_proof_reader.specs.Readers.{AreTexts};
 ghost use Rattle.mcs_proof_reader.specs.Whole.{IsReportRead, end_at};
 
@@ -18,7 +19,8 @@ use mcs_proof_lines::{Lines, ReportFault, expect, is_next, out_of_place};
 use mcs_system::System;
 use std::alloc::Global;
 
-/// A report: the lines of the listing, the answers, and the number of the line `end of proof` (counted from 1).
+/// A report: the lines of the listing, the answers, and the number of the line `end of proof`
+/// (counted from 1).
 #[derive(Drop)]
 pub struct Report {
     pub listing: Vec<Vec<u8>>,
@@ -26,8 +28,8 @@ pub struct Report {
     pub last_line: u64,
 }
 
-/// What is kept of a report: the lines of the listing as bytes, what was kept of each answer, in their order, and the
-/// number of the line `end of proof` (counted from 1).
+/// What is kept of a report: the lines of the listing as bytes, what was kept of each answer, in
+/// their order, and the number of the line `end of proof` (counted from 1).
 #[derive(Drop)]
 pub struct KeptReport<'b, T> {
     pub listing: &'b [u8],
@@ -35,8 +37,8 @@ pub struct KeptReport<'b, T> {
     pub last_line: u64,
 }
 
-/// Takes the next answer, whose question has to come after the last one, by context and then by rule set. Returns the
-/// question, and what `keep` keeps of the answer.
+/// Takes the next answer, whose question has to come after the last one, by context and then by
+/// rule set. Returns the question, and what `keep` keeps of the answer.
 fn keep_next<K: Keep>(
     alloc: Global,
     system: &System,
@@ -78,7 +80,8 @@ fn keep_answers<K: Keep>(
     requires { AreTexts system.now texts.now }
     ensures { MatchResult result
         (λ kept. AreReadAndKept K.Keeps system.now lines.old lines.new kept.items)
-        (λ fault. (n : ℕ) → length lines.old.rest ≤ n → ReturnsReading fault (answers_at system.now n None lines.old)) }
+        (λ fault. (n : ℕ) → length lines.old.rest ≤ n
+        → ReturnsReading fault (answers_at system.now n None lines.old)) }
 {
     let mut kept = Vec::new(alloc);
     let mut last = None;
@@ -94,9 +97,10 @@ fn keep_answers<K: Keep>(
     Ok(kept)
 }
 
-/// What is kept of the report on the system that the bytes spell, by the grammar of `read_report`. `keep` reads what
-/// each answer shows, one answer after the other, and of each only what it returns is held. `Grammar` is returned in the
-/// same cases as by `read_report`, even if `keep` has read answers before that line.
+/// What is kept of the report on the system that the bytes spell, by the grammar of `read_report`.
+/// `keep` reads what each answer shows, one answer after the other, and of each only what it
+/// returns is held. `Grammar` is returned in the same cases as by `read_report`, even if `keep` has
+/// read answers before that line.
 pub fn read_kept<'b, K: Keep>(
     alloc: Global,
     system: &System,
@@ -104,7 +108,8 @@ pub fn read_kept<'b, K: Keep>(
     keep: &K,
 ) -> Result<KeptReport<'b, K::Kept>, ReportFault>
     ensures read { MatchResult result
-        (λ r. IsKeptReport K.Keeps system.now bytes.now (complete_lines r.listing.now) r.answers.items r.last_line)
+        (λ r. IsKeptReport K.Keeps system.now bytes.now
+        (complete_lines r.listing.now) r.answers.items r.last_line)
         (IsReportFault system.now bytes.now) }
     ensures whole { IfOk result (λ r. incomplete r.listing.now ≡ []) }
 {
@@ -131,12 +136,13 @@ pub fn read_kept<'b, K: Keep>(
 ///
 /// - a listing, of which only the last line begins with `end: `,
 /// - the line `proof`,
-/// - answers to different questions, ordered by context and then by rule set, each with a certificate,
+/// - answers to different questions, ordered by context and then by rule set, each with a
+///   certificate,
 /// - the line `end of proof`.
 ///
-/// `Grammar` is returned exactly if they spell no report, with the number of the first line that is out of place,
-/// counted from 1. The lines before it begin a report, and the lines up to and including it do not, or there is no such
-/// line.
+/// `Grammar` is returned exactly if they spell no report, with the number of the first line that is
+/// out of place, counted from 1. The lines before it begin a report, and the lines up to and
+/// including it do not, or there is no such line.
 pub fn read_report(alloc: Global, system: &System, bytes: &[u8]) -> Result<Report, ReportFault>
     ensures { IsReportRead system.now bytes.now result }
 {

@@ -12,8 +12,8 @@ use mcs_system::{Bridge, Name, Read, System, TheoryItem};
 use mcs_writer::push_read;
 use std::alloc::Global;
 
-/// The texts that lines of a report on a system may contain: its variables, the names of its rules, and the numbers of
-/// defaults.
+/// The texts that lines of a report on a system may contain: its variables, the names of its rules,
+/// and the numbers of defaults.
 #[derive(Drop)]
 pub struct Texts {
     pub(crate) variables: Vec<Text>,
@@ -77,7 +77,8 @@ fn number_texts(alloc: Global) -> Result<Vec<Text>, Memory>
 
 /// How many justifications each default of the theory has.
 pub fn just_counts(alloc: Global, items: &[TheoryItem]) -> Result<Vec<usize>, Memory>
-    ensures { IfOk result (λ counts. counts.items ≡ map (λ d. length d.justs) (defaults_of (map item_of items.now))) }
+    ensures { IfOk result (λ counts. counts.items
+        ≡ map (λ d. length d.justs) (defaults_of (map item_of items.now))) }
 {
     let mut counts = Vec::new(alloc);
     for item in items {

@@ -6,7 +6,8 @@ ghost use Rattle.mcs_sets.specs.Sets.{Within};
 ghost use Rattle.mcs_system.specs.Systems.{all_rules, all_variables};
 ghost use Rattle.mcs_system.specs.Texts.{name_of_context};
 ghost use Rattle.mcs_asking.specs.Certificates.{plain_of};
-ghost use Rattle.mcs_proof_text.specs.Lines.{question_text, output_text, with_feed, text_of_lines, written_lines};
+ghost use Rattle.mcs_proof_text.specs.Lines.{question_text, output_text, with_feed, text_of_lines};
+ghost use Rattle.mcs_proof_text.specs.Lines.{written_lines};
 ghost use Rattle.mcs_proof_text.specs.Answers.{certificate_lines, answer_lines};
 
 use crate::defaults::push_verdicts;
@@ -20,7 +21,8 @@ use mcs_system::{Name, System};
 /// Appends the name of the context.
 fn push_context(text: &mut Text, system: &System, context: u32) -> Result<(), Memory>
     requires { context < length system.now.contexts }
-    ensures { OnOk result (text.new ≡ text.old ++ name_of_context (slice_get system.now.contexts context)) }
+    ensures { OnOk result (text.new
+        ≡ text.old ++ name_of_context (slice_get system.now.contexts context)) }
 {
     text.push(system.contexts()[context as usize].name.bytes())
 }
@@ -35,7 +37,8 @@ fn push_question(
 ) -> Result<(), Memory>
     requires context { context < length system.now.contexts }
     requires rules { Within active (all_rules system.now) }
-    ensures { OnOk result (text.new ≡ text.old ++ with_feed (question_text system.now context active)) }
+    ensures { OnOk result (text.new
+        ≡ text.old ++ with_feed (question_text system.now context active)) }
 {
     text.push(b"answer ")?;
     push_context(text, system, context)?;
@@ -58,7 +61,8 @@ fn push_output(text: &mut Text, system: &System, state: Vars) -> Result<(), Memo
 /// Appends the lines of the states that are output.
 fn push_outputs(text: &mut Text, system: &System, outputs: &[Vars]) -> Result<(), Memory>
     requires { AllByRecursion (λ σ. Within σ (all_variables system.now)) outputs.now }
-    ensures { OnOk result (text.new ≡ text.old ++ text_of_lines (map (output_text system.now) outputs.now)) }
+    ensures { OnOk result (text.new
+        ≡ text.old ++ text_of_lines (map (output_text system.now) outputs.now)) }
 {
     for state in outputs {
         push_output(text, system, *state)?;
@@ -68,7 +72,8 @@ fn push_outputs(text: &mut Text, system: &System, outputs: &[Vars]) -> Result<()
 
 /// Appends the lines of a certificate.
 fn push_certificate(text: &mut Text, names: &[Name], cert: &AnswerCert) -> Result<(), Memory>
-    ensures { OnOk result (text.new ≡ text.old ++ written_lines names.now (certificate_lines (plain_of cert.now))) }
+    ensures { OnOk result (text.new
+        ≡ text.old ++ written_lines names.now (certificate_lines (plain_of cert.now))) }
 {
     match cert {
         AnswerCert::Classical(cert) => push_entailments(text, names, &cert.entails),
@@ -90,7 +95,13 @@ fn push_answer(
     requires rules { Within active (all_rules system.now) }
     requires outputs { AllByRecursion (λ σ. Within σ (all_variables system.now)) outputs.now }
     ensures { OnOk result (text.new ≡ text.old
-        ++ text_of_lines (answer_lines system.now (record { context = context; active = active; outputs = outputs.now; cert = plain_of cert.now }))) }
+        ++ text_of_lines (answer_lines system.now
+        (record {
+          context = context;
+          active = active;
+          outputs = outputs.now;
+          cert = plain_of cert.now;
+        }))) }
 {
     push_question(text, system, context, active)?;
     push_outputs(text, system, outputs)?;
@@ -98,9 +109,9 @@ fn push_answer(
     text.push(b"done\n")
 }
 
-/// Appends the lines of an answer: the question, the states that are output, the certificate by its kind, and the line
-/// `done`. The question has to be a context of the system and a set of its rules, and each state a set of its
-/// variables. Without memory the text stays as it was.
+/// Appends the lines of an answer: the question, the states that are output, the certificate by its
+/// kind, and the line `done`. The question has to be a context of the system and a set of its
+/// rules, and each state a set of its variables. Without memory the text stays as it was.
 pub fn answer_lines(
     system: &System,
     context: u32,
@@ -113,7 +124,13 @@ pub fn answer_lines(
     requires rules { Within active (all_rules system.now) }
     requires outputs { AllByRecursion (λ σ. Within σ (all_variables system.now)) outputs.now }
     ensures ok { OnOk result (out.new ≡ out.old
-        ++ text_of_lines (answer_lines system.now (record { context = context; active = active; outputs = outputs.now; cert = plain_of cert.now }))) }
+        ++ text_of_lines (answer_lines system.now
+        (record {
+          context = context;
+          active = active;
+          outputs = outputs.now;
+          cert = plain_of cert.now;
+        }))) }
     ensures err { OnErr result (out.new ≡ out.old) }
 {
     let mut text = out.empty_like();

@@ -3,7 +3,8 @@
 ghost use Rattle.std.specs.Prelude.{◌≡◌, ◌++◌, map, OnOk};
 ghost use Rattle.std.specs.List.{flat_map};
 ghost use Rattle.mcs_evidence.specs.Programs.{model_shown_of, program_shown_of};
-ghost use Rattle.mcs_proof_text.specs.Lines.{ModelLine, SmallerLine, NoneLine, line_with_feed, written_lines};
+ghost use Rattle.mcs_proof_text.specs.Lines.{ModelLine, SmallerLine, NoneLine, line_with_feed};
+ghost use Rattle.mcs_proof_text.specs.Lines.{written_lines};
 ghost use Rattle.mcs_proof_text.specs.Answers.{model_lines, program_lines};
 
 use crate::traces::push_trace;
@@ -42,7 +43,8 @@ fn push_none(text: &mut Text, names: &[Name]) -> Result<(), Memory>
 
 /// Appends the lines of models, each with its trace.
 fn push_models(text: &mut Text, names: &[Name], models: &[AnswerSetCert]) -> Result<(), Memory>
-    ensures { OnOk result (text.new ≡ text.old ++ written_lines names.now (flat_map model_lines (map model_shown_of models.now))) }
+    ensures { OnOk result (text.new ≡ text.old ++ written_lines names.now
+        (flat_map model_lines (map model_shown_of models.now))) }
 {
     for shown in models {
         push_model_line(text, names, shown.model)?;
@@ -53,7 +55,8 @@ fn push_models(text: &mut Text, names: &[Name], models: &[AnswerSetCert]) -> Res
 
 /// Appends a line for each of the smaller sets.
 fn push_smaller(text: &mut Text, names: &[Name], smaller: &[u64]) -> Result<(), Memory>
-    ensures { OnOk result (text.new ≡ text.old ++ written_lines names.now (map SmallerLine smaller.now)) }
+    ensures { OnOk result (text.new
+        ≡ text.old ++ written_lines names.now (map SmallerLine smaller.now)) }
 {
     for atoms in smaller {
         push_smaller_line(text, names, *atoms)?;
@@ -67,7 +70,8 @@ pub(crate) fn push_program(
     names: &[Name],
     cert: &ProgramCert,
 ) -> Result<(), Memory>
-    ensures { OnOk result (text.new ≡ text.old ++ written_lines names.now (program_lines (program_shown_of cert.now))) }
+    ensures { OnOk result (text.new
+        ≡ text.old ++ written_lines names.now (program_lines (program_shown_of cert.now))) }
 {
     push_models(text, names, &cert.models)?;
     push_smaller(text, names, &cert.smaller)?;

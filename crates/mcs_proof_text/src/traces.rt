@@ -3,7 +3,8 @@
 ghost use Rattle.std.specs.Prelude.{◌≡◌, ◌++◌, map, OnOk};
 ghost use Rattle.mcs_trace.specs.Traces.{inference_of, inferences_of};
 ghost use Rattle.mcs_cnf.specs.Entailments.{entailment_of};
-ghost use Rattle.mcs_proof_text.specs.Lines.{YesLine, NoLine, StepLine, line_with_feed, written_lines};
+ghost use Rattle.mcs_proof_text.specs.Lines.{YesLine, NoLine, StepLine, line_with_feed};
+ghost use Rattle.mcs_proof_text.specs.Lines.{written_lines};
 ghost use Rattle.mcs_proof_text.specs.Answers.{trace_lines, entailment_lines, all_entailment_lines};
 
 use mcs_base::{Memory, Text};
@@ -14,7 +15,8 @@ use mcs_trace::{Entail, Step, Trace};
 /// Appends the line of a resolution step.
 #[tactic(auto, unfolding(crate::specs::Lines::line_text))]
 fn push_step_line(text: &mut Text, names: &[Name], step: &Step) -> Result<(), Memory>
-    ensures { OnOk result (text.new ≡ text.old ++ line_with_feed names.now (StepLine (inference_of step.now))) }
+    ensures { OnOk result (text.new
+        ≡ text.old ++ line_with_feed names.now (StepLine (inference_of step.now))) }
 {
     push_step(text, step)?;
     text.push(b"\n")
@@ -22,7 +24,8 @@ fn push_step_line(text: &mut Text, names: &[Name], step: &Step) -> Result<(), Me
 
 /// Appends the lines of a trace to a text of its own.
 pub(crate) fn push_trace(text: &mut Text, names: &[Name], trace: &Trace) -> Result<(), Memory>
-    ensures { OnOk result (text.new ≡ text.old ++ written_lines names.now (trace_lines (inferences_of trace.now))) }
+    ensures { OnOk result (text.new
+        ≡ text.old ++ written_lines names.now (trace_lines (inferences_of trace.now))) }
 {
     for step in &trace.steps {
         push_step_line(text, names, step)?;
@@ -54,7 +57,8 @@ pub(crate) fn push_entailment(
     names: &[Name],
     entail: &Entail,
 ) -> Result<(), Memory>
-    ensures { OnOk result (text.new ≡ text.old ++ written_lines names.now (entailment_lines (entailment_of entail.now))) }
+    ensures { OnOk result (text.new
+        ≡ text.old ++ written_lines names.now (entailment_lines (entailment_of entail.now))) }
 {
     match entail {
         Entail::Yes(trace) => {
@@ -71,7 +75,8 @@ pub(crate) fn push_entailments(
     names: &[Name],
     entails: &[Entail],
 ) -> Result<(), Memory>
-    ensures { OnOk result (text.new ≡ text.old ++ written_lines names.now (all_entailment_lines (map entailment_of entails.now))) }
+    ensures { OnOk result (text.new ≡ text.old ++ written_lines names.now
+        (all_entailment_lines (map entailment_of entails.now))) }
 {
     for entail in entails {
         push_entailment(text, names, entail)?;

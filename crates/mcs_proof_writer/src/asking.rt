@@ -18,7 +18,8 @@ pub(crate) struct Question {
 
 /// The sets of rules with which the solver was asked, ascending.
 fn asked(alloc: Global, solver: &LocalSolver) -> Result<Vec<Active>, Memory>
-    ensures { IfOk result (λ sets. IsListing (λ x. IsAmong x solver.now.journal) (λ a b. a < b) sets.items) }
+    ensures { IfOk result (λ sets. IsListing (λ x. IsAmong x solver.now.journal)
+        (λ a b. a < b) sets.items) }
 {
     let mut sets = solver.journal().to_vec(alloc)?;
     list_rule_sets(&mut sets);
@@ -31,7 +32,8 @@ fn push_questions(
     context: u32,
     sets: &[Active],
 ) -> Result<(), Memory>
-    ensures { OnOk result (questions.new.items ≡ questions.old.items ++ map (question_with context) sets.now) }
+    ensures { OnOk result (questions.new.items
+        ≡ questions.old.items ++ map (question_with context) sets.now) }
 {
     for active in sets {
         questions.push(Question {
@@ -62,7 +64,8 @@ pub(crate) fn all_questions(
     solvers: &[LocalSolver],
 ) -> Result<Vec<Question>, Memory>
     requires { length solvers.now ≡ length system.now.contexts }
-    ensures { IfOk result (λ questions. AreOfFirst solvers.now (length system.now.contexts) questions.items) }
+    ensures { IfOk result (λ questions. AreOfFirst solvers.now
+        (length system.now.contexts) questions.items) }
 {
     let mut questions = Vec::new(alloc);
     for context in 0..system.contexts().len() as u32 {

@@ -2,7 +2,8 @@
 
 ghost use Rattle.std.specs.List.{AllByRecursion, AllZip};
 ghost use Rattle.std.specs.Prelude.{IfOk};
-ghost use Rattle.mcs_proof_writer.specs.Gathered.{answer_of_shown, answers_of, IsKeptIn, KeepsCertificate, IsAnswerIn, IsAnswerOf};
+ghost use Rattle.mcs_proof_writer.specs.Gathered.{answer_of_shown, answers_of, IsKeptIn};
+ghost use Rattle.mcs_proof_writer.specs.Gathered.{KeepsCertificate, IsAnswerIn, IsAnswerOf};
 
 use crate::asking::Question;
 use mcs_asking::AnswerCert;
@@ -40,7 +41,8 @@ pub(crate) fn gathered<'s>(
     questions: &'s [Question],
 ) -> Result<Vec<Shown<'s>>, Memory>
     requires { AllByRecursion (KeepsCertificate solvers.now) questions.now }
-    ensures { IfOk result (λ shown. AllZip (IsAnswerOf solvers.now) questions.now (answers_of shown.items)) }
+    ensures { IfOk result (λ shown. AllZip (IsAnswerOf solvers.now) questions.now
+        (answers_of shown.items)) }
 {
     let mut answers = Vec::new(alloc);
     for question in questions {

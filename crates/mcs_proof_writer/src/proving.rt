@@ -12,8 +12,9 @@ use mcs_system::System;
 use mcs_text::Unwritten;
 use std::alloc::Global;
 
-/// Writes the proof part of a report: for each context, in order, and each set of rules with which its solver was
-/// asked, ascending, the lines of the answer. All answers are gathered before the first line is written.
+/// Writes the proof part of a report: for each context, in order, and each set of rules with which
+/// its solver was asked, ascending, the lines of the answer. All answers are gathered before the
+/// first line is written.
 pub fn write_proof<K: Sink>(
     alloc: Global,
     system: &System,

@@ -47,7 +47,8 @@ fn write_answer<K: Sink>(
     sink: &mut K,
 ) -> Result<(), Unwritten>
     requires { IsWritable system.now (answer_of_shown shown.now) }
-    ensures { Writes (text_of_lines (answer_lines system.now (answer_of_shown shown.now))) (K.device sink.old) (K.device sink.new) result }
+    ensures { Writes (text_of_lines (answer_lines system.now (answer_of_shown shown.now)))
+        (K.device sink.old) (K.device sink.new) result }
 {
     let mut text = Text::new(alloc);
     answer_lines(
@@ -69,7 +70,8 @@ fn write_answers<K: Sink>(
     sink: &mut K,
 ) -> Result<(), Unwritten>
     requires { AllByRecursion (IsWritable system.now) (answers_of answers.now) }
-    ensures { Writes (text_of_lines (flat_map (answer_lines system.now) (answers_of answers.now))) (K.device sink.old) (K.device sink.new) result }
+    ensures { Writes (text_of_lines (flat_map (answer_lines system.now) (answers_of answers.now)))
+        (K.device sink.old) (K.device sink.new) result }
 {
     for shown in answers {
         write_answer(alloc, system, shown, sink)?;
@@ -85,7 +87,8 @@ pub(crate) fn write_marked<K: Sink>(
     sink: &mut K,
 ) -> Result<(), Unwritten>
     requires { AllByRecursion (IsWritable system.now) (answers_of answers.now) }
-    ensures { Writes (text_of_lines (proof_lines system.now (answers_of answers.now))) (K.device sink.old) (K.device sink.new) result }
+    ensures { Writes (text_of_lines (proof_lines system.now (answers_of answers.now)))
+        (K.device sink.old) (K.device sink.new) result }
 {
     write_piece(b"proof\n", sink)?;
     write_answers(alloc, system, answers, sink)?;

@@ -5,11 +5,16 @@ ghost use Rattle.mcs_system.specs.Plain as plain;
 ghost use Rattle.mcs_system.specs.Seen.{formula_of};
 ghost use Rattle.mcs_grammar.specs.Written.{Written, WrittenBridge};
 ghost use Rattle.mcs_grammar.specs.Entries.{Entry, BeginsBelief, formula_in};
-ghost use Rattle.mcs_grammar.specs.FormulaSteps.{PartFormula, finished_primary, formula_step, settle};
+ghost use Rattle.mcs_grammar.specs.FormulaSteps.{PartFormula, finished_primary, formula_step};
+ghost use Rattle.mcs_grammar.specs.FormulaSteps.{settle};
 ghost use Rattle.mcs_grammar.specs.FormulaImages.{IsReader};
 ghost use Rattle.mcs_reader.specs.TextSteps as written;
-ghost use Rattle.mcs_reader.specs.TextSteps.{PartText, BridgeName, BridgeColon, HeadContext, HeadColon, InHead, ReadColon, first_of_belief, headed, with_read};
-ghost use Rattle.mcs_reader.specs.TextImages.{IsBridgeImage, IsReaderStep, about_context, capped, no_subject, of_context, of_read, part_read, role_uses, when};
+ghost use Rattle.mcs_reader.specs.TextSteps.{PartText, BridgeName, BridgeColon, HeadContext};
+ghost use Rattle.mcs_reader.specs.TextSteps.{HeadColon, InHead, ReadColon, first_of_belief, headed};
+ghost use Rattle.mcs_reader.specs.TextSteps.{with_read};
+ghost use Rattle.mcs_reader.specs.TextImages.{IsBridgeImage, IsReaderStep, about_context, capped};
+ghost use Rattle.mcs_reader.specs.TextImages.{no_subject, of_context, of_read, part_read};
+ghost use Rattle.mcs_reader.specs.TextImages.{role_uses, when};
 
 use crate::items::formula_role;
 use crate::place::{
@@ -23,7 +28,8 @@ use std::alloc::Global;
 
 /// The step of a token where the name of a bridge rule is expected.
 pub(crate) fn bridge_name(alloc: Global, token: &[u8]) -> Result<Step, Memory>
-    ensures { (s : PartText) → IfOk result (λ step. IsReaderStep step no_subject s token.now (written.step_at s token.now BridgeName)) }
+    ensures { (s : PartText) → IfOk result (λ step.
+        IsReaderStep step no_subject s token.now (written.step_at s token.now BridgeName)) }
 {
     let role = Role::NamesBridge;
     Ok(match word_of(alloc, token)? {
@@ -37,7 +43,8 @@ pub(crate) fn bridge_name(alloc: Global, token: &[u8]) -> Result<Step, Memory>
 
 /// The step of a token after the name of the rule.
 pub(crate) fn bridge_colon(name: Name, token: &[u8]) -> Step
-    ensures { (s : PartText) → IsReaderStep result no_subject s token.now (written.step_at s token.now (BridgeColon name)) }
+    ensures { (s : PartText) → IsReaderStep result no_subject s token.now
+        (written.step_at s token.now (BridgeColon name)) }
 {
     if is_sign(token, Sign::Colon) {
         return Step::goes(Place::HeadContext { name }, Role::Nothing);
@@ -47,7 +54,8 @@ pub(crate) fn bridge_colon(name: Name, token: &[u8]) -> Step
 
 /// The step of a token where the name of the head's context is expected.
 pub(crate) fn head_context(alloc: Global, name: Name, token: &[u8]) -> Result<Step, Memory>
-    ensures { (s : PartText) → IfOk result (λ step. IsReaderStep step no_subject s token.now (written.step_at s token.now (HeadContext name))) }
+    ensures { (s : PartText) → IfOk result (λ step.
+        IsReaderStep step no_subject s token.now (written.step_at s token.now (HeadContext name))) }
 {
     let role = Role::NamesTarget;
     Ok(match word_of(alloc, token)? {
@@ -61,7 +69,8 @@ pub(crate) fn head_context(alloc: Global, name: Name, token: &[u8]) -> Result<St
 
 /// The step of a token after the name of the head's context.
 pub(crate) fn head_colon(alloc: Global, name: Name, context: Name, token: &[u8]) -> Step
-    ensures { (s : PartText) → IsReaderStep result no_subject s token.now (written.step_at s token.now (HeadColon name context)) }
+    ensures { (s : PartText) → IsReaderStep result no_subject s token.now
+        (written.step_at s token.now (HeadColon name context)) }
 {
     if is_sign(token, Sign::Colon) {
         let belief = FormulaReader::new(alloc);
@@ -79,7 +88,8 @@ pub(crate) fn head_colon(alloc: Global, name: Name, context: Name, token: &[u8])
 
 /// The step of a token after the head.
 pub(crate) fn after_head(bridge: NamedBridge, token: &[u8]) -> Step
-    ensures { (s : PartText) (w : WrittenBridge) → IsBridgeImage bridge w → IsReaderStep result no_subject s token.now (written.after_head s w token.now) }
+    ensures { (s : PartText) (w : WrittenBridge) → IsBridgeImage bridge w
+        → IsReaderStep result no_subject s token.now (written.after_head s w token.now) }
 {
     if is_keyword(token, Keyword::If) {
         return Step::goes(Place::NextRead { bridge }, Role::Nothing);
@@ -90,14 +100,17 @@ pub(crate) fn after_head(bridge: NamedBridge, token: &[u8]) -> Step
     Step::Refused
 }
 
-/// The step of a token where the name of the context of a read is expected, with or without `not` before it.
+/// The step of a token where the name of the context of a read is expected, with or without `not`
+/// before it.
 pub(crate) fn read_context(
     alloc: Global,
     bridge: NamedBridge,
     denied: bool,
     token: &[u8],
 ) -> Result<Step, Memory>
-    ensures { (s : PartText) (w : WrittenBridge) → IsBridgeImage bridge w → IfOk result (λ step. IsReaderStep step no_subject s token.now (written.read_context s w denied token.now)) }
+    ensures { (s : PartText) (w : WrittenBridge) → IsBridgeImage bridge w
+        → IfOk result (λ step. IsReaderStep step no_subject s token.now
+        (written.read_context s w denied token.now)) }
 {
     let role = Role::NamesSource;
     match word_of(alloc, token) {
@@ -128,7 +141,9 @@ pub(crate) fn read_context(
 
 /// The step of a token where a read is expected.
 pub(crate) fn next_read(alloc: Global, bridge: NamedBridge, token: &[u8]) -> Result<Step, Memory>
-    ensures { (s : PartText) (w : WrittenBridge) → IsBridgeImage bridge w → IfOk result (λ step. IsReaderStep step no_subject s token.now (written.next_read s w token.now)) }
+    ensures { (s : PartText) (w : WrittenBridge) → IsBridgeImage bridge w
+        → IfOk result (λ step. IsReaderStep step no_subject s token.now
+        (written.next_read s w token.now)) }
 {
     if is_keyword(token, Keyword::Not) {
         return Ok(Step::goes(Place::ReadContext { bridge }, Role::Nothing));
@@ -144,7 +159,9 @@ pub(crate) fn read_colon(
     context: Name,
     token: &[u8],
 ) -> Step
-    ensures { (s : PartText) (w : WrittenBridge) → IsBridgeImage bridge w → IsReaderStep result no_subject s token.now (written.step_at s token.now (ReadColon w (part_read denied context))) }
+    ensures { (s : PartText) (w : WrittenBridge) → IsBridgeImage bridge w
+        → IsReaderStep result no_subject s token.now
+        (written.step_at s token.now (ReadColon w (part_read denied context))) }
 {
     if is_sign(token, Sign::Colon) {
         let belief = FormulaReader::new(alloc);
@@ -168,8 +185,10 @@ pub(crate) fn after_read(
     read: NamedRead,
     token: &[u8],
 ) -> Result<Step, Memory>
-    ensures { (s : PartText) (w : WrittenBridge) (v : Written) → IsBridgeImage bridge w → formula_of read.belief ≡ formula_in v
-        → IfOk result (λ step. IsReaderStep step no_subject s token.now (written.after_read s (with_read w (part_read denied read.context) v) token.now)) }
+    ensures { (s : PartText) (w : WrittenBridge) (v : Written) → IsBridgeImage bridge w
+        → formula_of read.belief ≡ formula_in v
+        → IfOk result (λ step. IsReaderStep step no_subject s token.now
+        (written.after_read s (with_read w (part_read denied read.context) v) token.now)) }
 {
     let bridge = with_read(bridge, denied, read)?;
     if is_sign(token, Sign::Comma) {
@@ -183,8 +202,11 @@ pub(crate) fn after_read(
 
 /// The uses of the token within the belief, if the belief can continue with it.
 fn belief_uses(belief: &FormulaReader, token: &[u8]) -> Uses
-    ensures role { (c : plain.Name) (s : PartFormula) (r : Entry × PartFormula) → IsReader belief.now s → formula_step c s token.now ≡ Some r → map capped (r.0).uses ≡ role_uses (about_context c) token.now result.role }
-    ensures first { (c : plain.Name) (s : PartFormula) → IsReader belief.now s → first_of_belief c s ≡ when result.begins_belief (BeginsBelief c) }
+    ensures role { (c : plain.Name) (s : PartFormula) (r : Entry × PartFormula)
+        → IsReader belief.now s → formula_step c s token.now ≡ Some r
+        → map capped (r.0).uses ≡ role_uses (about_context c) token.now result.role }
+    ensures first { (c : plain.Name) (s : PartFormula) → IsReader belief.now s
+        → first_of_belief c s ≡ when result.begins_belief (BeginsBelief c) }
     ensures apart { (result.begins_item ≡ false) × (result.ends_read ≡ false) }
 {
     Uses {
@@ -203,7 +225,9 @@ pub(crate) fn in_head(
     mut belief: FormulaReader,
     token: &[u8],
 ) -> Result<Step, Memory>
-    ensures { (s : PartText) (f : PartFormula) → IsReader belief f → IfOk result (λ step. IsReaderStep step (of_context context) s token.now (written.step_at s token.now (InHead name context f))) }
+    ensures { (s : PartText) (f : PartFormula) → IsReader belief f
+        → IfOk result (λ step. IsReaderStep step (of_context context) s token.now
+        (written.step_at s token.now (InHead name context f))) }
 {
     let uses = belief_uses(&belief, token);
     match belief.take(alloc, token) {
@@ -231,9 +255,12 @@ fn head_goes_on(
     belief: FormulaReader,
     uses: Uses,
 ) -> Result<Step, Memory>
-    ensures goes_on { (s : PartFormula) → IsReader belief s → finished_primary s ≡ None → IfOk result (λ step. step ≡ Step.Moves (Place.InHead name context belief) uses) }
+    ensures goes_on { (s : PartFormula) → IsReader belief s → finished_primary s ≡ None
+        → IfOk result (λ step. step ≡ Step.Moves (Place.InHead name context belief) uses) }
     ensures ends { (s : PartFormula) (w : Written) → IsReader belief s → finished_primary s ≡ Some w
-        → IfOk result (λ step. (bridge : NamedBridge) × IsBridgeImage bridge (headed name context w) × (step ≡ Step.Moves (Place.AfterHead bridge) uses)) }
+        → IfOk result (λ step. (bridge : NamedBridge)
+        × IsBridgeImage bridge (headed name context w)
+        × (step ≡ Step.Moves (Place.AfterHead bridge) uses)) }
 {
     if !belief.is_primary() {
         let place = Place::InHead {
@@ -257,9 +284,11 @@ fn head_goes_on(
     Ok(Step::Moves { place, uses })
 }
 
-/// Whether the stack is empty after one more primary, which completes negations and a conjunction before them.
+/// Whether the stack is empty after one more primary, which completes negations and a conjunction
+/// before them.
 fn waits_for_one(belief: &FormulaReader) -> bool
-    ensures { (s : PartFormula) (w : Written) → IsReader belief.now s → result ≡ is_some (finished_primary (settle s.pending w)) }
+    ensures { (s : PartFormula) (w : Written) → IsReader belief.now s
+        → result ≡ is_some (finished_primary (settle s.pending w)) }
 {
     for (below, waiting) in belief.pending.iter().enumerate() {
         match waiting {
@@ -277,7 +306,9 @@ fn waits_for_one(belief: &FormulaReader) -> bool
 
 /// The rule with one more read.
 fn with_read(bridge: NamedBridge, denied: bool, read: NamedRead) -> Result<NamedBridge, Memory>
-    ensures { (w : WrittenBridge) (v : Written) → IsBridgeImage bridge w → formula_of read.belief ≡ formula_in v → IfOk result (λ more. IsBridgeImage more (with_read w (part_read denied read.context) v)) }
+    ensures { (w : WrittenBridge) (v : Written) → IsBridgeImage bridge w
+        → formula_of read.belief ≡ formula_in v
+        → IfOk result (λ more. IsBridgeImage more (with_read w (part_read denied read.context) v)) }
 {
     let NamedBridge {
         name,
@@ -309,8 +340,10 @@ pub(crate) fn in_read(
     mut belief: FormulaReader,
     token: &[u8],
 ) -> Result<Step, Memory>
-    ensures { (s : PartText) (w : WrittenBridge) (f : PartFormula) → IsBridgeImage bridge w → IsReader belief f
-        → IfOk result (λ step. IsReaderStep step (of_read context w.head.context) s token.now (written.in_read s w (part_read denied context) f token.now)) }
+    ensures { (s : PartText) (w : WrittenBridge) (f : PartFormula) → IsBridgeImage bridge w
+        → IsReader belief f
+        → IfOk result (λ step. IsReaderStep step (of_read context w.head.context) s token.now
+        (written.in_read s w (part_read denied context) f token.now)) }
 {
     let uses = belief_uses(&belief, token);
     match belief.take(alloc, token) {
@@ -342,10 +375,13 @@ fn read_goes_on(
     belief: FormulaReader,
     uses: Uses,
 ) -> Result<Step, Memory>
-    ensures goes_on { (s : PartFormula) → IsReader belief s → finished_primary s ≡ None → IfOk result (λ step. step ≡ Step.Moves (Place.InRead bridge denied context belief) uses) }
+    ensures goes_on { (s : PartFormula) → IsReader belief s → finished_primary s ≡ None
+        → IfOk result (λ step. step ≡ Step.Moves (Place.InRead bridge denied context belief) uses) }
     ensures ends { (s : PartFormula) (w : Written) → IsReader belief s → finished_primary s ≡ Some w
-        → IfOk result (λ step. (read : NamedRead) × (read.context ≡ context) × (formula_of read.belief ≡ formula_in w)
-        × (step ≡ Step.Moves (Place.AfterRead bridge denied read) (record uses { ends_read = true }))) }
+        → IfOk result (λ step. (read : NamedRead) × (read.context ≡ context)
+        × (formula_of read.belief ≡ formula_in w)
+        × (step ≡ Step.Moves (Place.AfterRead bridge denied read)
+        (record uses { ends_read = true }))) }
 {
     if !belief.is_primary() {
         let place = Place::InRead {

@@ -16,7 +16,8 @@ use std::alloc::Global;
 
 /// The step of a token between contexts and rules. After a bridge rule no further context may come.
 pub(crate) fn between(no_bridges: bool, token: &[u8]) -> Step
-    ensures { (s : PartText) → no_bridges ≡ nat_eq (length s.bridges) 0 → IsReaderStep result no_subject s token.now (written.between s token.now) }
+    ensures { (s : PartText) → no_bridges ≡ nat_eq (length s.bridges) 0
+        → IsReaderStep result no_subject s token.now (written.between s token.now) }
 {
     if is_keyword(token, Keyword::Context) && no_bridges {
         return Step::goes(Place::ContextName, Role::BeginsContext);
@@ -29,7 +30,8 @@ pub(crate) fn between(no_bridges: bool, token: &[u8]) -> Step
 
 /// The step of a token where the name of a context is expected.
 pub(crate) fn context_name(alloc: Global, token: &[u8]) -> Result<Step, Memory>
-    ensures { (s : PartText) → IfOk result (λ step. IsReaderStep step no_subject s token.now (written.step_at s token.now ContextName)) }
+    ensures { (s : PartText) → IfOk result (λ step.
+        IsReaderStep step no_subject s token.now (written.step_at s token.now ContextName)) }
 {
     let role = Role::NamesContext;
     Ok(match word_of(alloc, token)? {
@@ -55,7 +57,8 @@ fn opened(name: Name, kb: Kb, role: Role) -> Step
 
 /// The step of a token where the kind of the context is expected.
 pub(crate) fn kind_word(alloc: Global, name: Name, token: &[u8]) -> Step
-    ensures { (s : PartText) → IsReaderStep result (of_context name) s token.now (written.step_at s token.now (KindWord name)) }
+    ensures { (s : PartText) → IsReaderStep result (of_context name) s token.now
+        (written.step_at s token.now (KindWord name)) }
 {
     if is_keyword(token, Keyword::Classical) {
         return opened(name, Kb::Classical(Vec::new(alloc)), Role::Nothing);
@@ -71,7 +74,9 @@ pub(crate) fn kind_word(alloc: Global, name: Name, token: &[u8]) -> Step
 
 /// The step of a token where the opening brace is expected.
 pub(crate) fn open_brace(context: Context, token: &[u8]) -> Step
-    ensures { (s : PartText) (w : WrittenContext) → context_of context ≡ context_in w → IsReaderStep result (of_context w.name) s token.now (written.step_at s token.now (OpenBrace w)) }
+    ensures { (s : PartText) (w : WrittenContext) → context_of context ≡ context_in w
+        → IsReaderStep result (of_context w.name) s token.now
+        (written.step_at s token.now (OpenBrace w)) }
 {
     if is_sign(token, Sign::OpenBrace) {
         return Step::goes(Place::NextItem { context }, Role::Nothing);

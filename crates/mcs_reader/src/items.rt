@@ -10,8 +10,10 @@ ghost use Rattle.mcs_grammar.specs.Saying.{context_in, default_said};
 ghost use Rattle.mcs_grammar.specs.FormulaSteps.{PartFormula, formula_step};
 ghost use Rattle.mcs_grammar.specs.FormulaImages.{IsReader};
 ghost use Rattle.mcs_reader.specs.TextSteps as written;
-ghost use Rattle.mcs_reader.specs.TextSteps.{PartText, add_default, add_fact, one_more_just, whole_default};
-ghost use Rattle.mcs_reader.specs.TextImages.{HasSome, IsDefault, IsReaderStep, about_context, capped, of_context, program_in, role_uses, theory_in};
+ghost use Rattle.mcs_reader.specs.TextSteps.{PartText, add_default, add_fact, one_more_just};
+ghost use Rattle.mcs_reader.specs.TextSteps.{whole_default};
+ghost use Rattle.mcs_reader.specs.TextImages.{HasSome, IsDefault, IsReaderStep, about_context};
+ghost use Rattle.mcs_reader.specs.TextImages.{capped, of_context, program_in, role_uses, theory_in};
 
 use crate::place::{PartDefault, Place, Role, Step, Uses, is_name_word, is_sign, number_after};
 use crate::rules::first_of_rule;
@@ -23,7 +25,9 @@ use std::alloc::Global;
 
 /// The role of the token within the formula, if the formula can continue with it.
 pub(crate) fn formula_role(formula: &FormulaReader, token: &[u8]) -> Role
-    ensures { (c : Name) (s : PartFormula) (r : Entry × PartFormula) → IsReader formula.now s → formula_step c s token.now ≡ Some r → map capped (r.0).uses ≡ role_uses (about_context c) token.now result }
+    ensures { (c : Name) (s : PartFormula) (r : Entry × PartFormula) → IsReader formula.now s
+        → formula_step c s token.now ≡ Some r
+        → map capped (r.0).uses ≡ role_uses (about_context c) token.now result }
 {
     if is_sign(token, Sign::OpenParenthesis) {
         return Role::Opens {
@@ -62,7 +66,9 @@ fn is_program(context: &Context) -> bool
 
 /// The context with one more formula or fact.
 fn with_fact(context: Context, fact: Formula) -> Result<Context, Memory>
-    ensures { (w : WrittenContext) (v : Written) → context_of context ≡ context_in w → formula_of fact ≡ formula_in v → IfOk result (λ c. context_of c ≡ context_in (add_fact w v)) }
+    ensures { (w : WrittenContext) (v : Written) → context_of context ≡ context_in w
+        → formula_of fact ≡ formula_in v
+        → IfOk result (λ c. context_of c ≡ context_in (add_fact w v)) }
 {
     let Context { name, kb } = context;
     let kb = match kb {
@@ -84,7 +90,9 @@ fn with_fact(context: Context, fact: Formula) -> Result<Context, Memory>
 
 /// The context with one more default.
 fn with_default(context: Context, default: Default) -> Result<Context, Memory>
-    ensures { (w : WrittenContext) (d : WrittenDefault) → context_of context ≡ context_in w → default_of default ≡ default_said d → IfOk result (λ c. context_of c ≡ context_in (add_default w d)) }
+    ensures { (w : WrittenContext) (d : WrittenDefault) → context_of context ≡ context_in w
+        → default_of default ≡ default_said d
+        → IfOk result (λ c. context_of c ≡ context_in (add_default w d)) }
 {
     let Context { name, kb } = context;
     let kb = match kb {
@@ -102,7 +110,9 @@ fn with_default(context: Context, default: Default) -> Result<Context, Memory>
 
 /// The default with one more justification.
 fn with_just(default: PartDefault, just: Formula) -> Result<PartDefault, Memory>
-    ensures { (d : written.PartDefault) (v : Written) → IsDefault default d → formula_of just ≡ formula_in v → IfOk result (λ more. IsDefault more (one_more_just d v)) }
+    ensures { (d : written.PartDefault) (v : Written) → IsDefault default d
+        → formula_of just ≡ formula_in v
+        → IfOk result (λ more. IsDefault more (one_more_just d v)) }
 {
     let PartDefault { pre, mut justs } = default;
     justs.push(just)?;
@@ -111,7 +121,9 @@ fn with_just(default: PartDefault, just: Formula) -> Result<PartDefault, Memory>
 
 /// The default with its consequent.
 fn concluded(default: PartDefault, conclusion: Formula) -> Default
-    ensures { (d : written.PartDefault) (v : Written) → IsDefault default d → HasSome d.justs → formula_of conclusion ≡ formula_in v → default_of result ≡ default_said (whole_default d v) }
+    ensures { (d : written.PartDefault) (v : Written) → IsDefault default d → HasSome d.justs
+        → formula_of conclusion ≡ formula_in v
+        → default_of result ≡ default_said (whole_default d v) }
 {
     let PartDefault { pre, justs } = default;
     Default {
@@ -123,7 +135,10 @@ fn concluded(default: PartDefault, conclusion: Formula) -> Default
 
 /// The step of a token after a whole fact or prerequisite.
 fn fact_ends(alloc: Global, context: Context, whole: Formula, token: &[u8]) -> Result<Step, Memory>
-    ensures { (s : PartText) (w : WrittenContext) (v : Written) → context_of context ≡ context_in w → formula_of whole ≡ formula_in v → IfOk result (λ step. IsReaderStep step (of_context w.name) s token.now (written.fact_ends s w token.now v)) }
+    ensures { (s : PartText) (w : WrittenContext) (v : Written) → context_of context ≡ context_in w
+        → formula_of whole ≡ formula_in v → IfOk result
+        (λ step. IsReaderStep step (of_context w.name) s token.now
+        (written.fact_ends s w token.now v)) }
 {
     if is_sign(token, Sign::Period) {
         let context = with_fact(context, whole)?;
@@ -153,7 +168,10 @@ pub(crate) fn in_fact(
     mut formula: FormulaReader,
     token: &[u8],
 ) -> Result<Step, Memory>
-    ensures { (s : PartText) (w : WrittenContext) (f : PartFormula) → context_of context ≡ context_in w → IsReader formula f → IfOk result (λ step. IsReaderStep step (of_context w.name) s token.now (written.in_fact s w f token.now)) }
+    ensures { (s : PartText) (w : WrittenContext) (f : PartFormula)
+        → context_of context ≡ context_in w → IsReader formula f
+        → IfOk result (λ step. IsReaderStep step (of_context w.name) s token.now
+        (written.in_fact s w f token.now)) }
 {
     let role = formula_role(&formula, token);
     match formula.take(alloc, token) {
@@ -190,8 +208,10 @@ fn just_ends(
     whole: Formula,
     token: &[u8],
 ) -> Result<Step, Memory>
-    ensures { (s : PartText) (w : WrittenContext) (d : written.PartDefault) (v : Written) → context_of context ≡ context_in w → IsDefault default d → formula_of whole ≡ formula_in v
-        → IfOk result (λ step. IsReaderStep step (of_context w.name) s token.now (written.just_ends s w d token.now v)) }
+    ensures { (s : PartText) (w : WrittenContext) (d : written.PartDefault) (v : Written)
+        → context_of context ≡ context_in w → IsDefault default d → formula_of whole ≡ formula_in v
+        → IfOk result (λ step. IsReaderStep step (of_context w.name) s token.now
+        (written.just_ends s w d token.now v)) }
 {
     if is_sign(token, Sign::Comma) {
         let default = with_just(default, whole)?;
@@ -225,8 +245,10 @@ pub(crate) fn in_just(
     mut formula: FormulaReader,
     token: &[u8],
 ) -> Result<Step, Memory>
-    ensures { (s : PartText) (w : WrittenContext) (d : written.PartDefault) (f : PartFormula) → context_of context ≡ context_in w → IsDefault default d → IsReader formula f
-        → IfOk result (λ step. IsReaderStep step (of_context w.name) s token.now (written.in_just s w d f token.now)) }
+    ensures { (s : PartText) (w : WrittenContext) (d : written.PartDefault) (f : PartFormula)
+        → context_of context ≡ context_in w → IsDefault default d → IsReader formula f
+        → IfOk result (λ step. IsReaderStep step (of_context w.name) s token.now
+        (written.in_just s w d f token.now)) }
 {
     let role = formula_role(&formula, token);
     match formula.take(alloc, token) {
@@ -269,8 +291,11 @@ fn conclusion_ends(
     whole: Formula,
     token: &[u8],
 ) -> Result<Step, Memory>
-    ensures { (s : PartText) (w : WrittenContext) (d : written.PartDefault) (v : Written) → context_of context ≡ context_in w → IsDefault default d → HasSome d.justs → formula_of whole ≡ formula_in v
-        → IfOk result (λ step. IsReaderStep step (of_context w.name) s token.now (written.conclusion_ends s w d token.now v)) }
+    ensures { (s : PartText) (w : WrittenContext) (d : written.PartDefault) (v : Written)
+        → context_of context ≡ context_in w → IsDefault default d → HasSome d.justs
+        → formula_of whole ≡ formula_in v
+        → IfOk result (λ step. IsReaderStep step (of_context w.name) s token.now
+        (written.conclusion_ends s w d token.now v)) }
 {
     if is_sign(token, Sign::Period) {
         let context = with_default(context, concluded(default, whole))?;
@@ -288,8 +313,11 @@ pub(crate) fn in_conclusion(
     mut formula: FormulaReader,
     token: &[u8],
 ) -> Result<Step, Memory>
-    ensures { (s : PartText) (w : WrittenContext) (d : written.PartDefault) (f : PartFormula) → context_of context ≡ context_in w → IsDefault default d → HasSome d.justs → IsReader formula f
-        → IfOk result (λ step. IsReaderStep step (of_context w.name) s token.now (written.in_conclusion s w d f token.now)) }
+    ensures { (s : PartText) (w : WrittenContext) (d : written.PartDefault) (f : PartFormula)
+        → context_of context ≡ context_in w → IsDefault default d → HasSome d.justs
+        → IsReader formula f
+        → IfOk result (λ step. IsReaderStep step (of_context w.name) s token.now
+        (written.in_conclusion s w d f token.now)) }
 {
     let role = formula_role(&formula, token);
     match formula.take(alloc, token) {
@@ -327,7 +355,9 @@ pub(crate) fn in_conclusion(
 
 /// The step of the first token of a formula of an item.
 fn first_of_formula(alloc: Global, context: Context, token: &[u8]) -> Result<Step, Memory>
-    ensures { (s : PartText) (w : WrittenContext) → context_of context ≡ context_in w → IfOk result (λ step. IsReaderStep step (of_context w.name) s token.now (written.first_of_formula s w token.now)) }
+    ensures { (s : PartText) (w : WrittenContext) → context_of context ≡ context_in w
+        → IfOk result (λ step. IsReaderStep step (of_context w.name) s token.now
+        (written.first_of_formula s w token.now)) }
 {
     let mut formula = FormulaReader::new(alloc);
     let role = formula_role(&formula, token);
@@ -352,7 +382,9 @@ fn first_of_formula(alloc: Global, context: Context, token: &[u8]) -> Result<Ste
 
 /// The step of a token where an item is expected, or the brace that ends the context.
 pub(crate) fn next_item(alloc: Global, context: Context, token: &[u8]) -> Result<Step, Memory>
-    ensures { (s : PartText) (w : WrittenContext) → context_of context ≡ context_in w → IfOk result (λ step. IsReaderStep step (of_context w.name) s token.now (written.next_item s w token.now)) }
+    ensures { (s : PartText) (w : WrittenContext) → context_of context ≡ context_in w
+        → IfOk result (λ step. IsReaderStep step (of_context w.name) s token.now
+        (written.next_item s w token.now)) }
 {
     if is_sign(token, Sign::CloseBrace) {
         return Ok(Step::EndsContext { context });

@@ -1,4 +1,5 @@
-//! A parser of texts, token by token: what was read so far, and whether the text can continue with the next token.
+//! A parser of texts, token by token: what was read so far, and whether the text can continue with
+//! the next token.
 #![tactic(auto)]
 
 mod bridges;

@@ -3,7 +3,8 @@
 ghost use Rattle.std.specs.Prelude.{◌≡◌, nat_eq, length, IfOk, MatchOption, Some, None};
 ghost use Rattle.mcs_reader.specs.TextSteps as written;
 ghost use Rattle.mcs_reader.specs.TextSteps.{PartText, finished_text, nothing_written};
-ghost use Rattle.mcs_reader.specs.TextImages.{IsAt, IsOfBridge, IsReaderStep, IsTokenTaken, IsTextReader, last_read, subject_at};
+ghost use Rattle.mcs_reader.specs.TextImages.{IsAt, IsOfBridge, IsReaderStep, IsTokenTaken};
+ghost use Rattle.mcs_reader.specs.TextImages.{IsTextReader, last_read, subject_at};
 ghost use Rattle.mcs_reader.specs.Ends.{AreReaderParts};
 
 use crate::bridges::{
@@ -40,7 +41,9 @@ pub struct Parts {
 
 /// The step of the token in the state.
 fn step_at(alloc: Global, place: Place, no_bridges: bool, token: &[u8]) -> Result<Step, Memory>
-    ensures { (s : PartText) (q : written.Place) → no_bridges ≡ nat_eq (length s.bridges) 0 → IsAt place q → IfOk result (λ step. IsReaderStep step (subject_at q) s token.now (written.step_at s token.now q)) }
+    ensures { (s : PartText) (q : written.Place) → no_bridges ≡ nat_eq (length s.bridges) 0
+        → IsAt place q → IfOk result (λ step. IsReaderStep step (subject_at q) s token.now
+        (written.step_at s token.now q)) }
 {
     match place {
         Place::Between => Ok(between(no_bridges, token)),
@@ -72,7 +75,9 @@ fn step_at(alloc: Global, place: Place, no_bridges: bool, token: &[u8]) -> Resul
 /// The step of the token in the state, which has to be one within a bridge rule.
 fn step_in_bridge(alloc: Global, place: Place, token: &[u8]) -> Result<Step, Memory>
     requires { IsOfBridge place }
-    ensures { (s : PartText) (q : written.Place) → IsAt place q → IfOk result (λ step. IsReaderStep step (subject_at q) s token.now (written.step_at s token.now q)) }
+    ensures { (s : PartText) (q : written.Place) → IsAt place q
+        → IfOk result (λ step. IsReaderStep step (subject_at q) s token.now
+        (written.step_at s token.now q)) }
 {
     match place {
         Place::BridgeName => bridge_name(alloc, token),
@@ -128,7 +133,8 @@ impl Reader {
 
     /// The last read of the rule, if the last token ended it.
     pub fn last_read(&self) -> Option<&NamedRead>
-        ensures { MatchOption result (last_read self.now.place ≡ None) (λ r. last_read self.now.place ≡ Some r.now) }
+        ensures { MatchOption result (last_read self.now.place ≡ None)
+            (λ r. last_read self.now.place ≡ Some r.now) }
     {
         match &self.place {
             Place::AfterRead { read, .. } => Some(read),
@@ -136,12 +142,13 @@ impl Reader {
         }
     }
 
-    /// Takes the next token, and returns its uses, or `None` if the text can't continue with it. The uses of a name
-    /// that is too long are returned too, but the text can't be read on after it. If memory runs out, the parser can't
-    /// be used any more: the context or rule that is being read is let go, and those before it stay until the parser
-    /// is dropped.
+    /// Takes the next token, and returns its uses, or `None` if the text can't continue with it.
+    /// The uses of a name that is too long are returned too, but the text can't be read on after
+    /// it. If memory runs out, the parser can't be used any more: the context or rule that is being
+    /// read is let go, and those before it stay until the parser is dropped.
     pub fn take(&mut self, alloc: Global, token: &[u8]) -> Result<Option<Uses>, Memory>
-        ensures { (s : PartText) → IsTextReader self.old s → IfOk result (λ uses. IsTokenTaken uses self.new s token.now) }
+        ensures { (s : PartText) → IsTextReader self.old s
+            → IfOk result (λ uses. IsTokenTaken uses self.new s token.now) }
     {
         let place = mem::replace(&mut self.place, Place::Between);
         let no_bridges = self.bridges.is_empty();

@@ -17,7 +17,8 @@ use std::alloc::Global;
 
 /// The context with one more rule.
 fn with_rule(context: Context, rule: ProgRule) -> Result<Context, Memory>
-    ensures { (w : WrittenContext) (r : WrittenRule) → context_of context ≡ context_in w → rule_of rule ≡ rule_in r → IfOk result (λ c. context_of c ≡ context_in (add_rule w r)) }
+    ensures { (w : WrittenContext) (r : WrittenRule) → context_of context ≡ context_in w
+        → rule_of rule ≡ rule_in r → IfOk result (λ c. context_of c ≡ context_in (add_rule w r)) }
 {
     let Context { name, kb } = context;
     let kb = match kb {
@@ -52,7 +53,8 @@ fn headless(alloc: Global) -> ProgRule
 
 /// The number of the name that comes after those of the rule.
 fn next_number(rule: &ProgRule) -> usize
-    ensures { result ≡ min (length rule.now.head.items + length rule.now.pos.items + length rule.now.neg.items + 1) most_number }
+    ensures { result ≡ min (length rule.now.head.items + length rule.now.pos.items + length
+        rule.now.neg.items + 1) most_number }
 {
     let names = rule.head.len().saturating_add(rule.pos.len());
     number_after(names.saturating_add(rule.neg.len()))
@@ -60,7 +62,9 @@ fn next_number(rule: &ProgRule) -> usize
 
 /// The step of the first token of a rule.
 pub(crate) fn first_of_rule(alloc: Global, context: Context, token: &[u8]) -> Result<Step, Memory>
-    ensures { (s : PartText) (w : WrittenContext) → context_of context ≡ context_in w → IfOk result (λ step. IsReaderStep step (of_context w.name) s token.now (written.first_of_rule s w token.now)) }
+    ensures { (s : PartText) (w : WrittenContext) → context_of context ≡ context_in w
+        → IfOk result (λ step. IsReaderStep step (of_context w.name) s token.now
+        (written.first_of_rule s w token.now)) }
 {
     if is_sign(token, Sign::If) {
         let rule = headless(alloc);
@@ -96,7 +100,9 @@ pub(crate) fn after_head_name(
     head: Vec<Name>,
     token: &[u8],
 ) -> Result<Step, Memory>
-    ensures { (s : PartText) (w : WrittenContext) → context_of context ≡ context_in w → IfOk result (λ step. IsReaderStep step (of_context w.name) s token.now (written.after_head_name s w head.items token.now)) }
+    ensures { (s : PartText) (w : WrittenContext) → context_of context ≡ context_in w
+        → IfOk result (λ step. IsReaderStep step (of_context w.name) s token.now
+        (written.after_head_name s w head.items token.now)) }
 {
     if is_sign(token, Sign::Bar) {
         return Ok(Step::goes(Place::NextHeadName { context, head }, Role::Nothing));
@@ -124,7 +130,9 @@ pub(crate) fn next_head_name(
     mut head: Vec<Name>,
     token: &[u8],
 ) -> Result<Step, Memory>
-    ensures { (s : PartText) (w : WrittenContext) → context_of context ≡ context_in w → IfOk result (λ step. IsReaderStep step (of_context w.name) s token.now (written.next_head_name s w head.items token.now)) }
+    ensures { (s : PartText) (w : WrittenContext) → context_of context ≡ context_in w
+        → IfOk result (λ step. IsReaderStep step (of_context w.name) s token.now
+        (written.next_head_name s w head.items token.now)) }
 {
     let role = Role::Atom {
         number: number_after(head.len()),
@@ -154,8 +162,10 @@ pub(crate) fn next_head_name(
 /// The rule with one more literal.
 fn with_literal(rule: ProgRule, denied: bool, atom: Name) -> Result<ProgRule, Memory>
     ensures head { IfOk result (λ more. more.head.items ≡ rule.head.items) }
-    ensures rule { (head : List plain.Name) (body : List WrittenLiteral) → rule_of rule ≡ rule_in (whole_rule head true body)
-        → IfOk result (λ more. rule_of more ≡ rule_in (whole_rule head true (body ++ record { denied = denied; atom = atom } ∷ []))) }
+    ensures rule { (head : List plain.Name) (body : List WrittenLiteral)
+        → rule_of rule ≡ rule_in (whole_rule head true body)
+        → IfOk result (λ more. rule_of more ≡ rule_in
+        (whole_rule head true (body ++ record { denied = denied; atom = atom } ∷ []))) }
 {
     let ProgRule {
         head,
@@ -178,8 +188,11 @@ pub(crate) fn one_literal(
     denied: bool,
     token: &[u8],
 ) -> Result<Step, Memory>
-    ensures { (s : PartText) (w : WrittenContext) (body : List WrittenLiteral) → context_of context ≡ context_in w → rule_of rule ≡ rule_in (whole_rule rule.head.items true body)
-        → IfOk result (λ step. IsReaderStep step (of_context w.name) s token.now (written.one_literal s w rule.head.items body denied token.now)) }
+    ensures { (s : PartText) (w : WrittenContext) (body : List WrittenLiteral)
+        → context_of context ≡ context_in w
+        → rule_of rule ≡ rule_in (whole_rule rule.head.items true body)
+        → IfOk result (λ step. IsReaderStep step (of_context w.name) s token.now
+        (written.one_literal s w rule.head.items body denied token.now)) }
 {
     let role = Role::Atom {
         number: next_number(&rule),
@@ -213,8 +226,11 @@ pub(crate) fn next_literal(
     rule: ProgRule,
     token: &[u8],
 ) -> Result<Step, Memory>
-    ensures { (s : PartText) (w : WrittenContext) (body : List WrittenLiteral) → context_of context ≡ context_in w → rule_of rule ≡ rule_in (whole_rule rule.head.items true body)
-        → IfOk result (λ step. IsReaderStep step (of_context w.name) s token.now (written.next_literal s w rule.head.items body token.now)) }
+    ensures { (s : PartText) (w : WrittenContext) (body : List WrittenLiteral)
+        → context_of context ≡ context_in w
+        → rule_of rule ≡ rule_in (whole_rule rule.head.items true body)
+        → IfOk result (λ step. IsReaderStep step (of_context w.name) s token.now
+        (written.next_literal s w rule.head.items body token.now)) }
 {
     if is_keyword(token, Keyword::Not) {
         return Ok(Step::goes(Place::AfterNot { context, rule }, Role::Nothing));
@@ -229,8 +245,10 @@ pub(crate) fn after_sign(
     rule: ProgRule,
     token: &[u8],
 ) -> Result<Step, Memory>
-    ensures { (s : PartText) (w : WrittenContext) → context_of context ≡ context_in w → rule_of rule ≡ rule_in (whole_rule rule.head.items true [])
-        → IfOk result (λ step. IsReaderStep step (of_context w.name) s token.now (written.step_after_sign s w rule.head.items token.now)) }
+    ensures { (s : PartText) (w : WrittenContext) → context_of context ≡ context_in w
+        → rule_of rule ≡ rule_in (whole_rule rule.head.items true [])
+        → IfOk result (λ step. IsReaderStep step (of_context w.name) s token.now
+        (written.step_after_sign s w rule.head.items token.now)) }
 {
     if is_sign(token, Sign::Period) {
         let context = with_rule(context, rule)?;
@@ -241,8 +259,11 @@ pub(crate) fn after_sign(
 
 /// The step of a token after a literal.
 pub(crate) fn after_literal(context: Context, rule: ProgRule, token: &[u8]) -> Result<Step, Memory>
-    ensures { (s : PartText) (w : WrittenContext) (body : List WrittenLiteral) → context_of context ≡ context_in w → rule_of rule ≡ rule_in (whole_rule rule.head.items true body)
-        → IfOk result (λ step. IsReaderStep step (of_context w.name) s token.now (written.after_literal s w rule.head.items body token.now)) }
+    ensures { (s : PartText) (w : WrittenContext) (body : List WrittenLiteral)
+        → context_of context ≡ context_in w
+        → rule_of rule ≡ rule_in (whole_rule rule.head.items true body)
+        → IfOk result (λ step. IsReaderStep step (of_context w.name) s token.now
+        (written.after_literal s w rule.head.items body token.now)) }
 {
     if is_sign(token, Sign::Comma) {
         return Ok(Step::goes(Place::NextLiteral { context, rule }, Role::Nothing));

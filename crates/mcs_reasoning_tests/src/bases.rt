@@ -8,7 +8,8 @@ use mcs_sat::{ClauseBase, Outcome};
 use mcs_trace::{Cnf, check};
 use std::alloc::Global;
 
-/// Whether a search with a trace tells this of the base's clauses, which are those of the list. A trace is accepted.
+/// Whether a search with a trace tells this of the base's clauses, which are those of the list. A
+/// trace is accepted.
 fn is_shown(alloc: Global, base: &mut ClauseBase, whole: &Cnf, wanted: bool) -> Result<bool, Memory>
     ensures { base.new ≡ base.old }
 {
@@ -29,8 +30,8 @@ fn has_model(base: &mut ClauseBase) -> Result<bool, Memory>
     Ok(base.satisfy()?.is_some())
 }
 
-/// Whether a search with a trace and one without tell this of the base's clauses with some more, which are taken off
-/// again.
+/// Whether a search with a trace and one without tell this of the base's clauses with some more,
+/// which are taken off again.
 fn are_told(
     alloc: Global,
     base: &mut ClauseBase,
@@ -49,8 +50,8 @@ fn are_told(
     Ok(found? == wanted && is_shown?)
 }
 
-/// Clauses over the variables 1 to `vars`, and clauses that are added to them, with one variable more, and whether they
-/// then have an assignment.
+/// Clauses over the variables 1 to `vars`, and clauses that are added to them, with one variable
+/// more, and whether they then have an assignment.
 struct Asked {
     vars: u8,
     front: &'static [&'static [i64]],
@@ -140,7 +141,8 @@ fn front_and(alloc: Global, asked: &Asked, more: &[&[i64]]) -> Option<Cnf> {
     Some(whole)
 }
 
-/// Whether the base's clauses, which are the first ones, have an assignment with some more exactly where it is said.
+/// Whether the base's clauses, which are the first ones, have an assignment with some more exactly
+/// where it is said.
 fn is_answered(
     alloc: Global,
     base: &mut ClauseBase,
@@ -211,8 +213,8 @@ static DISJUNCTIONS: [[i8; 3]; 8] = [
     [-1, -2, -3],
 ];
 
-/// Adds what says that the disjunction is true, where the variable of the number stands for the last two, and the next
-/// one for the whole.
+/// Adds what says that the disjunction is true, where the variable of the number stands for the
+/// last two, and the next one for the whole.
 fn push_disjunction(alloc: Global, whole: &mut Cnf, literals: [i8; 3], number: u8) -> Option<()> {
     let [first, second, third] = literals;
     let (first, second, third) = (i64::from(first), i64::from(second), i64::from(third));
@@ -243,7 +245,8 @@ fn disjunctions(alloc: Global, count: usize) -> Option<Cnf> {
     Some(whole)
 }
 
-/// Whether the base, once it is settled, has an assignment exactly where it is said. Its clauses are those of the list.
+/// Whether the base, once it is settled, has an assignment exactly where it is said. Its clauses
+/// are those of the list.
 fn is_settled_rightly(
     alloc: Global,
     base: &mut ClauseBase,
@@ -279,7 +282,8 @@ fn disjunctions_have_a_model_until_all_are_there(rt: HostRuntime) {
     }
 }
 
-/// Whether the settled base of `EITHER`, cut down to what 3 stands for, has assignments in which 3 is false.
+/// Whether the settled base of `EITHER`, cut down to what 3 stands for, has assignments in which 3
+/// is false.
 fn is_cut(base: &mut ClauseBase) -> Result<bool, Memory> {
     base.settle()?;
     let vars = base.vars();
@@ -308,15 +312,16 @@ fn a_settled_base_is_cut(rt: HostRuntime) {
     assert!(rt; is_either_cut(rt.alloc()));
 }
 
-/// Whether the base has one variable and so many clauses, which have an assignment exactly where it is said.
+/// Whether the base has one variable and so many clauses, which have an assignment exactly where it
+/// is said.
 fn is_told(base: &mut ClauseBase, count: usize, wanted: bool) -> Result<bool, Memory>
     ensures { base.new ≡ base.old }
 {
     Ok(has_model(base)? == wanted && has(base, 1, count))
 }
 
-/// Whether a base without variables and clauses is told rightly as a variable, the clause that it is true and the one
-/// that it is false are added, and the last is taken off again.
+/// Whether a base without variables and clauses is told rightly as a variable, the clause that it
+/// is true and the one that it is false are added, and the last is taken off again.
 fn is_told_as_it_grows(base: &mut ClauseBase) -> Result<bool, Memory>
     requires { base.old ≡ record { vars = 0; clauses = [] } }
 {

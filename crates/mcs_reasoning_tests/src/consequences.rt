@@ -12,8 +12,8 @@ use std::alloc::Global;
 /// Two formulas that are known, three that are assumed by the numbers 0, 3 and 5, and three goals.
 const FORMULAS: &str = "context c classical { p -> q. r & s -> t. p. r. s. q. t. p | r. }";
 
-/// Sets of assumptions, and the places of the goals that follow with them, asked one after the other. Number 1 is of no
-/// assumption.
+/// Sets of assumptions, and the places of the goals that follow with them, asked one after the
+/// other. Number 1 is of no assumption.
 const QUESTIONS: &[(u64, u64)] = &[
     (0b000000, 0b000),
     (0b000001, 0b101),

@@ -102,11 +102,12 @@ fn atoms_of(system: &System) -> &[Name] {
     }
 }
 
-/// Whether questions may be asked of the formulas over the atoms: these are few and different, and the formulas have no
-/// others.
+/// Whether questions may be asked of the formulas over the atoms: these are few and different, and
+/// the formulas have no others.
 pub(crate) fn may_be_asked(formulas: &[Formula], atoms: &[Name]) -> bool
     ensures { IsTrue result
-        → (length atoms.now ≤ 64) × (has_twins atoms.now ≡ false) × AreOver atoms.now (map formula_of formulas.now) }
+        → (length atoms.now ≤ 64) × (has_twins atoms.now ≡ false)
+        × AreOver atoms.now (map formula_of formulas.now) }
 {
     atoms.len() <= 64 && are_different(atoms) && are_over(atoms, formulas)
 }

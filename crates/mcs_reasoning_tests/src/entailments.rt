@@ -9,8 +9,8 @@ use mcs_system::{Formula, Name};
 use mcs_trace::Entail;
 use std::alloc::Global;
 
-/// Whether it is shown that the goal follows, where no places are given; else that it does not where just the atoms
-/// at these places are true.
+/// Whether it is shown that the goal follows, where no places are given; else that it does not
+/// where just the atoms at these places are true.
 fn is_shown(entail: &Entail, against: Option<u64>) -> bool {
     match entail {
         Entail::Yes(_) => against.is_none(),
@@ -35,7 +35,8 @@ fn is_told(
     Ok(is_shown)
 }
 
-/// Whether this is shown of the goal by the clauses of the formulas, where these can be asked for it.
+/// Whether this is shown of the goal by the clauses of the formulas, where these can be asked for
+/// it.
 fn is_told_by_clauses(
     alloc: Global,
     kb: &[Formula],
@@ -66,8 +67,8 @@ fn is_told_by_clauses(
     Ok(is_shown)
 }
 
-/// Whether the third formula is told to follow from the two before it, from these and from their clauses, and the
-/// fourth one not to, where just the first two atoms are true.
+/// Whether the third formula is told to follow from the two before it, from these and from their
+/// clauses, and the fourth one not to, where just the first two atoms are true.
 pub(crate) fn follow(alloc: Global, formulas: &[Formula], atoms: &[Name]) -> Result<bool, Memory> {
     let [_, _, third, fourth] = formulas else {
         return Ok(false);
@@ -108,8 +109,8 @@ static BELIEFS: [Beliefs; 2] = [
         places: 0b111,
         follow: &[true, true, true],
     },
-    // Of five beliefs the first and the last follow. What makes the second false makes the third false too, and the
-    // fourth true.
+    // Of five beliefs the first and the last follow. What makes the second false makes the third
+    // false too, and the fourth true.
     Beliefs {
         text: "context c classical { p. p -> q. q. r. s. ~r. q & p. }",
         places: 0b10001,
@@ -117,8 +118,8 @@ static BELIEFS: [Beliefs; 2] = [
     },
 ];
 
-/// Whether just those of the formulas after the first two follow from these that are said to, with what shows it of
-/// each.
+/// Whether just those of the formulas after the first two follow from these that are said to, with
+/// what shows it of each.
 pub(crate) fn are_believed(
     alloc: Global,
     formulas: &[Formula],

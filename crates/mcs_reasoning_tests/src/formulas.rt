@@ -71,7 +71,8 @@ static CLAUSES_OF_EACH: [&[i64]; 28] = [
     &[10],
 ];
 
-/// Whether each of the formulas is over two atoms, and not all are over the second alone, and they have those clauses.
+/// Whether each of the formulas is over two atoms, and not all are over the second alone, and they
+/// have those clauses.
 pub(crate) fn are_all_stated(
     alloc: Global,
     formulas: &[Formula],
@@ -133,7 +134,8 @@ fn push(
     }
 }
 
-/// The clauses of no formulas, to which those of each of these are added, or of its negation where it is denied.
+/// The clauses of no formulas, to which those of each of these are added, or of its negation where
+/// it is denied.
 fn pushed(alloc: Global, atoms: &[Name], formulas: &[(&Formula, bool)]) -> Result<Cnf, Memory> {
     let mut cnf = clauses(alloc, &[], atoms)?;
     for (formula, is_denied) in formulas {
@@ -144,8 +146,8 @@ fn pushed(alloc: Global, atoms: &[Name], formulas: &[(&Formula, bool)]) -> Resul
 
 static CONTRADICTION: [&[i64]; 7] = [&[1], &[-1, -3], &[1, 3], &[3], &[-2, -4], &[2, 4], &[4]];
 
-/// Whether a fact, which is not over the second of two atoms, its denial and that of a goal have the clauses of the
-/// contradiction, and are refuted by the clauses of the fact and of its denial.
+/// Whether a fact, which is not over the second of two atoms, its denial and that of a goal have
+/// the clauses of the contradiction, and are refuted by the clauses of the fact and of its denial.
 pub(crate) fn are_refuted(
     alloc: Global,
     formulas: &[Formula],

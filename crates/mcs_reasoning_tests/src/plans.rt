@@ -41,7 +41,8 @@ bridge r6: n0:true if n3:x.";
 pub(crate) const FORBIDDEN: &str = "context c1 program { a. } context c2 program { :- p. :- q. }
 bridge r1: c2:p if c1:a. bridge r2: c2:q if not c1:b.";
 
-/// A text, the order of its contexts, and for one of them what supplies it and what it guesses, as bits of a number.
+/// A text, the order of its contexts, and for one of them what supplies it and what it guesses, as
+/// bits of a number.
 struct Order {
     text: &'static str,
     order: &'static [u32],

@@ -31,8 +31,8 @@ const NO_RULE: &str = "context n0 classical {}";
 const TWO_RULES: &str =
     "context n0 classical {} bridge r0: n0:true if n0:x. bridge r1: n0:true if n0:x.";
 
-/// A text, a level, and the questions to its only context, each as bits of a number. Without a rule, with one that
-/// reads its own context, and with two of these.
+/// A text, a level, and the questions to its only context, each as bits of a number. Without a
+/// rule, with one that reads its own context, and with two of these.
 static GUESSES: [(&str, u32, &[u64]); 4] = [
     (NO_RULE, 1, &[0b0]),
     (ITSELF, 0, &[0b0, 0b1]),
@@ -81,15 +81,16 @@ fn are_asked(
     Ok(are_sets(&found?, sets))
 }
 
-/// A level, and what the second context is asked at it where the first supplies its first variable alone, so that both
-/// rules apply.
+/// A level, and what the second context is asked at it where the first supplies its first variable
+/// alone, so that both rules apply.
 static LEVELS: [(u32, &[u64]); 3] = [
     (0, &[0b11]),
     (1, &[0b01, 0b10, 0b11]),
     (2, &[0b00, 0b01, 0b10, 0b11]),
 ];
 
-/// Whether the second of two contexts is asked by level, and nothing where the first supplies nothing.
+/// Whether the second of two contexts is asked by level, and nothing where the first supplies
+/// nothing.
 pub(crate) fn are_asked_by_level(alloc: Global, system: &System) -> bool {
     let mut are_right = are_asked(alloc, system, &[], 2, &[]) == Ok(true);
     for (level, sets) in &LEVELS {

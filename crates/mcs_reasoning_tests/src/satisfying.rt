@@ -25,8 +25,8 @@ fn is_accepted(
     check(alloc, &cnf, trace)
 }
 
-/// Whether the formulas are told to hold where just the atoms at the places are true; where no places are given,
-/// whether they are refuted by a trace that is accepted.
+/// Whether the formulas are told to hold where just the atoms at the places are true; where no
+/// places are given, whether they are refuted by a trace that is accepted.
 fn are_told(
     alloc: Global,
     formulas: &[Formula],
@@ -46,8 +46,8 @@ fn are_told(
     }
 }
 
-/// Whether the first two of three formulas are told to hold where just the second atom is true, and all three to be
-/// refuted.
+/// Whether the first two of three formulas are told to hold where just the second atom is true, and
+/// all three to be refuted.
 pub(crate) fn two_hold(alloc: Global, formulas: &[Formula], atoms: &[Name]) -> bool {
     formulas.len() == 3
         && are_told(alloc, &formulas[..2], atoms, Some(Vars::one(1))) == Ok(true)

@@ -41,8 +41,8 @@ fn are_values(values: &[bool], vars: u64, known: &[(usize, bool)]) -> bool {
     as_said
 }
 
-/// Whether the clauses are satisfied by values with these at their places, or refuted by a trace that is accepted,
-/// where none are given.
+/// Whether the clauses are satisfied by values with these at their places, or refuted by a trace
+/// that is accepted, where none are given.
 fn are_told(alloc: Global, cnf: &Cnf, known: Option<&[(usize, bool)]>) -> Result<bool, Memory> {
     match solve(alloc, cnf)? {
         Outcome::Model(values) => Ok(match known {
@@ -158,7 +158,8 @@ fn name_at(trace: &mut Trace, at: usize, place: usize) -> Option<&mut u64> {
     }
 }
 
-/// Whether the trace is accepted with the name of no clause at this place of the step's chain, if it has the place.
+/// Whether the trace is accepted with the name of no clause at this place of the step's chain, if
+/// it has the place.
 fn is_loose_name(
     alloc: Global,
     cnf: &Cnf,
@@ -207,7 +208,8 @@ fn is_accepted_with(
     is_accepted
 }
 
-/// Whether the trace is accepted with the literal at this place of the step's clause turned, if it has the place.
+/// Whether the trace is accepted with the literal at this place of the step's clause turned, if it
+/// has the place.
 fn is_loose_literal(
     alloc: Global,
     cnf: &Cnf,
@@ -262,7 +264,8 @@ fn is_tight(alloc: Global, cnf: &Cnf, trace: &mut Trace) -> Result<bool, Memory>
     check(alloc, cnf, trace)
 }
 
-/// Whether the clauses are refuted by a trace that is accepted, and no longer with any one number changed.
+/// Whether the clauses are refuted by a trace that is accepted, and no longer with any one number
+/// changed.
 fn are_refuted_tightly(alloc: Global, cnf: &Cnf) -> Result<bool, Memory> {
     match solve(alloc, cnf)? {
         Outcome::Refuted(mut trace) => {
@@ -274,7 +277,8 @@ fn are_refuted_tightly(alloc: Global, cnf: &Cnf) -> Result<bool, Memory> {
     }
 }
 
-/// Whether so many holes are told to be too few, by a trace of which each number is needed where that is asked.
+/// Whether so many holes are told to be too few, by a trace of which each number is needed where
+/// that is asked.
 fn are_too_few(alloc: Global, holes: u8, is_tight: bool) -> bool {
     let Some(cnf) = pigeons(alloc, holes) else {
         return false;

@@ -29,7 +29,8 @@ fn have_values(solver: &Solver, vars: u64, values: &[(i64, Option<bool>)]) -> bo
 fn is_free(solver: &Solver, vars: u64, literal: i64) -> bool
     requires { vars ≡ solver.now.vars }
     ensures { IsTrue result
-        → IsLiteral literal × (unsigned_abs literal ≤ solver.now.vars) × HasNoValue (trues solver.now) literal }
+        → IsLiteral literal × (unsigned_abs literal ≤ solver.now.vars)
+        × HasNoValue (trues solver.now) literal }
 {
     is_literal(literal) && literal.unsigned_abs() <= vars && solver.value(literal).is_none()
 }
@@ -136,8 +137,8 @@ fn unit_clauses_are_followed(rt: HostRuntime) {
     }
 }
 
-/// Clauses, and decisions that are made one by one, each when what was before it is propagated. The last leads to
-/// a conflict.
+/// Clauses, and decisions that are made one by one, each when what was before it is propagated. The
+/// last leads to a conflict.
 struct Lesson {
     vars: u32,
     clauses: &'static [&'static [i64]],

@@ -185,7 +185,8 @@ fn leaves(alloc: Global, of: Listed, wanted: Listed) -> Result<bool, Memory> {
     is_listed(alloc, &left?, wanted)
 }
 
-/// A table, and what is left of it without the variables that are not of the other's scope: the minimal rows.
+/// A table, and what is left of it without the variables that are not of the other's scope: the
+/// minimal rows.
 static LEFT_ROWS: [(Listed, Listed); 2] = [
     (
         (0b11, &[(0b01, 0b1), (0b11, 0b11), (0b11, 0b100), (0b10, 0)]),
@@ -232,7 +233,8 @@ fn forgetting_keeps_minimal_rows(rt: HostRuntime) {
     }
 }
 
-/// Whether, of some states, those are kept that agree with a row, on two variables of which the rows have one.
+/// Whether, of some states, those are kept that agree with a row, on two variables of which the
+/// rows have one.
 fn are_kept(alloc: Global) -> Result<bool, Memory> {
     let rows = table(alloc, (0b011, &[(0b01, 0), (0b11, 0b1), (0b11, 0b10)]))?;
     let set = Vars::numbered(0b110);

@@ -51,7 +51,8 @@ fn step_comes_next(alloc: Global, cnf: &Cnf) -> Result<bool, Memory> {
     Ok(is_there && is_last)
 }
 
-/// Whether the list is of one variable and two clauses, and the traces of it are accepted where that is said.
+/// Whether the list is of one variable and two clauses, and the traces of it are accepted where
+/// that is said.
 fn are_told(alloc: Global, cnf: &Cnf) -> bool {
     let mut are_right = step_comes_next(alloc, cnf) == Ok(true);
     for (chains, accepted) in &TRACES {

@@ -97,8 +97,8 @@ static CRITICAL: [Critical; 10] = [
     (&[&[0, 2]], &[0, 2], 0, None),
 ];
 
-/// Whether this edge is the first that meets the set in the mark alone, as it is told for the mark, and for all marks at
-/// once.
+/// Whether this edge is the first that meets the set in the mark alone, as it is told for the mark,
+/// and for all marks at once.
 fn is_critical(alloc: Global, (edges, set, mark, edge): Critical) -> Result<bool, Memory> {
     let edges = sets_of(alloc, edges)?;
     let set = set_of(set);

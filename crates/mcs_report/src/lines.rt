@@ -1,5 +1,5 @@
-//! The lines of a listing of equilibria. Each call appends one line with its line feed. Without memory the text stays
-//! as it was.
+//! The lines of a listing of equilibria. Each call appends one line with its line feed. Without
+//! memory the text stays as it was.
 
 ghost use Rattle.std.specs.Prelude.{◌≡◌, ◌++◌, OnOk, OnErr};
 ghost use Rattle.mcs_sets.specs.Sets.{Within};
@@ -27,8 +27,8 @@ pub fn heading(system: &System, out: &mut Text) -> Result<(), Memory>
     out.push(line.bytes())
 }
 
-/// Appends the line of the equilibrium with this number: the state and the rules that apply in it. The variables of the
-/// state have to be of the system.
+/// Appends the line of the equilibrium with this number: the state and the rules that apply in it.
+/// The variables of the state have to be of the system.
 #[tactic(auto, unfolding(crate::specs::Listing::equilibrium_line))]
 pub fn equilibrium_line(
     system: &System,
@@ -64,7 +64,8 @@ pub fn verdict_line(consistent: bool, out: &mut Text) -> Result<(), Memory>
     })
 }
 
-/// Appends the end line of a listing of equilibria: how many there are, and the number of questions.
+/// Appends the end line of a listing of equilibria: how many there are, and the number of
+/// questions.
 #[tactic(auto, unfolding(crate::specs::Listing::short_end_line))]
 pub fn short_end_line(equilibria: u64, need: u64, out: &mut Text) -> Result<(), Memory>
     ensures ok { OnOk result (out.new ≡ out.old ++ short_end_line equilibria need) }

@@ -66,11 +66,13 @@ fn push_braced(text: &mut Text, system: &System, kind: Member, set: Members) -> 
     text.push(b"}")
 }
 
-/// Appends the members of a set in braces, in ascending order, separated by a comma and a space. The members have to be
-/// numbers of variables, or of rules, of the system. Without memory the text stays as it was.
+/// Appends the members of a set in braces, in ascending order, separated by a comma and a space.
+/// The members have to be numbers of variables, or of rules, of the system. Without memory the text
+/// stays as it was.
 pub fn push_set(text: &mut Text, system: &System, kind: Member, set: Members) -> Result<(), Memory>
     requires { AllByRecursion (λ k. k < member_count kind system.now) set }
-    ensures ok { OnOk result (text.new ≡ text.old ++ braced (map (member_text kind system.now) set)) }
+    ensures ok { OnOk result (text.new
+        ≡ text.old ++ braced (map (member_text kind system.now) set)) }
     ensures err { OnErr result (text.new ≡ text.old) }
 {
     let mut own = text.empty_like();

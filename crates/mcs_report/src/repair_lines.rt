@@ -1,5 +1,5 @@
-//! The lines of diagnoses and explanations. Each call appends one line with its line feed. Without memory the text
-//! stays as it was.
+//! The lines of diagnoses and explanations. Each call appends one line with its line feed. Without
+//! memory the text stays as it was.
 
 ghost use Rattle.std.specs.Prelude.{◌≡◌, ◌<◌, ◌*◌, ◌++◌, map, length, codes, OnOk, OnErr, decimal};
 ghost use Rattle.std.specs.List.{AllByRecursion};
@@ -8,7 +8,8 @@ ghost use Rattle.mcs_system.specs.Repairs.{all_marks};
 ghost use Rattle.mcs_system.specs.Systems.{all_rules, all_variables};
 ghost use Rattle.mcs_transversal.specs.Transversals.{IsCritical};
 ghost use Rattle.mcs_text.specs.Separated.{braced};
-ghost use Rattle.mcs_report.specs.Repairs.{mark_text, reasons_text, diagnosis_line, explanation_line, end_line};
+ghost use Rattle.mcs_report.specs.Repairs.{mark_text, reasons_text, diagnosis_line};
+ghost use Rattle.mcs_report.specs.Repairs.{explanation_line, end_line};
 
 use crate::members::{Member, push_set};
 use mcs_base::{Marks, Members, Memory, Text};
@@ -17,7 +18,8 @@ use mcs_system::System;
 use mcs_text::push_separator;
 use mcs_transversal::first_critical_edges;
 
-/// Appends the mark with this number: `-NAME` if the rule with this name is removed, `+NAME` if it is forced.
+/// Appends the mark with this number: `-NAME` if the rule with this name is removed, `+NAME` if it
+/// is forced.
 #[tactic(auto, using(mcs_system::proofs::SeenLemmas::loops))]
 fn push_mark(text: &mut Text, system: &System, mark: u32) -> Result<(), Memory>
     requires { mark < 2 * length system.now.bridges }
@@ -45,15 +47,16 @@ fn push_marks(text: &mut Text, system: &System, marks: Members) -> Result<(), Me
 /// Appends a mark with the number of an edge.
 fn push_reason(text: &mut Text, system: &System, mark: u32, number: u64) -> Result<(), Memory>
     requires { mark < 2 * length system.now.bridges }
-    ensures { OnOk result (text.new ≡ text.old ++ (mark_text system.now mark ++ (codes " by " ++ decimal number))) }
+    ensures { OnOk result (text.new
+        ≡ text.old ++ (mark_text system.now mark ++ (codes " by " ++ decimal number))) }
 {
     push_mark(text, system, mark)?;
     text.push(b" by ")?;
     text.push_number(number)
 }
 
-/// Appends the marks of an explanation in braces to a text of its own. Each has the number of the first edge, counted
-/// from 1, that the set meets in it alone.
+/// Appends the marks of an explanation in braces to a text of its own. Each has the number of the
+/// first edge, counted from 1, that the set meets in it alone.
 fn push_reasons(text: &mut Text, system: &System, edges: &[Marks], t: Marks) -> Result<(), Memory>
     requires of_rules { Within t (all_marks system.now) }
     requires critical { IsCritical edges.now t }
@@ -71,8 +74,8 @@ fn push_reasons(text: &mut Text, system: &System, edges: &[Marks], t: Marks) -> 
     text.push(b"}")
 }
 
-/// Appends the line of the diagnosis with this number: its marks, the first state of the changed system, and the rules
-/// that are active in it. All of these have to be of the system.
+/// Appends the line of the diagnosis with this number: its marks, the first state of the changed
+/// system, and the rules that are active in it. All of these have to be of the system.
 #[tactic(auto, unfolding(crate::specs::Repairs::diagnosis_line))]
 pub fn diagnosis_line(
     system: &System,
@@ -104,9 +107,10 @@ pub fn diagnosis_line(
     out.push(line.bytes())
 }
 
-/// Appends the line of the explanation with this number: its marks, each with the number of the first diagnosis of the
-/// listing, counted from 1, that the explanation meets in this mark alone. Such a diagnosis has to exist for each mark;
-/// `first_critical_edges` finds it. The marks have to be of rules of the system.
+/// Appends the line of the explanation with this number: its marks, each with the number of the
+/// first diagnosis of the listing, counted from 1, that the explanation meets in this mark alone.
+/// Such a diagnosis has to exist for each mark; `first_critical_edges` finds it. The marks have to
+/// be of rules of the system.
 #[tactic(auto, unfolding(crate::specs::Repairs::explanation_line))]
 pub fn explanation_line(
     system: &System,
@@ -137,8 +141,8 @@ fn push_count(text: &mut Text, number: u64, after: &[u8]) -> Result<(), Memory>
     text.push(after)
 }
 
-/// Appends the end line of a whole listing: how many equilibria, minimal diagnoses and minimal explanations there are,
-/// and the least number of questions with which they are found.
+/// Appends the end line of a whole listing: how many equilibria, minimal diagnoses and minimal
+/// explanations there are, and the least number of questions with which they are found.
 #[tactic(auto, unfolding(crate::specs::Repairs::end_line))]
 pub fn end_line(
     equilibria: u64,
@@ -147,7 +151,8 @@ pub fn end_line(
     need: u64,
     out: &mut Text,
 ) -> Result<(), Memory>
-    ensures ok { OnOk result (out.new ≡ out.old ++ end_line equilibria diagnoses explanations need) }
+    ensures ok { OnOk result (out.new
+        ≡ out.old ++ end_line equilibria diagnoses explanations need) }
     ensures err { OnErr result (out.new ≡ out.old) }
 {
     let mut line = out.empty_like();

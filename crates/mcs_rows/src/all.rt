@@ -29,8 +29,10 @@ fn all_rows(
     level: u32,
 ) -> Result<Vec<Row>, Memory>
     requires in_range { i < length system.now.contexts }
-    requires of_rules { AllByRecursion (λ (a : declared.Answer). Within a.active (rules_into system.now i)) answers.now }
-    ensures { IfOk result (λ all. all.items ≡ flat_map (rows_of system.now i level [] answers.now) states.now) }
+    requires of_rules { AllByRecursion (λ (a : declared.Answer).
+        Within a.active (rules_into system.now i)) answers.now }
+    ensures { IfOk result (λ all. all.items
+        ≡ flat_map (rows_of system.now i level [] answers.now) states.now) }
 {
     let reach = reach_of(system, level, &[]);
     let mut all = Vec::new(alloc);
@@ -40,12 +42,13 @@ fn all_rows(
     Ok(all)
 }
 
-/// All local rows of context `i` of the plan's system at the level, as a table on its local variables: what it
-/// accepts on these with the marks that this takes, which are allowed and at most `level`. There may be 4 to the
-/// number of its rules of them, and more: some for each set of rules that applies and each that is asked in its
-/// place. `supplies` are what the contexts of `plan.supplied(i)` may supply at this level, in this order, each list
-/// in the order of states; `answers` are those of `i` to all its questions of the level, ascending by the numbers
-/// that stand for them.
+/// All local rows of context `i` of the plan's system at the level, as a table on its local
+/// variables: what it accepts on these with the marks that this takes, which are allowed and at
+/// most `level`. There may be 4 to the number of its rules of them, and more: some for each set of
+/// rules that applies and each that is asked in its place. `supplies` are what the contexts of
+/// `plan.supplied(i)` may supply at this level, in this order, each list in the order of states;
+/// `answers` are those of `i` to all its questions of the level, ascending by the numbers that
+/// stand for them.
 pub fn local_rows(
     alloc: Global,
     plan: &Plan,
@@ -56,7 +59,8 @@ pub fn local_rows(
 ) -> Result<Table, Memory>
     requires in_range { i < length plan.now.contexts }
     requires supplied { (order : List ℕ) → IsImportOrder plan.now order
-        → AreSupplies plan.now level (supplied plan.now order i) (map (λ supply. supply.items) supplies.now) }
+        → AreSupplies plan.now level (supplied plan.now order i)
+        (map (λ supply. supply.items) supplies.now) }
     requires answered { AreAnswered plan.now level i (map answered_of answers.now) }
     ensures { IfOk result (IsLocalTable plan.now level i) }
 {

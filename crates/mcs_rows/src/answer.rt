@@ -2,8 +2,8 @@
 
 use mcs_base::{Active, Vars};
 
-/// What was asked of a context, a set of the rules into it, and the parts that it accepts with their heads:
-/// each once, in the order of states.
+/// What was asked of a context, a set of the rules into it, and the parts that it accepts with
+/// their heads: each once, in the order of states.
 #[derive(Drop)]
 pub struct Answer {
     pub active: Active,

@@ -24,8 +24,8 @@ use mcs_system::System;
 use mcs_table::{Row, Table};
 use std::alloc::Global;
 
-/// Adds the rows of context `i` of the state at its inputs with the answer to the rules that the pair makes of those
-/// that apply.
+/// Adds the rows of context `i` of the state at its inputs with the answer to the rules that the
+/// pair makes of those that apply.
 fn add_changed(
     all: &mut Vec<Row>,
     system: &System,
@@ -37,7 +37,8 @@ fn add_changed(
     requires in_range { i < length system.now.contexts }
     requires in_order { AreAscendingQuestions answers.now }
     ensures { IfOk result (λ _. (r : rows.Row)
-        → IsAmong r all.new.items ↔ (IsAmong r all.old.items ⊎ IsChangedRow system.now i pair answers.now state r)) }
+        → IsAmong r all.new.items
+        ↔ (IsAmong r all.old.items ⊎ IsChangedRow system.now i pair answers.now state r)) }
 {
     let applying = system.applicable(i, state);
     let forced = pair.forced().common(system.rules_of(i));
@@ -51,7 +52,8 @@ fn add_changed(
     }
 }
 
-/// The rows of context `i` of each of the states, with the answer to the rules that the pair makes of those that apply.
+/// The rows of context `i` of each of the states, with the answer to the rules that the pair makes
+/// of those that apply.
 fn changed_in(
     alloc: Global,
     system: &System,
@@ -72,11 +74,12 @@ fn changed_in(
     Ok(all)
 }
 
-/// The local rows of context `i` of the plan's system whose marks are the ones that the pair makes of their state, as a
-/// table on its local variables. They are local rows of a level that is no less than the number of the pair's marks.
-/// `supplies` are what the contexts of `plan.supplied(i)` may supply at this level, in this order, each list in the
-/// order of states; `answers` are those of `i` to all its questions of the level, ascending by the numbers that stand
-/// for them. Each mark of the pair is one that a repair of the system may have.
+/// The local rows of context `i` of the plan's system whose marks are the ones that the pair makes
+/// of their state, as a table on its local variables. They are local rows of a level that is no
+/// less than the number of the pair's marks. `supplies` are what the contexts of `plan.supplied(i)`
+/// may supply at this level, in this order, each list in the order of states; `answers` are those
+/// of `i` to all its questions of the level, ascending by the numbers that stand for them. Each
+/// mark of the pair is one that a repair of the system may have.
 pub fn changed_rows(
     alloc: Global,
     plan: &Plan,
@@ -89,8 +92,11 @@ pub fn changed_rows(
     requires in_order { AreAscendingQuestions answers.now }
     requires allowed { Within pair (allowed_marks plan.now) }
     ensures { IfOk result (λ t. (level : ℕ) → size pair ≤ level
-        → ((order : List ℕ) → IsImportOrder plan.now order → AreSupplies plan.now level (supplied plan.now order i) (map (λ supply. supply.items) supplies.now))
-        → AreAnswered plan.now level i (map answered_of answers.now) → IsChangedAt plan.now level i pair t) }
+        → ((order : List ℕ) → IsImportOrder plan.now order
+        → AreSupplies plan.now level (supplied plan.now order i)
+        (map (λ supply. supply.items) supplies.now))
+        → AreAnswered plan.now level i (map answered_of answers.now)
+        → IsChangedAt plan.now level i pair t) }
 {
     let system = plan.system();
     let states = input_states(alloc, plan, i, supplies)?;

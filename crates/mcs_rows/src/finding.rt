@@ -2,7 +2,8 @@
 
 ghost use Rattle.std.specs.Prelude.{◌≤◌, length, MatchOption};
 ghost use Rattle.mcs_base.specs.Listings.{IsAmong};
-ghost use Rattle.mcs_rows.specs.Finding.{AreAscendingQuestions, QuestionsEndAt, IsAnswerTo, asked_in};
+ghost use Rattle.mcs_rows.specs.Finding.{AreAscendingQuestions, QuestionsEndAt, IsAnswerTo};
+ghost use Rattle.mcs_rows.specs.Finding.{asked_in};
 
 use crate::answer::Answer;
 use mcs_base::Active;
@@ -19,7 +20,8 @@ fn place_of(answers: &[Answer], question: Active) -> usize
 /// The answer to the question, if there is one.
 pub(crate) fn answer_to(answers: &[Answer], question: Active) -> Option<&Answer>
     requires { AreAscendingQuestions answers.now }
-    ensures { MatchOption result (¬ IsAmong question (asked_in answers.now)) (λ a. IsAnswerTo answers.now question a.now) }
+    ensures { MatchOption result (¬ IsAmong question (asked_in answers.now))
+        (λ a. IsAnswerTo answers.now question a.now) }
 {
     let place = place_of(answers, question);
     if place >= answers.len() {

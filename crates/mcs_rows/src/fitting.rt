@@ -12,12 +12,14 @@ use mcs_base::{Memory, Vars};
 use mcs_table::{Table, projections_of, states_with};
 use std::alloc::Global;
 
-/// Whether the table may rule out states on the variables: its scope has some of these, or it has no rows.
+/// Whether the table may rule out states on the variables: its scope has some of these, or it has
+/// no rows.
 fn may_restrict(table: &Table, variables: Vars) -> bool {
     table.rows().is_empty() || table.scope().meets(variables)
 }
 
-/// Of the states those that fit a row of each of the tables on the variables, and maybe more of them.
+/// Of the states those that fit a row of each of the tables on the variables, and maybe more of
+/// them.
 pub(crate) fn fitting_states(
     alloc: Global,
     states: Vec<Vars>,
@@ -51,8 +53,8 @@ fn copies(alloc: Global, answers: &[Answer]) -> Result<Vec<Answer>, Memory>
     Ok(all)
 }
 
-/// The answers, each with those of its parts whose projection onto a set of variables is among `projections`; these
-/// are in the order of states, each once.
+/// The answers, each with those of its parts whose projection onto a set of variables is among
+/// `projections`; these are in the order of states, each once.
 fn answers_with(
     alloc: Global,
     answers: &[Answer],
@@ -60,7 +62,8 @@ fn answers_with(
     set: Vars,
 ) -> Result<Vec<Answer>, Memory>
     requires { IsAscending StateBefore projections.now }
-    ensures { IfOk result (λ all. AllZip (HasProjectedParts projections.now set) answers.now all.items) }
+    ensures { IfOk result (λ all. AllZip (HasProjectedParts projections.now set) answers.now
+        all.items) }
 {
     let mut all = Vec::new(alloc);
     for answer in answers {
@@ -73,15 +76,16 @@ fn answers_with(
     Ok(all)
 }
 
-/// The answers, each with those of its parts that fit a row of each of the tables on the variables, and maybe more of
-/// them.
+/// The answers, each with those of its parts that fit a row of each of the tables on the variables,
+/// and maybe more of them.
 pub(crate) fn fitting_answers(
     alloc: Global,
     answers: &[Answer],
     variables: Vars,
     tables: &[Table],
 ) -> Result<Vec<Answer>, Memory>
-    ensures { IfOk result (λ kept. AllZip (HasFittingParts variables tables.now) answers.now kept.items) }
+    ensures { IfOk result (λ kept. AllZip (HasFittingParts variables tables.now) answers.now
+        kept.items) }
 {
     let mut kept = copies(alloc, answers)?;
     for table in tables {

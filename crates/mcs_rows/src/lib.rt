@@ -1,4 +1,5 @@
-//! What a context's answers come to: what it may supply, its local rows, minimal ones, and those that a pair makes.
+//! What a context's answers come to: what it may supply, its local rows, minimal ones, and those
+//! that a pair makes.
 #![tactic(auto)]
 
 mod all;

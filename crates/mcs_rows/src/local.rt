@@ -20,7 +20,8 @@ use std::alloc::Global;
 
 /// The row with these marks that says of the local variables which of them are true.
 fn row(local: Vars, values: Vars, marks: Marks) -> Row
-    ensures { result ≡ record { state = record { mask = local; values = common values local }; marks = marks } }
+    ensures { result
+        ≡ record { state = record { mask = local; values = common values local }; marks = marks } }
 {
     Row {
         state: Partial::new(local, values.common(local)),
@@ -28,7 +29,8 @@ fn row(local: Vars, values: Vars, marks: Marks) -> Row
     }
 }
 
-/// Adds the rows of context `i` of the state at its inputs with each of the parts that agrees with it.
+/// Adds the rows of context `i` of the state at its inputs with each of the parts that agrees with
+/// it.
 pub(crate) fn add_parts(
     rows: &mut Vec<Row>,
     system: &System,
@@ -39,7 +41,8 @@ pub(crate) fn add_parts(
 ) -> Result<(), Memory>
     requires { i < length system.now.contexts }
     ensures { IfOk result (λ _. rows.new.items
-        ≡ rows.old.items ++ map (row_with system.now i state marks) (filter (agrees system.now i state) parts.now)) }
+        ≡ rows.old.items ++ map (row_with system.now i state marks)
+        (filter (agrees system.now i state) parts.now)) }
 {
     let inputs = system.inputs_of(i);
     let variables = system.vars_of(i);
@@ -61,7 +64,8 @@ pub(crate) struct Reach<'a> {
     pub known: &'a [Marks],
     // Marks that are such a set each by itself.
     pub alone: Marks,
-    // Rules that no such row removes, and rules that none forces: the mark is not allowed, or is such a set by itself.
+    // Rules that no such row removes, and rules that none forces: the mark is not allowed, or is
+    // such a set by itself.
     pub never_removed: Active,
     pub never_forced: Active,
 }
@@ -79,7 +83,8 @@ pub(crate) fn alone_in(sets: &[Marks]) -> Marks
     alone
 }
 
-/// Those of the sets that a row of context `i` may hold: all of their marks are of rules into the context.
+/// Those of the sets that a row of context `i` may hold: all of their marks are of rules into the
+/// context.
 pub(crate) fn known_of(
     alloc: Global,
     system: &System,
@@ -87,7 +92,8 @@ pub(crate) fn known_of(
     known: &[Marks],
 ) -> Result<Vec<Marks>, Memory>
     requires { i < length system.now.contexts }
-    ensures { IfOk result (λ near. (s : ℕ) → Within s (own_marks system.now i) → HasOneWithin near.items s ↔ HasOneWithin known.now s) }
+    ensures { IfOk result (λ near. (s : ℕ) → Within s (own_marks system.now i)
+        → HasOneWithin near.items s ↔ HasOneWithin known.now s) }
 {
     let rules = system.rules_of(i);
     let own = marks_of(rules, rules);
@@ -122,7 +128,8 @@ pub(crate) fn reach_of<'a>(system: &System, level: u32, known: &'a [Marks]) -> R
 
 /// Whether it is seen without its marks that no such row removes and forces just these rules.
 fn is_out(removed: Active, forced: Active, reach: &Reach) -> bool
-    ensures { (m : System) (s : ℕ) → IsReach m reach.now → IsTrue result → HasMarksFor removed forced s → IsOut reach.now s }
+    ensures { (m : System) (s : ℕ) → IsReach m reach.now → IsTrue result
+        → HasMarksFor removed forced s → IsOut reach.now s }
 {
     removed.meets(reach.never_removed) || forced.meets(reach.never_forced)
 }
@@ -135,8 +142,9 @@ pub(crate) fn hold_known(marks: Marks, reach: &Reach) -> bool
     marks.meets(reach.alone) || holds_one(marks, reach.known)
 }
 
-/// Adds the rows of context `i` of the state at its inputs with the answer, where few changes, each of them
-/// allowed, make what was asked of the rules that apply in the state, and hold no known set.
+/// Adds the rows of context `i` of the state at its inputs with the answer, where few changes, each
+/// of them allowed, make what was asked of the rules that apply in the state, and hold no known
+/// set.
 fn add_answer(
     rows: &mut Vec<Row>,
     system: &System,
@@ -150,7 +158,8 @@ fn add_answer(
     requires applying { applying ≡ common (applicable system.now state) (rules_into system.now i) }
     requires of_rules { Within answer.now.active (rules_into system.now i) }
     requires reach { IsReach system.now reach.now }
-    ensures { IfOk result (λ _. rows.new.items ≡ rows.old.items ++ rows_with system.now i reach.now.level reach.now.known.now state answer.now) }
+    ensures { IfOk result (λ _. rows.new.items ≡ rows.old.items
+        ++ rows_with system.now i reach.now.level reach.now.known.now state answer.now) }
 {
     let removed = applying.minus(answer.active);
     let forced = answer.active.minus(applying);
@@ -170,8 +179,8 @@ fn add_answer(
     add_parts(rows, system, i, state, marks, &answer.parts)
 }
 
-/// Adds the rows of context `i` of the state at its inputs with each of the answers, without those that hold a known
-/// set.
+/// Adds the rows of context `i` of the state at its inputs with each of the answers, without those
+/// that hold a known set.
 pub(crate) fn add_answers(
     rows: &mut Vec<Row>,
     system: &System,
@@ -181,10 +190,12 @@ pub(crate) fn add_answers(
     reach: &Reach,
 ) -> Result<(), Memory>
     requires in_range { i < length system.now.contexts }
-    requires of_rules { AllByRecursion (λ (a : declared.Answer). Within a.active (rules_into system.now i)) answers.now }
+    requires of_rules { AllByRecursion (λ (a : declared.Answer).
+        Within a.active (rules_into system.now i)) answers.now }
     requires reach { IsReach system.now reach.now }
     ensures { IfOk result (λ _. rows.new.items
-        ≡ rows.old.items ++ flat_map (rows_with system.now i reach.now.level reach.now.known.now state) answers.now) }
+        ≡ rows.old.items ++ flat_map (rows_with system.now i reach.now.level reach.now.known.now
+        state) answers.now) }
 {
     let applying = system.applicable(i, state);
     for answer in answers {

@@ -8,10 +8,12 @@ ghost use Rattle.mcs_system.specs.Systems.{all_rules};
 
 use mcs_base::{Active, Marks};
 
-/// The marks and, for each of the rules, the one that says that it is removed, or forced where `offset` is 1.
+/// The marks and, for each of the rules, the one that says that it is removed, or forced where
+/// `offset` is 1.
 fn with_marks(marks: Marks, rules: Active, offset: u32) -> Marks
     requires { offset < 2 }
-    ensures { (k : ℕ) → has result k ≡ (has marks k || (nat_eq (k % 2) offset && has rules (k / 2))) }
+    ensures { (k : ℕ)
+        → has result k ≡ (has marks k || (nat_eq (k % 2) offset && has rules (k / 2))) }
 {
     let mut all = marks;
     for rule in rules.members() {

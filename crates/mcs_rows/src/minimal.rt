@@ -1,6 +1,7 @@
 //! The minimal local rows of a context.
 
-ghost use Rattle.std.specs.Prelude.{◌≡◌, ◌<◌, ℕ, List, map, filter, length, true, IfOk, IfSome, IsTrue};
+ghost use Rattle.std.specs.Prelude.{◌≡◌, ◌<◌, ℕ, List, map, filter, length, true, IfOk, IfSome};
+ghost use Rattle.std.specs.Prelude.{IsTrue};
 ghost use Rattle.std.specs.List.{AllByRecursion, flat_map};
 ghost use Rattle.mcs_base.specs.Listings.{IsAmong};
 ghost use Rattle.mcs_sets.specs.Sets.{Within};
@@ -26,17 +27,20 @@ use mcs_system::System;
 use mcs_table::{Row, Table, minimal_table};
 use std::alloc::Global;
 
-/// Whether the part is found among these. Where they are in the order of states, it is found if it is there.
+/// Whether the part is found among these. Where they are in the order of states, it is found if it
+/// is there.
 fn is_found(parts: &[Vars], part: Vars) -> bool
     ensures { IsTrue result → IsAmong part parts.now }
 {
     parts.binary_search(&part).is_ok()
 }
 
-/// Whether each of the possible parts that agrees with the state at the inputs of context `i` is found among these.
+/// Whether each of the possible parts that agrees with the state at the inputs of context `i` is
+/// found among these.
 fn has_each(system: &System, i: u32, state: Vars, parts: &[Vars], possible: &[Vars]) -> bool
     requires { i < length system.now.contexts }
-    ensures { IsTrue result → (τ : ℕ) → IsAmong τ possible.now → agrees system.now i state τ ≡ true → IsAmong τ parts.now }
+    ensures { IsTrue result → (τ : ℕ) → IsAmong τ possible.now → agrees system.now i state τ ≡ true
+        → IsAmong τ parts.now }
 {
     let inputs = system.inputs_of(i);
     let own = state.common(system.vars_of(i));
@@ -48,8 +52,8 @@ fn has_each(system: &System, i: u32, state: Vars, parts: &[Vars], possible: &[Va
     true
 }
 
-/// The answer to the rules into context `i` that apply in the state at its inputs, if it has each part of any answer
-/// that agrees with the state. Then no row of the state with marks is minimal.
+/// The answer to the rules into context `i` that apply in the state at its inputs, if it has each
+/// part of any answer that agrees with the state. Then no row of the state with marks is minimal.
 fn settled_by<'a>(
     system: &System,
     i: u32,
@@ -59,7 +63,8 @@ fn settled_by<'a>(
 ) -> Option<&'a Answer>
     requires in_range { i < length system.now.contexts }
     requires in_order { AreAscendingQuestions answers.now }
-    requires possible { (a : declared.Answer) (τ : ℕ) → IsAmong a answers.now → IsAmong τ a.parts.items → IsAmong τ possible.now }
+    requires possible { (a : declared.Answer) (τ : ℕ) → IsAmong a answers.now
+        → IsAmong τ a.parts.items → IsAmong τ possible.now }
     ensures { IfSome result (λ a. IsStateSettled system.now i state answers.now a.now) }
 {
     let applying = system.applicable(i, state);
@@ -70,7 +75,8 @@ fn settled_by<'a>(
     Some(answer)
 }
 
-/// The rows of context `i` of the state at its inputs with each of the parts that agrees with it, without marks.
+/// The rows of context `i` of the state at its inputs with each of the parts that agrees with it,
+/// without marks.
 fn unmarked_rows(
     alloc: Global,
     system: &System,
@@ -79,15 +85,16 @@ fn unmarked_rows(
     parts: &[Vars],
 ) -> Result<Vec<Row>, Memory>
     requires { i < length system.now.contexts }
-    ensures { IfOk result (λ all. all.items ≡ map (row_with system.now i state 0) (filter (agrees system.now i state) parts.now)) }
+    ensures { IfOk result (λ all. all.items
+        ≡ map (row_with system.now i state 0) (filter (agrees system.now i state) parts.now)) }
 {
     let mut all = Vec::new(alloc);
     add_parts(&mut all, system, i, state, Marks::empty(), parts)?;
     Ok(all)
 }
 
-/// The minimal ones of the rows of context `i` of the state at its inputs with the answers, without those that hold a
-/// known set.
+/// The minimal ones of the rows of context `i` of the state at its inputs with the answers, without
+/// those that hold a known set.
 fn marked_rows(
     alloc: Global,
     system: &System,
@@ -97,17 +104,20 @@ fn marked_rows(
     reach: &Reach,
 ) -> Result<Table, Memory>
     requires in_range { i < length system.now.contexts }
-    requires of_rules { AllByRecursion (λ (a : declared.Answer). Within a.active (rules_into system.now i)) answers.now }
+    requires of_rules { AllByRecursion (λ (a : declared.Answer).
+        Within a.active (rules_into system.now i)) answers.now }
     requires reach { IsReach system.now reach.now }
-    ensures { IfOk result (λ t. Covers (λ r. IsAmong r t.rows) (λ r. IsAmong r (rows_of system.now i reach.now.level reach.now.known.now answers.now state))) }
+    ensures { IfOk result (λ t. Covers (λ r. IsAmong r t.rows)
+        (λ r. IsAmong r (rows_of system.now i reach.now.level reach.now.known.now answers.now
+        state))) }
 {
     let mut all = Vec::new(alloc);
     add_answers(&mut all, system, i, state, answers, reach)?;
     Ok(minimal_table(system.vars_of(i).union(system.inputs_of(i)), all))
 }
 
-/// Rows of context `i` of the state at its inputs with the answers: for each row of the state and one of the answers
-/// one with marks within its marks, without those that hold a known set.
+/// Rows of context `i` of the state at its inputs with the answers: for each row of the state and
+/// one of the answers one with marks within its marks, without those that hold a known set.
 fn rows_at(
     alloc: Global,
     system: &System,
@@ -119,10 +129,14 @@ fn rows_at(
 ) -> Result<Vec<Row>, Memory>
     requires in_range { i < length system.now.contexts }
     requires in_order { AreAscendingQuestions answers.now }
-    requires of_rules { AllByRecursion (λ (a : declared.Answer). Within a.active (rules_into system.now i)) answers.now }
-    requires possible { (a : declared.Answer) (τ : ℕ) → IsAmong a answers.now → IsAmong τ a.parts.items → IsAmong τ possible.now }
+    requires of_rules { AllByRecursion (λ (a : declared.Answer).
+        Within a.active (rules_into system.now i)) answers.now }
+    requires possible { (a : declared.Answer) (τ : ℕ) → IsAmong a answers.now
+        → IsAmong τ a.parts.items → IsAmong τ possible.now }
     requires reach { IsReach system.now reach.now }
-    ensures { IfOk result (λ all. Covers (λ r. IsAmong r all.items) (λ r. IsAmong r (rows_of system.now i reach.now.level reach.now.known.now answers.now state))) }
+    ensures { IfOk result (λ all. Covers (λ r. IsAmong r all.items)
+        (λ r. IsAmong r (rows_of system.now i reach.now.level reach.now.known.now answers.now
+        state))) }
 {
     if hold_known(Marks::empty(), reach) {
         return Ok(Vec::new(alloc));
@@ -147,9 +161,12 @@ fn rows_in(
 ) -> Result<Vec<Row>, Memory>
     requires in_range { i < length system.now.contexts }
     requires in_order { AreAscendingQuestions answers.now }
-    requires of_rules { AllByRecursion (λ (a : declared.Answer). Within a.active (rules_into system.now i)) answers.now }
-    requires possible { (a : declared.Answer) (τ : ℕ) → IsAmong a answers.now → IsAmong τ a.parts.items → IsAmong τ possible.now }
-    ensures { IfOk result (λ all. Covers (λ r. IsAmong r all.items) (λ r. IsAmong r (flat_map (rows_of system.now i level known.now answers.now) states.now))) }
+    requires of_rules { AllByRecursion (λ (a : declared.Answer).
+        Within a.active (rules_into system.now i)) answers.now }
+    requires possible { (a : declared.Answer) (τ : ℕ) → IsAmong a answers.now
+        → IsAmong τ a.parts.items → IsAmong τ possible.now }
+    ensures { IfOk result (λ all. Covers (λ r. IsAmong r all.items)
+        (λ r. IsAmong r (flat_map (rows_of system.now i level known.now answers.now) states.now))) }
 {
     let reach = reach_of(system, level, known);
     let mut all = Vec::new(alloc);
@@ -160,14 +177,16 @@ fn rows_in(
     Ok(all)
 }
 
-/// The minimal local rows of context `i` of the plan's system at the level, as a table on its local variables, as far
-/// as a final step with the other tables needs them. A local row has a state that the context accepts, and allowed
-/// marks, at most `level`, with which it accepts it. A row is minimal if no other row of its state has marks within
-/// its own. Rows whose marks contain a known set are left out. A row that is compatible with no row of one of the
-/// other tables may be left out. Where a state at the inputs needs no change, no row with marks is made of it; no more
-/// rows than those of one such state are held at once. `supplies` are what the contexts of `plan.supplied(i)` may
-/// supply at this level, in this order, each list in the order of states. `answers` are those of `i` to all its
-/// questions of the level, ascending by the numbers that stand for them.
+/// The minimal local rows of context `i` of the plan's system at the level, as a table on its local
+/// variables, as far as a final step with the other tables needs them. A local row has a state that
+/// the context accepts, and allowed marks, at most `level`, with which it accepts it. A row is
+/// minimal if no other row of its state has marks within its own. Rows whose marks contain a known
+/// set are left out. A row that is compatible with no row of one of the other tables may be left
+/// out. Where a state at the inputs needs no change, no row with marks is made of it; no more rows
+/// than those of one such state are held at once. `supplies` are what the contexts of
+/// `plan.supplied(i)` may supply at this level, in this order, each list in the order of states.
+/// `answers` are those of `i` to all its questions of the level, ascending by the numbers that
+/// stand for them.
 pub fn minimal_rows(
     alloc: Global,
     plan: &Plan,
@@ -180,7 +199,8 @@ pub fn minimal_rows(
 ) -> Result<Table, Memory>
     requires in_range { i < length plan.now.contexts }
     requires supplied { (order : List ℕ) → IsImportOrder plan.now order
-        → AreSupplies plan.now level (supplied plan.now order i) (map (λ supply. supply.items) supplies.now) }
+        → AreSupplies plan.now level (supplied plan.now order i)
+        (map (λ supply. supply.items) supplies.now) }
     requires answered { AreAnswered plan.now level i (map answered_of answers.now) }
     ensures { IfOk result (IsFittingTable plan.now level i known.now others.now) }
 {

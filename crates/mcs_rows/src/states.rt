@@ -12,8 +12,8 @@ use mcs_base::{Memory, Vars};
 use mcs_import::{Plan, guessed_states, supplied_states};
 use std::alloc::Global;
 
-/// The states at the inputs of context `i`: what comes of one state of each supply, with each choice of what is
-/// guessed.
+/// The states at the inputs of context `i`: what comes of one state of each supply, with each
+/// choice of what is guessed.
 pub(crate) fn input_states(
     alloc: Global,
     plan: &Plan,
@@ -21,9 +21,12 @@ pub(crate) fn input_states(
     supplies: &[Vec<Vars>],
 ) -> Result<Vec<Vars>, Memory>
     requires { i < length plan.now.contexts }
-    ensures { IfOk result (λ states. (order : List ℕ) → IsImportOrder plan.now order → (joined : List ℕ)
-        × ((ρ : ℕ) → IsAmong ρ joined ↔ SomeJoins (inputs_of plan.now i) (map (λ supply. supply.items) supplies.now) (0 ∷ []) ρ)
-        × ((ρ : ℕ) → IsAmong ρ states.items ↔ SomeGrows (members (guessed plan.now order i)) joined ρ)) }
+    ensures { IfOk result (λ states. (order : List ℕ) → IsImportOrder plan.now order
+        → (joined : List ℕ)
+        × ((ρ : ℕ) → IsAmong ρ joined ↔ SomeJoins (inputs_of plan.now i)
+        (map (λ supply. supply.items) supplies.now) (0 ∷ []) ρ)
+        × ((ρ : ℕ) → IsAmong ρ states.items
+        ↔ SomeGrows (members (guessed plan.now order i)) joined ρ)) }
 {
     let joined = supplied_states(alloc, supplies, plan.system().inputs_of(i))?;
     let states = guessed_states(joined, plan.guessed(i))?;

@@ -14,12 +14,15 @@ use crate::answer::Answer;
 use mcs_base::{Memory, Vars, list_states};
 use std::alloc::Global;
 
-/// What the context may supply whose answers these are: the parts of all answers, each once, in the order of
-/// states. The answers are those to all questions of a level.
+/// What the context may supply whose answers these are: the parts of all answers, each once, in the
+/// order of states. The answers are those to all questions of a level.
 pub fn supplies(alloc: Global, answers: &[Answer]) -> Result<Vec<Vars>, Memory>
-    ensures parts { IfOk result (λ s. IsListing (λ τ. IsAmong τ (flat_map (λ (a : declared.Answer). a.parts.items) answers.now)) StateBefore s.items) }
+    ensures parts { IfOk result (λ s. IsListing (λ τ.
+        IsAmong τ (flat_map (λ (a : declared.Answer). a.parts.items)
+        answers.now)) StateBefore s.items) }
     ensures supplied { IfOk result (λ s. (m : System) (level i : ℕ)
-        → AreAnswered m level i (map answered_of answers.now) → IsListing (MaySupply m level i) StateBefore s.items) }
+        → AreAnswered m level i (map answered_of answers.now)
+        → IsListing (MaySupply m level i) StateBefore s.items) }
 {
     let mut states = Vec::new(alloc);
     for answer in answers {

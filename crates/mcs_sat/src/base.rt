@@ -1,6 +1,7 @@
 //! A list of clauses that many searches use.
 
-ghost use Rattle.std.specs.Prelude.{◌≡◌, [], ◌∷◌, ◌++◌, ◌+◌, ◌<◌, ◌≤◌, ◌^◌, length, take, IfOk, OnOk, OnErr};
+ghost use Rattle.std.specs.Prelude.{◌≡◌, [], ◌∷◌, ◌++◌, ◌+◌, ◌<◌, ◌≤◌, ◌^◌, length, take, IfOk};
+ghost use Rattle.std.specs.Prelude.{OnOk, OnErr};
 ghost use Rattle.std.specs.List.{AllByRecursion};
 ghost use Rattle.mcs_trace.specs.Clauses.{IsClause, IsClauseList, IsWithin};
 ghost use Rattle.mcs_sat.specs.Answers.{IsSatAnswer, IsExact, IsSettledAnswer};
@@ -17,9 +18,10 @@ use mcs_trace::{Clause, Cnf};
 use std::alloc::Global;
 use std::marker::Model;
 
-/// A list of clauses over the variables 1 to `vars`, numbered from 1 in their order, for many searches. Between two
-/// searches clauses may be added and removed. From one search to the next it keeps what was learnt from clauses that
-/// stay, the literals that are true at level 0, and the order of the variables with their last values.
+/// A list of clauses over the variables 1 to `vars`, numbered from 1 in their order, for many
+/// searches. Between two searches clauses may be added and removed. From one search to the next it
+/// keeps what was learnt from clauses that stay, the literals that are true at level 0, and the
+/// order of the variables with their last values.
 #[derive(Drop)]
 pub struct ClauseBase {
     state: State,
@@ -38,14 +40,16 @@ impl Model for ClauseBase {
     ghost invariant = { λ b. IsBase b.state b.vars };
 }
 
-/// Keeps the first `count` of the given clauses, and what was learnt before the first one that is removed.
+/// Keeps the first `count` of the given clauses, and what was learnt before the first one that is
+/// removed.
 fn leave_first(state: &mut State, order: &mut Order, count: usize)
     requires state { IsState state.old }
     requires base { state.old.levels.items ≡ [] }
     ensures kept { IsState state.new }
     ensures base { state.new.levels.items ≡ [] }
     ensures positions { state.new.trail.positions.items ≡ state.old.trail.positions.items }
-    ensures clauses { given state.new.clauses state.new.chains ≡ take count (given state.old.clauses state.old.chains) }
+    ensures clauses { given state.new.clauses state.new.chains
+        ≡ take count (given state.old.clauses state.old.chains) }
 {
     if count < state.chains.given() {
         let place = state.chains.place_of(count);
@@ -62,7 +66,8 @@ fn make_room(state: &mut State, variable: usize) -> Result<(), Memory>
     ensures levels { state.new.levels.items ≡ state.old.levels.items }
     ensures clauses { state.new.clauses ≡ state.old.clauses }
     ensures chains { state.new.chains ≡ state.old.chains }
-    ensures longer { length state.old.trail.positions.items ≤ length state.new.trail.positions.items }
+    ensures longer { length state.old.trail.positions.items
+        ≤ length state.new.trail.positions.items }
     ensures room { OnOk result (variable < length state.new.trail.positions.items) }
 {
     if variable >= state.trail.positions.len() {
@@ -71,8 +76,8 @@ fn make_room(state: &mut State, variable: usize) -> Result<(), Memory>
     Ok(())
 }
 
-/// Preprocesses the clauses from the index `from` on: learns clauses over the parts of their formulas, and what a
-/// bounded search learns from these alone.
+/// Preprocesses the clauses from the index `from` on: learns clauses over the parts of their
+/// formulas, and what a bounded search learns from these alone.
 fn learn_beforehand(state: &mut State, order: &mut Order, from: usize) -> Result<(), Memory>
     requires state { IsState state.old }
     requires base { state.old.levels.items ≡ [] }
@@ -132,8 +137,8 @@ impl ClauseBase {
         self.state.chains.given()
     }
 
-    /// Adds a variable, which occurs in no clause yet. Returns its number, which is the next one. If memory runs out,
-    /// none is added.
+    /// Adds a variable, which occurs in no clause yet. Returns its number, which is the next one.
+    /// If memory runs out, none is added.
     pub fn add_variable(&mut self) -> Result<u64, Memory>
         requires { self.old.vars + 1 < 2 ^ 63 }
         ensures number { IfOk result (λ number. number ≡ self.old.vars + 1) }
@@ -145,11 +150,13 @@ impl ClauseBase {
         Ok(self.vars)
     }
 
-    /// Appends a clause. Its variables have to be those of the list. If memory runs out, the list is as before.
+    /// Appends a clause. Its variables have to be those of the list. If memory runs out, the list
+    /// is as before.
     pub fn add(&mut self, literals: &[i64]) -> Result<(), Memory>
         requires clause { IsClause literals.now }
         requires within { IsWithin self.old.vars literals.now }
-        ensures ok { OnOk result (self.new ≡ record self.old { clauses = self.old.clauses ++ literals.now ∷ [] }) }
+        ensures ok { OnOk result (self.new
+            ≡ record self.old { clauses = self.old.clauses ++ literals.now ∷ [] }) }
         ensures err { OnErr result (self.new ≡ self.old) }
     {
         add(&mut self.state, literals)?;
@@ -183,10 +190,12 @@ impl ClauseBase {
         Ok(())
     }
 
-    /// Appends the clauses of a list, which has the same variables or more. If memory runs out, nothing is added.
+    /// Appends the clauses of a list, which has the same variables or more. If memory runs out,
+    /// nothing is added.
     pub fn append(&mut self, cnf: &Cnf) -> Result<(), Memory>
         requires { self.old.vars ≤ cnf.now.vars }
-        ensures ok { OnOk result (self.new ≡ record { vars = cnf.now.vars; clauses = self.old.clauses ++ cnf.now.clauses }) }
+        ensures ok { OnOk result (self.new
+            ≡ record { vars = cnf.now.vars; clauses = self.old.clauses ++ cnf.now.clauses }) }
         ensures err { OnErr result (self.new ≡ self.old) }
     {
         let vars = self.vars();
@@ -203,14 +212,15 @@ impl ClauseBase {
         requires { self.old.vars ≤ cnf.now.vars }
         ensures vars { self.old.vars ≤ self.new.vars }
         ensures added { IsFrontOf self.old.clauses self.new.clauses }
-        ensures ok { OnOk result (self.new ≡ record { vars = cnf.now.vars; clauses = self.old.clauses ++ cnf.now.clauses }) }
+        ensures ok { OnOk result (self.new
+            ≡ record { vars = cnf.now.vars; clauses = self.old.clauses ++ cnf.now.clauses }) }
     {
         self.widen_to(cnf.vars())?;
         self.add_all(cnf.clauses())
     }
 
-    /// Keeps the first `count` clauses, over the variables 1 to `vars`. The variables of these clauses have to be among
-    /// them. What was learnt before the first removed clause stays.
+    /// Keeps the first `count` clauses, over the variables 1 to `vars`. The variables of these
+    /// clauses have to be among them. What was learnt before the first removed clause stays.
     pub fn cut(&mut self, vars: u64, count: usize)
         requires fewer { vars ≤ self.old.vars }
         requires within { AllByRecursion (IsWithin vars) (take count self.old.clauses) }
@@ -220,9 +230,10 @@ impl ClauseBase {
         self.vars = vars;
     }
 
-    /// Preprocesses the list: makes true what follows by unit propagation at level 0, and learns what a bounded search
-    /// finds. Later searches begin with this, also if clauses that are added afterwards are removed again. It is worth
-    /// its time if many questions follow. The list itself is unchanged.
+    /// Preprocesses the list: makes true what follows by unit propagation at level 0, and learns
+    /// what a bounded search finds. Later searches begin with this, also if clauses that are added
+    /// afterwards are removed again. It is worth its time if many questions follow. The list itself
+    /// is unchanged.
     pub fn settle(&mut self) -> Result<(), Memory>
         ensures { self.new ≡ self.old }
     {
@@ -234,8 +245,9 @@ impl ClauseBase {
         Ok(())
     }
 
-    /// An assignment that satisfies the clauses, with a value for each variable; or, exactly if there is none, an
-    /// accepted trace. In the trace each step but the last is used by a later one. The list is unchanged.
+    /// An assignment that satisfies the clauses, with a value for each variable; or, exactly if
+    /// there is none, an accepted trace. In the trace each step but the last is used by a later
+    /// one. The list is unchanged.
     pub fn solve(&mut self) -> Result<Outcome, Memory>
         ensures same { self.new ≡ self.old }
         ensures answer { IfOk result (IsSatAnswer self.old) }
@@ -247,7 +259,8 @@ impl ClauseBase {
         outcome
     }
 
-    /// The same without a trace: an assignment that satisfies the clauses, or `None` exactly if there is none.
+    /// The same without a trace: an assignment that satisfies the clauses, or `None` exactly if
+    /// there is none.
     pub fn satisfy(&mut self) -> Result<Option<Vec<bool>>, Memory>
         ensures same { self.new ≡ self.old }
         ensures exact { IfOk result (IsSettledAnswer self.old) }
@@ -258,9 +271,10 @@ impl ClauseBase {
     }
 }
 
-/// An assignment that satisfies the clauses, with a value for each variable; or, exactly if there is none, an accepted
-/// trace. The search decides and propagates, learns from each conflict, and jumps back (Marques-Silva & Sakallah 1996).
-/// It decides first on variables of recent conflicts (Moskewicz, Madigan, Zhao, Zhang & Malik 2001).
+/// An assignment that satisfies the clauses, with a value for each variable; or, exactly if there
+/// is none, an accepted trace. The search decides and propagates, learns from each conflict, and
+/// jumps back (Marques-Silva & Sakallah 1996). It decides first on variables of recent conflicts
+/// (Moskewicz, Madigan, Zhao, Zhang & Malik 2001).
 pub fn solve(alloc: Global, cnf: &Cnf) -> Result<Outcome, Memory>
     ensures answer { IfOk result (IsSatAnswer cnf.now) }
     ensures exact { IfOk result (IsExact cnf.now) }

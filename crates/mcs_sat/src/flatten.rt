@@ -32,8 +32,8 @@ enum Definition {
     Several,
 }
 
-/// For each variable the clause with which one is resolved in which the variable is positive (`if_true`), and the one
-/// for a negative occurrence (`if_false`).
+/// For each variable the clause with which one is resolved in which the variable is positive
+/// (`if_true`), and the one for a negative occurrence (`if_false`).
 #[derive(Drop)]
 struct Definitions {
     if_true: Vec<Definition>,
@@ -47,7 +47,8 @@ pub(crate) struct Flat {
     pub chain: Vec<u64>,
 }
 
-/// The variables that were resolved away in learnt clauses, and the clauses from which these were resolved.
+/// The variables that were resolved away in learnt clauses, and the clauses from which these were
+/// resolved.
 #[derive(Drop)]
 struct Resolved {
     variables: Vec<bool>,
@@ -77,7 +78,8 @@ impl Definitions {
         }
     }
 
-    /// The index of the clause whose last literal is the negation of this one, if it is the only one.
+    /// The index of the clause whose last literal is the negation of this one, if it is the only
+    /// one.
     fn of(&self, literal: i64) -> Option<usize> {
         let side = if literal > 0 {
             &self.if_true
@@ -92,8 +94,8 @@ impl Definitions {
 }
 
 impl Resolved {
-    /// Records that the clause with this index was resolved with others on its last literal. The variable of this
-    /// literal was resolved away, if it has no value.
+    /// Records that the clause with this index was resolved with others on its last literal. The
+    /// variable of this literal was resolved away, if it has no value.
     fn note_definition(
         &mut self,
         clauses: &Rows<i64>,
@@ -125,8 +127,8 @@ impl Resolved {
         Ok(())
     }
 
-    /// If the clause with this index was not resolved, and does not define a variable that was resolved away, its
-    /// variables do not count as resolved away.
+    /// If the clause with this index was not resolved, and does not define a variable that was
+    /// resolved away, its variables do not count as resolved away.
     fn spare(&mut self, clauses: &Rows<i64>, index: usize)
         requires { index < length clauses.now }
     {
@@ -146,8 +148,9 @@ impl Resolved {
         }
     }
 
-    /// The variables that were resolved away from all clauses, from the index `from` on, in which they occur, except
-    /// their definitions. The clauses of a whole formula come after those of its parts.
+    /// The variables that were resolved away from all clauses, from the index `from` on, in which
+    /// they occur, except their definitions. The clauses of a whole formula come after those of its
+    /// parts.
     fn variables_of(mut self, clauses: &Rows<i64>, pairs: &Pairs, from: usize) -> Vec<bool>
         requires { length pairs.now ≡ length clauses.now }
     {
@@ -198,7 +201,8 @@ fn has_value(trail: &Trail, literal: i64) -> bool {
     }
 }
 
-/// The index of the clause that is the reason for the negation of the literal, if this is true for a reason.
+/// The index of the clause that is the reason for the negation of the literal, if this is true for
+/// a reason.
 fn refuted_by(trail: &Trail, literal: i64) -> Option<usize> {
     let position = trail.positions.get(literal.unsigned_abs() as usize)?;
     let entry = trail.entries.get(*position)?;
@@ -209,8 +213,8 @@ fn refuted_by(trail: &Trail, literal: i64) -> Option<usize> {
     }
 }
 
-/// The index of the clause with which this one is resolved next: the reason for one of its literals being false, or the
-/// definition of one.
+/// The index of the clause with which this one is resolved next: the reason for one of its literals
+/// being false, or the definition of one.
 fn next_clause(trail: &Trail, definitions: &Definitions, literals: &[i64]) -> Option<usize> {
     for literal in literals {
         let found = refuted_by(trail, *literal).or(definitions.of(*literal));
@@ -247,8 +251,8 @@ fn resolve_next(
     Ok(true)
 }
 
-/// The clause that results from resolving the clause with this index with the reasons for its false literals, and with
-/// the definitions of the literals that are left.
+/// The clause that results from resolving the clause with this index with the reasons for its false
+/// literals, and with the definitions of the literals that are left.
 fn flat_of(
     alloc: Global,
     clauses: &Rows<i64>,
@@ -284,8 +288,8 @@ fn are_covered(trail: &Trail, literals: &[i64]) -> bool
     literals.iter().all(|literal| (literal.unsigned_abs() as usize) < trail.positions.len())
 }
 
-/// Learns the clause, at level 0, if it is neither short nor long. Short ones are not learnt, so that unit propagation
-/// goes through the whole formulas. Returns whether it is learnt.
+/// Learns the clause, at level 0, if it is neither short nor long. Short ones are not learnt, so
+/// that unit propagation goes through the whole formulas. Returns whether it is learnt.
 fn learn_flat(state: &mut State, flat: &Flat) -> Result<bool, Memory>
     requires state { IsState state.old }
     requires base { state.old.levels.items ≡ [] }
@@ -349,11 +353,12 @@ fn flatten(
     noted
 }
 
-/// Learns clauses over the parts of the formulas whose clauses are those from the index `from` on. Each such clause
-/// with a false literal is resolved with the reasons for its false literals, and then with the definitions of those
-/// that are left, one after the other, on their last literals. So what a formula says of its parts is found without the
-/// Tseitin variables of its parts. Returns marks for the variables that are then no longer needed to find it; there are
-/// none if nothing is learnt.
+/// Learns clauses over the parts of the formulas whose clauses are those from the index `from` on.
+/// Each such clause with a false literal is resolved with the reasons for its false literals, and
+/// then with the definitions of those that are left, one after the other, on their last literals.
+/// So what a formula says of its parts is found without the Tseitin variables of its parts. Returns
+/// marks for the variables that are then no longer needed to find it; there are none if nothing is
+/// learnt.
 pub(crate) fn flatten_from(state: &mut State, from: usize) -> Result<Vec<bool>, Memory>
     requires state { IsState state.old }
     requires base { state.old.levels.items ≡ [] }

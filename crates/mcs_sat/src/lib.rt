@@ -1,4 +1,5 @@
-//! A SAT solver: searches for an assignment that satisfies clauses; if there is none, a trace shows it.
+//! A SAT solver: searches for an assignment that satisfies clauses; if there is none, a trace shows
+//! it.
 #![tactic(auto)]
 
 mod base;

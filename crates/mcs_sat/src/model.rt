@@ -1,6 +1,7 @@
 //! Assignments that satisfy the clauses.
 
-ghost use Rattle.std.specs.Prelude.{◌≡◌, ◌<◌, ◌≤◌, ◌+◌, ◌^◌, ◌↔◌, ℕ, pos, length, vec_len, IfOk, IsTrue};
+ghost use Rattle.std.specs.Prelude.{◌≡◌, ◌<◌, ◌≤◌, ◌+◌, ◌^◌, ◌↔◌, ℕ, pos, length, vec_len, IfOk};
+ghost use Rattle.std.specs.Prelude.{IsTrue};
 ghost use Rattle.mcs_sat.specs.Answers.{assignment_of};
 ghost use Rattle.mcs_engine.specs.Trails.{ArePlaced, IsOn};
 

@@ -2,8 +2,8 @@
 
 use mcs_trace::Trace;
 
-/// An assignment that satisfies all clauses, with the value of variable v at the index v-1; or an accepted trace that
-/// there is none.
+/// An assignment that satisfies all clauses, with the value of variable v at the index v-1; or an
+/// accepted trace that there is none.
 #[derive(Drop)]
 pub enum Outcome {
     Model(Vec<bool>),

@@ -1,9 +1,11 @@
 //! Adding and removing given clauses at level 0, where nothing is decided.
 
-ghost use Rattle.std.specs.Prelude.{◌≡◌, ◌+◌, ◌<◌, ◌≤◌, ◌^◌, ◌++◌, ◌∷◌, [], ◌⊎◌, neg_ℤ, length, take, IsTrue, MatchOption, OnOk, OnErr, IfSome, Some};
+ghost use Rattle.std.specs.Prelude.{◌≡◌, ◌+◌, ◌<◌, ◌≤◌, ◌^◌, ◌++◌, ◌∷◌, [], ◌⊎◌, neg_ℤ, length};
+ghost use Rattle.std.specs.Prelude.{take, IsTrue, MatchOption, OnOk, OnErr, IfSome, Some};
 ghost use Rattle.mcs_trace.specs.Clauses.{IsClause, IsLiteral};
 ghost use Rattle.mcs_trace.specs.Traces.{IsChainResolvent};
-ghost use Rattle.mcs_engine.specs.Trails.{AreCovered, ArePlaced, IsOn, IsOnBelow, IsClauseSatisfied};
+ghost use Rattle.mcs_engine.specs.Trails.{AreCovered, ArePlaced, IsOn, IsOnBelow};
+ghost use Rattle.mcs_engine.specs.Trails.{IsClauseSatisfied};
 ghost use Rattle.mcs_engine.specs.Watching.{ArePair, AreUnwatched, IsFreshPair, IsLong};
 ghost use Rattle.mcs_engine.specs.States.{IsFull, IsState, SameClauses};
 
@@ -11,8 +13,8 @@ use crate::order::Order;
 use mcs_base::Memory;
 use mcs_engine::{Kept, NOTHING, Pair, Pairs, State, Trail, open_literal, settle};
 
-/// The pair of literals that an added clause watches, and for how many literals of the trail the clauses are still
-/// visited.
+/// The pair of literals that an added clause watches, and for how many literals of the trail the
+/// clauses are still visited.
 #[derive(Clone, Copy)]
 pub(crate) struct Beginning {
     pub pair: Option<Pair>,
@@ -24,7 +26,9 @@ fn open_pair(trail: &Trail, literals: &[i64]) -> Option<Pair>
     requires placed { ArePlaced trail.now.entries.items trail.now.positions.items }
     requires clause { IsClause literals.now }
     requires covered { AreCovered trail.now.positions.items literals.now }
-    ensures { IfSome result (λ p. ArePair literals.now p × (¬ IsOn trail.now.entries.items (neg_ℤ p.first)) × (¬ IsOn trail.now.entries.items (neg_ℤ p.second))) }
+    ensures { IfSome result (λ p. ArePair literals.now p
+        × (¬ IsOn trail.now.entries.items (neg_ℤ p.first))
+        × (¬ IsOn trail.now.entries.items (neg_ℤ p.second))) }
 {
     let first = open_literal(trail, literals, 0)?;
     let second = open_literal(trail, literals, first)?;
@@ -61,7 +65,8 @@ fn false_before(trail: &Trail, literal: i64, place: usize) -> usize
     }
 }
 
-/// For how many of the first `visited` literals the clauses are still visited, if a further clause watches the pair.
+/// For how many of the first `visited` literals the clauses are still visited, if a further clause
+/// watches the pair.
 fn fresh_below(trail: &Trail, pair: Pair, visited: usize) -> usize
     requires placed { ArePlaced trail.now.entries.items trail.now.positions.items }
     requires literals { IsLiteral pair.first × IsLiteral pair.second }
@@ -72,8 +77,9 @@ fn fresh_below(trail: &Trail, pair: Pair, visited: usize) -> usize
     false_before(trail, pair.second, first)
 }
 
-/// How an added clause begins. If it has two literals that are not false, it watches these, and what was visited stays
-/// visited. Otherwise only what comes before the first false literal that it watches stays visited.
+/// How an added clause begins. If it has two literals that are not false, it watches these, and
+/// what was visited stays visited. Otherwise only what comes before the first false literal that it
+/// watches stays visited.
 fn beginning_of(trail: &Trail, visited: usize, literals: &[i64]) -> Beginning
     requires placed { ArePlaced trail.now.entries.items trail.now.positions.items }
     requires clause { IsClause literals.now }
@@ -108,13 +114,15 @@ pub fn push_unwatched(state: &mut State, literals: &[i64], chain: &[u64]) -> Res
     requires covered { AreCovered state.old.trail.positions.items literals.now }
     requires chain { (chain.now ≡ []) ⊎ IsChainResolvent state.old.clauses chain.now literals.now }
     ensures kept { IsState state.new }
-    ensures positions { length state.new.trail.positions.items ≡ length state.old.trail.positions.items }
+    ensures positions { length state.new.trail.positions.items
+        ≡ length state.old.trail.positions.items }
     ensures entries { state.new.trail.entries.items ≡ state.old.trail.entries.items }
     ensures levels { state.new.levels.items ≡ state.old.levels.items }
     ensures pairs { state.new.watches.pairs ≡ state.old.watches.pairs }
     ensures clauses { OnOk result (state.new.clauses ≡ state.old.clauses ++ literals.now ∷ []) }
     ensures chains { OnOk result (state.new.chains ≡ state.old.chains ++ chain.now ∷ []) }
-    ensures err { OnErr result ((state.new.clauses ≡ state.old.clauses) × (state.new.chains ≡ state.old.chains)) }
+    ensures err { OnErr result ((state.new.clauses ≡ state.old.clauses)
+        × (state.new.chains ≡ state.old.chains)) }
 {
     let count = state.clauses.len();
     state.clauses.push(literals)?;
@@ -132,12 +140,14 @@ pub fn add(state: &mut State, literals: &[i64]) -> Result<(), Memory>
     requires covered { AreCovered state.old.trail.positions.items literals.now }
     requires base { state.old.levels.items ≡ [] }
     ensures kept { IsState state.new }
-    ensures positions { length state.new.trail.positions.items ≡ length state.old.trail.positions.items }
+    ensures positions { length state.new.trail.positions.items
+        ≡ length state.old.trail.positions.items }
     ensures entries { state.new.trail.entries.items ≡ state.old.trail.entries.items }
     ensures levels { state.new.levels.items ≡ [] }
     ensures clauses { OnOk result (state.new.clauses ≡ state.old.clauses ++ literals.now ∷ []) }
     ensures chains { OnOk result (state.new.chains ≡ state.old.chains ++ [] ∷ []) }
-    ensures err { OnErr result ((state.new.clauses ≡ state.old.clauses) × (state.new.chains ≡ state.old.chains)) }
+    ensures err { OnErr result ((state.new.clauses ≡ state.old.clauses)
+        × (state.new.chains ≡ state.old.chains)) }
 {
     push_unwatched(state, literals, &[])
 }
@@ -152,7 +162,8 @@ pub fn attach_next(state: &mut State) -> Result<(), Memory>
     ensures entries { state.new.trail.entries.items ≡ state.old.trail.entries.items }
     ensures levels { state.new.levels.items ≡ state.old.levels.items }
     ensures marked { state.new.kept ≡ state.old.kept }
-    ensures next { OnOk result (length state.new.watches.pairs ≡ length state.old.watches.pairs + 1) }
+    ensures next { OnOk result (length state.new.watches.pairs
+        ≡ length state.old.watches.pairs + 1) }
 {
     let literals = state.clauses.row(state.watches.pairs.len());
     let beginning = beginning_of(&state.trail, state.visited, literals);
@@ -178,9 +189,9 @@ pub fn attach(state: &mut State) -> Result<(), Memory>
     Ok(())
 }
 
-/// Visits the clauses that watch nothing yet, from the last one back, and makes the last literal of each true if all
-/// others are false. The clauses of a whole formula come after those of its parts. Returns the index of a clause that
-/// is false, if one is found.
+/// Visits the clauses that watch nothing yet, from the last one back, and makes the last literal of
+/// each true if all others are false. The clauses of a whole formula come after those of its parts.
+/// Returns the index of a clause that is false, if one is found.
 fn sweep(state: &mut State) -> Result<Option<usize>, Memory>
     requires state { IsState state.old }
     requires base { state.old.levels.items ≡ [] }
@@ -203,7 +214,8 @@ fn is_spared(trail: &Trail, literals: &[i64]) -> bool
     requires placed { ArePlaced trail.now.entries.items trail.now.positions.items }
     requires clause { IsClause literals.now }
     requires covered { AreCovered trail.now.positions.items literals.now }
-    ensures { IsTrue result → IsLong literals.now × IsClauseSatisfied trail.now.entries.items literals.now }
+    ensures { IsTrue result
+        → IsLong literals.now × IsClauseSatisfied trail.now.entries.items literals.now }
 {
     if literals.len() < 2 {
         return false;
@@ -227,7 +239,8 @@ fn attach_open(state: &mut State) -> Result<(), Memory>
     ensures entries { state.new.trail.entries.items ≡ state.old.trail.entries.items }
     ensures levels { state.new.levels.items ≡ state.old.levels.items }
     ensures marked { state.new.kept ≡ state.old.kept }
-    ensures next { OnOk result (length state.new.watches.pairs ≡ length state.old.watches.pairs + 1) }
+    ensures next { OnOk result (length state.new.watches.pairs
+        ≡ length state.old.watches.pairs + 1) }
 {
     let index = state.watches.pairs.len();
     if is_spared(&state.trail, state.clauses.row(index)) {
@@ -239,8 +252,8 @@ fn attach_open(state: &mut State) -> Result<(), Memory>
     Ok(())
 }
 
-/// Makes true, at level 0, what `sweep` finds in the clauses that watch nothing yet. Then makes those that are not
-/// satisfied watch two of their literals.
+/// Makes true, at level 0, what `sweep` finds in the clauses that watch nothing yet. Then makes
+/// those that are not satisfied watch two of their literals.
 pub fn settle_all(state: &mut State) -> Result<(), Memory>
     requires state { IsState state.old }
     requires base { state.old.levels.items ≡ [] }
@@ -275,8 +288,8 @@ pub fn keep(state: &mut State)
     };
 }
 
-/// How many of the first `most` literals come before the first one that makes a literal false which a clause from the
-/// index `from` on watches.
+/// How many of the first `most` literals come before the first one that makes a literal false which
+/// a clause from the index `from` on watches.
 fn unwatched(trail: &Trail, pairs: &Pairs, from: usize, most: usize) -> usize
     requires placed { ArePlaced trail.now.entries.items trail.now.positions.items }
     ensures low { result ≤ most }
@@ -295,7 +308,8 @@ fn unwatched(trail: &Trail, pairs: &Pairs, from: usize, most: usize) -> usize
 fn still_visited(trail: &Trail, pairs: &Pairs, kept: Kept) -> usize
     requires placed { ArePlaced trail.now.entries.items trail.now.positions.items }
     ensures low { result ≤ kept.visited }
-    ensures fresh { AreUnwatched trail.now.entries.items pairs.now kept.count (length pairs.now) result }
+    ensures fresh { AreUnwatched trail.now.entries.items pairs.now kept.count
+        (length pairs.now) result }
 {
     if kept.visited == 0 {
         return 0;
@@ -303,13 +317,14 @@ fn still_visited(trail: &Trail, pairs: &Pairs, kept: Kept) -> usize
     unwatched(trail, pairs, kept.count, kept.visited)
 }
 
-/// Keeps the first `stays` literals of the trail, and releases the variables of the others. Returns for how many
-/// literals the clauses are still visited.
+/// Keeps the first `stays` literals of the trail, and releases the variables of the others. Returns
+/// for how many literals the clauses are still visited.
 fn leave(trail: &mut Trail, order: &mut Order, stays: usize, visited: usize) -> usize
     requires { stays ≤ length trail.old.entries.items }
     ensures entries { trail.new.entries.items ≡ take stays trail.old.entries.items }
     ensures positions { trail.new.positions.items ≡ trail.old.positions.items }
-    ensures visited { (result ≡ 0) ⊎ ((length trail.old.entries.items ≤ stays) × (result ≡ visited)) }
+    ensures visited { (result ≡ 0)
+        ⊎ ((length trail.old.entries.items ≤ stays) × (result ≡ visited)) }
 {
     if stays < trail.entries.len() {
         order.release(&trail.entries[stays..]);
@@ -320,8 +335,8 @@ fn leave(trail: &mut Trail, order: &mut Order, stays: usize, visited: usize) -> 
     }
 }
 
-/// Keeps the first `count` clauses, at level 0. Takes back the literals from the first one on whose reason is removed,
-/// and releases their variables.
+/// Keeps the first `count` clauses, at level 0. Takes back the literals from the first one on whose
+/// reason is removed, and releases their variables.
 pub fn cut(state: &mut State, order: &mut Order, count: usize)
     requires state { IsState state.old }
     requires base { state.old.levels.items ≡ [] }
@@ -355,8 +370,10 @@ pub fn widen(state: &mut State) -> Result<(), Memory>
     ensures levels { state.new.levels.items ≡ state.old.levels.items }
     ensures clauses { state.new.clauses ≡ state.old.clauses }
     ensures chains { state.new.chains ≡ state.old.chains }
-    ensures ok { OnOk result (length state.new.trail.positions.items ≡ length state.old.trail.positions.items + 1) }
-    ensures err { OnErr result (length state.new.trail.positions.items ≡ length state.old.trail.positions.items) }
+    ensures ok { OnOk result (length state.new.trail.positions.items
+        ≡ length state.old.trail.positions.items + 1) }
+    ensures err { OnErr result (length state.new.trail.positions.items
+        ≡ length state.old.trail.positions.items) }
 {
     state.trail.widen()?;
     Ok(())

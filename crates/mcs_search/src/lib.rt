@@ -1,5 +1,5 @@
-//! A search for an assignment: clauses are added, attached and removed, decisions are ordered, conflicts are learnt from,
-//! and a trace is made once a clause is false at level 0.
+//! A search for an assignment: clauses are added, attached and removed, decisions are ordered,
+//! conflicts are learnt from, and a trace is made once a clause is false at level 0.
 #![tactic(auto)]
 
 mod adding;

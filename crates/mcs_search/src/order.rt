@@ -14,7 +14,8 @@ const MOST_GAIN: u64 = 1 << 60;
 /// The number of conflicts before the first restart.
 const FIRST_LIMIT: u64 = 100;
 
-/// The number of conflicts from which on a search is hard: what it learnt long ago is then set aside for a while.
+/// The number of conflicts from which on a search is hard: what it learnt long ago is then set
+/// aside for a while.
 const MANY_CONFLICTS: u64 = 2000;
 
 /// The base of the number of turns of a search without what was learnt long ago.
@@ -30,10 +31,12 @@ fn shrink_all(activities: &mut [u64]) {
     }
 }
 
-/// The variable, negated if `value` is false, if it is a variable of the trail and has no value there.
+/// The variable, negated if `value` is false, if it is a variable of the trail and has no value
+/// there.
 fn free_literal(trail: &Trail, variable: usize, value: bool) -> Option<i64>
     requires placed { ArePlaced trail.now.entries.items trail.now.positions.items }
-    ensures { IfSome result (λ l. IsLiteral l × (unsigned_abs l < length trail.now.positions.items) × StandsNowhere trail.now.entries.items (unsigned_abs l)) }
+    ensures { IfSome result (λ l. IsLiteral l × (unsigned_abs l < length trail.now.positions.items)
+        × StandsNowhere trail.now.entries.items (unsigned_abs l)) }
 {
     if variable == 0 || variable >= trail.positions.len() {
         return None;
@@ -45,12 +48,13 @@ fn free_literal(trail: &Trail, variable: usize, value: bool) -> Option<i64>
     Some(if value { literal } else { -literal })
 }
 
-/// The variables, those of recent conflicts first. It has a heap of variables; for each variable its place in the heap,
-/// if it is there, its activity, and its last value, if it had one; and how much activity a conflict adds. The
-/// variables from `seen` on were not looked at yet. A variable may be missing from the heap, or be in it though it has
-/// a value: this makes no answer wrong. Variables whose numbers take more than four bytes are missing. The conflicts
-/// since the last restart are counted, up to the limit of the next one. Those of the whole search are counted too, with
-/// the rounds in which clauses were set aside.
+/// The variables, those of recent conflicts first. It has a heap of variables; for each variable
+/// its place in the heap, if it is there, its activity, and its last value, if it had one; and how
+/// much activity a conflict adds. The variables from `seen` on were not looked at yet. A variable
+/// may be missing from the heap, or be in it though it has a value: this makes no answer wrong.
+/// Variables whose numbers take more than four bytes are missing. The conflicts since the last
+/// restart are counted, up to the limit of the next one. Those of the whole search are counted too,
+/// with the rounds in which clauses were set aside.
 #[derive(Drop)]
 pub struct Order {
     heap: Vec<u32>,
@@ -167,11 +171,14 @@ impl Order {
         Some((first, value))
     }
 
-    /// The literal to decide next: the first variable of the heap that has no value on the trail, with its last value.
-    /// It and the variables before it are removed from the heap. `None` if no variable of the heap is without a value.
+    /// The literal to decide next: the first variable of the heap that has no value on the trail,
+    /// with its last value. It and the variables before it are removed from the heap. `None` if no
+    /// variable of the heap is without a value.
     pub fn next(&mut self, trail: &Trail) -> Option<i64>
         requires placed { ArePlaced trail.now.entries.items trail.now.positions.items }
-        ensures { IfSome result (λ l. IsLiteral l × (unsigned_abs l < length trail.now.positions.items) × StandsNowhere trail.now.entries.items (unsigned_abs l)) }
+        ensures { IfSome result (λ l. IsLiteral l
+            × (unsigned_abs l < length trail.now.positions.items)
+            × StandsNowhere trail.now.entries.items (unsigned_abs l)) }
     {
         while let Some((variable, value)) = self.pop() {
             let literal = free_literal(trail, variable as usize, value);
@@ -196,8 +203,8 @@ impl Order {
         Ok(())
     }
 
-    /// Puts the variables of the entries back into the heap, and keeps their values. If memory runs out, they are left
-    /// out.
+    /// Puts the variables of the entries back into the heap, and keeps their values. If memory runs
+    /// out, they are left out.
     pub fn release(&mut self, entries: &[Entry]) {
         for entry in entries {
             let variable = entry.literal.unsigned_abs() as usize;
@@ -206,8 +213,9 @@ impl Order {
         }
     }
 
-    /// Begins another search, at level 0. The counts for restarts are reset. The variables that were not looked at yet
-    /// are put into the heap, if they have no value. If memory runs out, they are left out.
+    /// Begins another search, at level 0. The counts for restarts are reset. The variables that
+    /// were not looked at yet are put into the heap, if they have no value. If memory runs out,
+    /// they are left out.
     pub fn begin(&mut self, trail: &Trail)
         requires placed { ArePlaced trail.now.entries.items trail.now.positions.items }
     {
@@ -275,8 +283,8 @@ impl Order {
         self.conflicts = self.limit;
     }
 
-    /// Whether a restart is due, by the number of conflicts since the last one. If it is, the next one takes more
-    /// conflicts.
+    /// Whether a restart is due, by the number of conflicts since the last one. If it is, the next
+    /// one takes more conflicts.
     pub fn is_due(&mut self) -> bool {
         let due = self.conflicts >= self.limit;
         if due {

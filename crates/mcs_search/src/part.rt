@@ -59,8 +59,9 @@ fn take_reasons(part: &mut Part, whole: &State) -> Result<(), Memory>
     Ok(())
 }
 
-/// Whether the clause with this index is taken into the part. It has to watch something and to have no variable that is
-/// left out. If recent clauses are marked, it also has to be given, short, or one of these.
+/// Whether the clause with this index is taken into the part. It has to watch something and to have
+/// no variable that is left out. If recent clauses are marked, it also has to be given, short, or
+/// one of these.
 fn is_taken(whole: &State, left_out: &[bool], recent: &[bool], index: usize) -> bool
     requires within { index < length whole.now.clauses }
     requires paired { index < length whole.now.watches.pairs }
@@ -96,7 +97,8 @@ fn take_some(
     Ok(())
 }
 
-/// Adds to the part the reasons of the literals on the trail and the clauses for which `is_taken` holds.
+/// Adds to the part the reasons of the literals on the trail and the clauses for which `is_taken`
+/// holds.
 fn take_all(
     part: &mut Part,
     whole: &State,
@@ -111,7 +113,8 @@ fn take_all(
     take_some(part, whole, left_out, recent)
 }
 
-/// The part with the reasons of the literals on the trail and the clauses for which `is_taken` holds.
+/// The part with the reasons of the literals on the trail and the clauses for which `is_taken`
+/// holds.
 fn part_of(alloc: Global, whole: &State, left_out: &[bool], recent: &[bool]) -> Result<Part, Memory>
     requires whole { IsState whole.now }
     ensures { IfOk result (λ p. IsGathered whole.now p.state p.numbers.items) }
@@ -204,8 +207,8 @@ fn adopt(
     Ok(())
 }
 
-/// Learns the clauses that the part has learnt, unless memory ran out while it was explored. Returns whether its search
-/// has ended.
+/// Learns the clauses that the part has learnt, unless memory ran out while it was explored.
+/// Returns whether its search has ended.
 fn adopt_explored(
     alloc: Global,
     state: &mut State,
@@ -223,9 +226,9 @@ fn adopt_explored(
     Ok(ended)
 }
 
-/// Searches some of the clauses for at most `turns` turns, at level 0, and learns what this search learns. Returns
-/// whether it has ended. Clauses with a variable that is left out are not among them. If recent clauses are marked,
-/// long learnt clauses that are not marked are not either.
+/// Searches some of the clauses for at most `turns` turns, at level 0, and learns what this search
+/// learns. Returns whether it has ended. Clauses with a variable that is left out are not among
+/// them. If recent clauses are marked, long learnt clauses that are not marked are not either.
 fn search_part(
     state: &mut State,
     order: &mut Order,
@@ -247,8 +250,8 @@ fn search_part(
     ended
 }
 
-/// If variables are left out, searches the clauses that have none of these, before any question, and learns what this
-/// search learns.
+/// If variables are left out, searches the clauses that have none of these, before any question,
+/// and learns what this search learns.
 pub fn search_left(state: &mut State, order: &mut Order, left_out: &[bool]) -> Result<(), Memory>
     requires state { IsState state.old }
     requires base { state.old.levels.items ≡ [] }
@@ -273,8 +276,8 @@ fn recent_of(alloc: Global, state: &State, most: usize) -> Result<Vec<bool>, Mem
     Ok(marks)
 }
 
-/// Searches the given clauses with the recently learnt ones for some turns, at level 0, and learns what this search
-/// learns. Returns whether it has ended.
+/// Searches the given clauses with the recently learnt ones for some turns, at level 0, and learns
+/// what this search learns. Returns whether it has ended.
 pub(crate) fn search_recent(state: &mut State, order: &mut Order) -> Result<bool, Memory>
     requires state { IsState state.old }
     requires base { state.old.levels.items ≡ [] }

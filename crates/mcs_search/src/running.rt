@@ -10,19 +10,21 @@ ghost use Rattle.mcs_engine.specs.Watching.{IsReached};
 use mcs_base::Memory;
 use mcs_engine::{State, settle_from, visit_from};
 
-/// Propagates: through the short clauses, and through those that watch a literal that became false, until nothing
-/// changes. Returns the index of a clause that is false, if one is found.
+/// Propagates: through the short clauses, and through those that watch a literal that became false,
+/// until nothing changes. Returns the index of a clause that is false, if one is found.
 pub fn run(state: &mut State) -> Result<Option<usize>, Memory>
     requires state { IsState state.old }
     requires full { IsFull state.old }
     ensures kept { IsState state.new }
     ensures full { IsFull state.new }
     ensures same { SameClauses state.old state.new }
-    ensures grows { GrowsOnLevel (length state.old.levels.items) state.old.trail.entries.items state.new.trail.entries.items }
+    ensures grows { GrowsOnLevel (length state.old.levels.items) state.old.trail.entries.items
+        state.new.trail.entries.items }
     ensures levels { state.new.levels.items ≡ state.old.levels.items }
     ensures short { state.new.watches.short.items ≡ state.old.watches.short.items }
     ensures marked { state.new.kept ≡ state.old.kept }
-    ensures before { IsReached state.new.clauses state.new.watches state.old.trail.entries.items (reach_of state.old) }
+    ensures before { IsReached state.new.clauses state.new.watches state.old.trail.entries.items
+        (reach_of state.old) }
     ensures open { IfOk result (λ found. IfNone found
         (AllByRecursion (IsOpen state.new.trail.entries.items) state.new.clauses)) }
     ensures conflict { IfOk result (λ found. IfSome found
@@ -56,7 +58,8 @@ pub fn run_or_restore(state: &mut State) -> Result<Option<usize>, Memory>
     ensures kept { IsState state.new }
     ensures full { IsFull state.new }
     ensures same { SameClauses state.old state.new }
-    ensures grows { OnOk result (GrowsOnLevel (length state.old.levels.items) state.old.trail.entries.items state.new.trail.entries.items) }
+    ensures grows { OnOk result (GrowsOnLevel (length state.old.levels.items)
+        state.old.trail.entries.items state.new.trail.entries.items) }
     ensures open { IfOk result (λ found. IfNone found
         (AllByRecursion (IsOpen state.new.trail.entries.items) state.new.clauses)) }
     ensures conflict { IfOk result (λ found. IfSome found

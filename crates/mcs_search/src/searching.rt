@@ -19,8 +19,9 @@ use std::alloc::Global;
 /// The greatest number of restarts of a search.
 const MOST_BEGINNINGS: u64 = 1 << 40;
 
-/// The result of a turn. `Goes`: the search goes on, from a clause that is false or from none. `Satisfied`: all clauses
-/// are satisfied. `Refuted`: the clause with this index is false at level 0.
+/// The result of a turn. `Goes`: the search goes on, from a clause that is false or from none.
+/// `Satisfied`: all clauses are satisfied. `Refuted`: the clause with this index is false at level
+/// 0.
 #[derive(Drop)]
 pub(crate) enum Turn {
     Goes(Option<usize>),
@@ -28,7 +29,8 @@ pub(crate) enum Turn {
     Refuted(usize),
 }
 
-/// Decides a literal without a value and propagates. If there is no such literal, all clauses are satisfied.
+/// Decides a literal without a value and propagates. If there is no such literal, all clauses are
+/// satisfied.
 fn choose(state: &mut State, order: &mut Order) -> Result<Turn, Memory>
     requires search { IsSatSearch state.old }
     requires open { AllByRecursion (IsOpen state.old.trail.entries.items) state.old.clauses }
@@ -134,8 +136,8 @@ pub(crate) fn begin_anew(state: &mut State, order: &mut Order) -> Result<Option<
     Ok(found)
 }
 
-/// Restarts as `begin_anew` does. If the search is hard, what was learnt long ago is set aside first for a search of
-/// its own, and what this one learns is learnt.
+/// Restarts as `begin_anew` does. If the search is hard, what was learnt long ago is set aside
+/// first for a search of its own, and what this one learns is learnt.
 fn renew(state: &mut State, order: &mut Order) -> Result<Option<usize>, Memory>
     requires { IsSatSearch state.old }
     ensures later { IsLater state.old state.new }
@@ -176,8 +178,8 @@ pub(crate) fn take_turn(
     }
 }
 
-/// Takes turns until all clauses are satisfied or one is false at level 0. Returns the index of the latter. What was
-/// known before stays known: clauses are learnt, and none is added as given.
+/// Takes turns until all clauses are satisfied or one is false at level 0. Returns the index of the
+/// latter. What was known before stays known: clauses are learnt, and none is added as given.
 pub fn search(alloc: Global, state: &mut State, order: &mut Order) -> Result<Option<usize>, Memory>
     requires state { IsState state.old }
     requires base { state.old.levels.items ≡ [] }

@@ -1,11 +1,14 @@
 //! The trace of a solver, once a clause is false at level 0.
 
-ghost use Rattle.std.specs.Prelude.{◌≡◌, ℕ, [], ◌+◌, ◌<◌, ◌≤◌, ◌^◌, ◌⊎◌, false, IsTrue, IfOk, Some, get_or, length, map};
+ghost use Rattle.std.specs.Prelude.{◌≡◌, ℕ, [], ◌+◌, ◌<◌, ◌≤◌, ◌^◌, ◌⊎◌, false, IsTrue, IfOk, Some};
+ghost use Rattle.std.specs.Prelude.{get_or, length, map};
 ghost use Rattle.std.specs.List.{AllByRecursion};
 ghost use Rattle.mcs_base.specs.Listings.{IsAmong};
 ghost use Rattle.mcs_trace.specs.Clauses.{IsClause};
-ghost use Rattle.mcs_trace.specs.Traces.{IsAcceptedTrace, IsChainResolvent, inference_of, inferences_of};
-ghost use Rattle.mcs_search.specs.Numbering.{AreMarked, AreChainsMarked, IsNumbering, IsRead, NameBelow, NamesAt, number_now};
+ghost use Rattle.mcs_trace.specs.Traces.{IsAcceptedTrace, IsChainResolvent, inference_of};
+ghost use Rattle.mcs_trace.specs.Traces.{inferences_of};
+ghost use Rattle.mcs_search.specs.Numbering.{AreMarked, AreChainsMarked, IsNumbering, IsRead};
+ghost use Rattle.mcs_search.specs.Numbering.{NameBelow, NamesAt, number_now};
 ghost use Rattle.mcs_engine.specs.States.{AreChains, IsState};
 ghost use Rattle.mcs_engine.specs.Stores.{given, given_count};
 ghost use Rattle.mcs_engine.specs.Trails.{IsFalseAt};
@@ -19,9 +22,11 @@ use std::alloc::Global;
 fn mark(needed: &mut Vec<bool>, numbers: &[u64])
     requires { NameBelow (length needed.old.items) numbers.now }
     ensures sized { length needed.new.items ≡ length needed.old.items }
-    ensures kept { (i : ℕ) → IsTrue (get_or needed.old.items i false) → IsTrue (get_or needed.new.items i false) }
+    ensures kept { (i : ℕ) → IsTrue (get_or needed.old.items i false)
+        → IsTrue (get_or needed.new.items i false) }
     ensures marked { AreMarked needed.new.items numbers.now }
-    ensures only { (i : ℕ) → IsTrue (get_or needed.new.items i false) → IsTrue (get_or needed.old.items i false) ⊎ IsAmong (i + 1) numbers.now }
+    ensures only { (i : ℕ) → IsTrue (get_or needed.new.items i false)
+        → IsTrue (get_or needed.old.items i false) ⊎ IsAmong (i + 1) numbers.now }
 {
     for number in numbers {
         let index = *number as usize - 1;
@@ -65,7 +70,8 @@ pub(crate) fn renumbered(alloc: Global, numbers: &[u64], chain: &[u64]) -> Resul
 fn step_of(alloc: Global, numbers: &[u64], literals: &[i64], chain: &[u64]) -> Result<Step, Memory>
     requires clause { IsClause literals.now }
     requires chain { NameBelow (length numbers.now) chain.now }
-    ensures { IfOk result (λ step. inference_of step ≡ record { clause = literals.now; chain = map (number_now numbers.now) chain.now }) }
+    ensures { IfOk result (λ step. inference_of step
+        ≡ record { clause = literals.now; chain = map (number_now numbers.now) chain.now }) }
 {
     let Some(clause) = Clause::new(literals.to_vec(alloc)?) else {
         unreachable!();
@@ -79,8 +85,8 @@ fn step_of(alloc: Global, numbers: &[u64], literals: &[i64], chain: &[u64]) -> R
     }
 }
 
-/// What a trace has so far: its steps, the number of given clauses so far, and for each clause its number in the trace,
-/// 0 if it is left out.
+/// What a trace has so far: its steps, the number of given clauses so far, and for each clause its
+/// number in the trace, 0 if it is left out.
 #[derive(Drop)]
 pub(crate) struct Numbering {
     pub steps: Vec<Step>,
@@ -89,8 +95,8 @@ pub(crate) struct Numbering {
 }
 
 impl Numbering {
-    /// Takes the next clause: a given one, which has no chain, one that becomes a step, or one that is left out. In
-    /// all, `count` clauses are given.
+    /// Takes the next clause: a given one, which has no chain, one that becomes a step, or one that
+    /// is left out. In all, `count` clauses are given.
     fn take(
         &mut self,
         alloc: Global,
@@ -103,7 +109,8 @@ impl Numbering {
         requires chain { NameBelow (length self.old.numbers.items) chain.now }
         requires few { self.old.given ≤ length self.old.numbers.items }
         requires room { 0 < length chain.now → count + length self.old.steps.items + 1 < 2 ^ 64 }
-        ensures { IfOk result (λ _. IsRead self.old self.new literals.now chain.now is_needed count) }
+        ensures { IfOk result (λ _. IsRead self.old self.new literals.now chain.now is_needed
+            count) }
     {
         if chain.is_empty() {
             self.given += 1;
@@ -170,7 +177,8 @@ fn trace_to(
     requires count { count ≡ given_count chains.now }
     requires last { IsChainResolvent clauses.now last.now.chain.items [] }
     requires empty { last.now.clause ≡ [] }
-    ensures { IfOk result (λ trace. IsAcceptedTrace (given clauses.now chains.now) (inferences_of trace)) }
+    ensures { IfOk result (λ trace. IsAcceptedTrace (given clauses.now chains.now)
+        (inferences_of trace)) }
 {
     let needed = needed_for(alloc, chains, &last.chain)?;
     let mut numbering = numbering_of(alloc, clauses, chains, &needed, count)?;
@@ -190,14 +198,15 @@ fn trace_to(
     }
 }
 
-/// The trace that follows from the clause with this index, which is false at level 0. Of all clauses `count` are given,
-/// and the steps are numbered after these.
+/// The trace that follows from the clause with this index, which is false at level 0. Of all
+/// clauses `count` are given, and the steps are numbered after these.
 pub fn trace_of(alloc: Global, state: &State, count: usize, index: usize) -> Result<Trace, Memory>
     requires state { IsState state.now }
     requires base { state.now.levels.items ≡ [] }
     requires conflict { IsFalseAt state.now.clauses state.now.trail.entries.items index }
     requires count { count ≡ given_count state.now.chains }
-    ensures { IfOk result (λ trace. IsAcceptedTrace (given state.now.clauses state.now.chains) (inferences_of trace)) }
+    ensures { IfOk result (λ trace. IsAcceptedTrace (given state.now.clauses state.now.chains)
+        (inferences_of trace)) }
 {
     let none = state.trail.entries.len();
     let last = analyse(alloc, &state.clauses, &state.trail, none, index)?;

@@ -1,5 +1,5 @@
-//! Finite sets of small numbers: their definitions, the orders in which they are listed, and one type, of which the
-//! sets of the crates above are thin wrappers.
+//! Finite sets of small numbers: their definitions, the orders in which they are listed, and one
+//! type, of which the sets of the crates above are thin wrappers.
 #![tactic(auto)]
 
 mod members;

@@ -1,14 +1,15 @@
 //! Sets of small numbers, each one word of bits, and the orders of such sets.
 
 ghost use Rattle.std.specs.Prelude.{◌≡◌, ℕ, ◌^◌, ◌<◌, ◌↔◌, IsTrue, IfSome, IfNone};
-ghost use Rattle.mcs_sets.specs.Sets.{has, single, union, common, minus, Within, Meets, IsLeast, size, members};
+ghost use Rattle.mcs_sets.specs.Sets.{has, single, union, common, minus, Within, Meets, IsLeast};
+ghost use Rattle.mcs_sets.specs.Sets.{size, members};
 ghost use Rattle.mcs_sets.specs.Orders.{StateBefore, PairBefore};
 
 use crate::members::Members;
 use std::marker::Model;
 
-/// A set of numbers below 128. Its own order is that of the sets as numbers: the set that has the greatest number in
-/// which they differ is the greater one.
+/// A set of numbers below 128. Its own order is that of the sets as numbers: the set that has the
+/// greatest number in which they differ is the greater one.
 #[derive(Clone, Copy, Debug, PartialEq, Eq, PartialOrd, Ord)]
 pub struct SmallSet {
     bits: u128,
@@ -165,8 +166,8 @@ impl SmallSet {
     }
 }
 
-/// Whether `a` comes before `b` in the order of states. Of two different sets, the one that has the least number in
-/// which they differ comes first.
+/// Whether `a` comes before `b` in the order of states. Of two different sets, the one that has the
+/// least number in which they differ comes first.
 pub fn state_before(a: SmallSet, b: SmallSet) -> bool
     ensures { IsTrue result ↔ StateBefore a b }
 {
@@ -174,8 +175,8 @@ pub fn state_before(a: SmallSet, b: SmallSet) -> bool
     differ != 0 && a.has(differ.trailing_zeros())
 }
 
-/// Whether `a` comes before `b` in the order of pairs. The one with fewer members comes first; with equally many, the
-/// one whose ascending list of members is lexicographically less.
+/// Whether `a` comes before `b` in the order of pairs. The one with fewer members comes first; with
+/// equally many, the one whose ascending list of members is lexicographically less.
 pub fn pair_before(a: SmallSet, b: SmallSet) -> bool
     ensures { IsTrue result ↔ PairBefore a b }
 {

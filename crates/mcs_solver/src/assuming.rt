@@ -11,15 +11,17 @@ use mcs_classical::Assumption;
 use mcs_system::System;
 use std::alloc::Global;
 
-/// The heads of all rules that go into the context, in the order of the rules. Each has the number of its rule, so the
-/// assumptions of a set of rules are the heads of these.
+/// The heads of all rules that go into the context, in the order of the rules. Each has the number
+/// of its rule, so the assumptions of a set of rules are the heads of these.
 pub(crate) fn assumptions_into(
     alloc: Global,
     system: &System,
     context: u32,
 ) -> Result<Vec<Assumption<'_>>, Memory>
-    ensures heads { IfOk result (λ found. (rules : ℕ) → assumed rules found.items ≡ heads_into system.now context rules) }
-    ensures numbers { IfOk result (λ found. AllByRecursion (λ (a : declared.Assumption). a.number < 64) found.items) }
+    ensures heads { IfOk result (λ found. (rules : ℕ)
+        → assumed rules found.items ≡ heads_into system.now context rules) }
+    ensures numbers { IfOk result (λ found. AllByRecursion
+        (λ (a : declared.Assumption). a.number < 64) found.items) }
 {
     let mut assumptions = Vec::new(alloc);
     for (number, rule) in system.bridges().iter().enumerate() {

@@ -17,8 +17,8 @@ pub(crate) struct Kept {
     pub(crate) cert: AnswerCert,
 }
 
-/// Keeps the answer to the question, if it has a certificate, in place of an earlier one. If memory runs out, what is
-/// kept is as before.
+/// Keeps the answer to the question, if it has a certificate, in place of an earlier one. If memory
+/// runs out, what is kept is as before.
 pub(crate) fn keep_answer(
     alloc: Global,
     kept: &mut BTreeMap<Active, Kept>,
@@ -44,8 +44,8 @@ pub(crate) fn keep_answer(
     }
 }
 
-/// Moves the answer to the question, if the others have one, in place of an earlier one. If memory runs out, what is
-/// kept is as before.
+/// Moves the answer to the question, if the others have one, in place of an earlier one. If memory
+/// runs out, what is kept is as before.
 fn move_answer(
     kept: &mut BTreeMap<Active, Kept>,
     others: &mut BTreeMap<Active, Kept>,
@@ -61,8 +61,8 @@ fn move_answer(
     Ok(())
 }
 
-/// Appends the questions to the journal, one after the other, and moves the answer to each, if the others have one. If
-/// memory runs out, this is done for those before.
+/// Appends the questions to the journal, one after the other, and moves the answer to each, if the
+/// others have one. If memory runs out, this is done for those before.
 pub(crate) fn absorb_answers(
     journal: &mut Vec<Active>,
     kept: &mut BTreeMap<Active, Kept>,
@@ -70,8 +70,10 @@ pub(crate) fn absorb_answers(
     others: BTreeMap<Active, Kept>,
 ) -> Result<(), Memory>
     ensures journal { OnOk result (journal.new.items ≡ journal.old.items ++ asked.now) }
-    ensures kept { (m : System) (i : ℕ) (keep : Bool) → AreAnswersKept m i keep journal.old.items kept.old
-        → AreAnswersKept m i keep asked.now others → AreAnswersKept m i keep journal.new.items kept.new }
+    ensures kept { (m : System) (i : ℕ) (keep : Bool)
+        → AreAnswersKept m i keep journal.old.items kept.old
+        → AreAnswersKept m i keep asked.now others
+        → AreAnswersKept m i keep journal.new.items kept.new }
 {
     let mut others = others;
     for question in asked {

@@ -19,7 +19,8 @@ use mcs_classical::Given;
 use mcs_system::System;
 use std::alloc::Global;
 
-/// The projected belief sets that the context accepts with the heads of the rules: each once, in the order of states.
+/// The projected belief sets that the context accepts with the heads of the rules: each once, in
+/// the order of states.
 pub fn accepted_parts(
     alloc: Global,
     system: &System,
@@ -27,7 +28,8 @@ pub fn accepted_parts(
     rules: Active,
 ) -> Result<Vec<Vars>, Memory>
     requires { context < length system.now.contexts }
-    ensures { IfOk result (λ parts. IsListing (IsAcceptedPart system.now context rules) StateBefore parts.items) }
+    ensures { IfOk result (λ parts. IsListing (IsAcceptedPart system.now context rules) StateBefore
+        parts.items) }
 {
     let mut known = None;
     let (parts, cert) = parts_with(alloc, false, &mut known, system, context, rules)?;
@@ -35,9 +37,10 @@ pub fn accepted_parts(
     Ok(parts)
 }
 
-/// The same, with a certificate if `certify` holds. What helps with later questions is kept in `known`. For a classical
-/// context these are the clauses of its formulas and what was found to follow. For a default theory without a
-/// certificate they are the clauses of its facts and what was found of it.
+/// The same, with a certificate if `certify` holds. What helps with later questions is kept in
+/// `known`. For a classical context these are the clauses of its formulas and what was found to
+/// follow. For a default theory without a certificate they are the clauses of its facts and what
+/// was found of it.
 pub(crate) fn parts_with(
     alloc: Global,
     certify: bool,
@@ -49,8 +52,10 @@ pub(crate) fn parts_with(
     requires context { context < length system.now.contexts }
     requires made { IsMadeOfContext system.now context known.old }
     ensures made { IsMadeOfContext system.now context known.new }
-    ensures exact { IfOk result (λ r. IsListing (IsAcceptedPart system.now context rules) StateBefore r.0.items) }
-    ensures certified { IfOk result (λ r. IsCertified certify (IsAccepted system.now context rules r.0.items) r.1) }
+    ensures exact { IfOk result (λ r. IsListing (IsAcceptedPart system.now context rules)
+        StateBefore r.0.items) }
+    ensures certified { IfOk result (λ r. IsCertified certify
+        (IsAccepted system.now context rules r.0.items) r.1) }
 {
     let assumptions = assumptions_into(alloc, system, context)?;
     let beliefs = beliefs_of(alloc, system, context)?;

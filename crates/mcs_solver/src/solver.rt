@@ -23,12 +23,13 @@ use std::marker::Model;
 use std::mem;
 use std::sync::Arc;
 
-/// Answers what one context of a system accepts, by the logic of its kind. It never lacks an answer. It keeps the
-/// journal of the questions asked. If it was made to, it keeps each answer with a certificate. For later questions it
-/// keeps the clauses of the formulas of a classical context. If it keeps no certificates, it also keeps what it found
-/// to follow, and of a default theory the clauses of its facts and what it found. A fork of it begins with what an
-/// earlier fork had found, if there is one that was absorbed and whose findings no other fork has. Of a context that no
-/// rule goes into it keeps nothing: there is one question to it.
+/// Answers what one context of a system accepts, by the logic of its kind. It never lacks an
+/// answer. It keeps the journal of the questions asked. If it was made to, it keeps each answer
+/// with a certificate. For later questions it keeps the clauses of the formulas of a classical
+/// context. If it keeps no certificates, it also keeps what it found to follow, and of a default
+/// theory the clauses of its facts and what it found. A fork of it begins with what an earlier fork
+/// had found, if there is one that was absorbed and whose findings no other fork has. Of a context
+/// that no rule goes into it keeps nothing: there is one question to it.
 #[derive(Drop)]
 pub struct LocalSolver {
     system: Arc<System>,
@@ -55,13 +56,16 @@ impl Model for LocalSolver {
 
     ghost view = { λ s. solver_with s.keep (arc_value s.system) s.context s.journal.items };
 
-    ghost invariant = { λ s. (s.context < length (arc_value s.system).contexts) × IsMadeOfContext (arc_value s.system) s.context s.known × AreAnswersKept (arc_value s.system) s.context s.keep s.journal.items s.kept × AreMadeOfContext (arc_value s.system) s.context s.spare.items };
+    ghost invariant = { λ s. (s.context < length (arc_value s.system).contexts)
+        × IsMadeOfContext (arc_value s.system) s.context s.known
+        × AreAnswersKept (arc_value s.system) s.context s.keep s.journal.items s.kept
+        × AreMadeOfContext (arc_value s.system) s.context s.spare.items };
 }
 
 impl LocalSolver {
-    /// The oracle of this context of the system. The context has to be one of the system's. No question was asked yet.
-    /// If `keep` holds, it keeps each answer with a certificate, and its origin is the one empty string; otherwise its
-    /// origin has no string.
+    /// The oracle of this context of the system. The context has to be one of the system's. No
+    /// question was asked yet. If `keep` holds, it keeps each answer with a certificate, and its
+    /// origin is the one empty string; otherwise its origin has no string.
     pub fn new(alloc: Global, system: Arc<System>, context: u32, keep: bool) -> LocalSolver
         requires { context < length (arc_value system).contexts }
         ensures { result ≡ solver_with keep (arc_value system) context [] }
@@ -69,8 +73,8 @@ impl LocalSolver {
         LocalSolver::taking(alloc, system, context, keep, Vec::new(alloc))
     }
 
-    /// The same, which takes over what others have found of the context: the last of it for itself, and the rest for its
-    /// forks.
+    /// The same, which takes over what others have found of the context: the last of it for itself,
+    /// and the rest for its forks.
     fn taking(
         alloc: Global,
         system: Arc<System>,
@@ -95,14 +99,17 @@ impl LocalSolver {
         }
     }
 
-    /// The answer to the question, with an accepted certificate: the outputs are what the context accepts with the
-    /// heads of these rules. `None` is returned exactly if the solver keeps no answers or the question is not in its
-    /// journal.
+    /// The answer to the question, with an accepted certificate: the outputs are what the context
+    /// accepts with the heads of these rules. `None` is returned exactly if the solver keeps no
+    /// answers or the question is not in its journal.
     pub fn certificate(&self, active: Active) -> Option<(&[Vars], &AnswerCert)>
-        ensures told { MatchOption result ((self.now.origin ≡ []) ⊎ (¬ IsAmong active self.now.journal))
+        ensures told { MatchOption result ((self.now.origin ≡ [])
+            ⊎ (¬ IsAmong active self.now.journal))
             (λ r. (self.now.origin ≡ [] ∷ []) × IsAmong active self.now.journal) }
-        ensures accepted { IfSome result (λ r. IsAccepted self.now.system self.now.context active r.0.now (plain_of r.1.now)) }
-        ensures answered { IfSome result (λ r. IsListing (IsAcceptedPart self.now.system self.now.context active) StateBefore r.0.now) }
+        ensures accepted { IfSome result (λ r. IsAccepted self.now.system self.now.context active
+            r.0.now (plain_of r.1.now)) }
+        ensures answered { IfSome result (λ r. IsListing
+            (IsAcceptedPart self.now.system self.now.context active) StateBefore r.0.now) }
     {
         let Some(kept) = self.kept.get(&active) else {
             return None;
@@ -163,7 +170,8 @@ impl Fork for LocalSolver {
 /// Lets go what was found of a context that no rule goes into. Nothing more can be asked of it.
 fn forget_whole(known: &mut Option<Known>, system: &System, context: u32)
     requires { context < length system.now.contexts }
-    ensures { IsMadeOfContext system.now context known.old → IsMadeOfContext system.now context known.new }
+    ensures { IsMadeOfContext system.now context known.old
+        → IsMadeOfContext system.now context known.new }
 {
     if system.rules_of(context).count() == 0 {
         drop(known.take());
@@ -172,7 +180,8 @@ fn forget_whole(known: &mut Option<Known>, system: &System, context: u32)
 
 /// What was found, and what one more has found behind it. Want of memory lets the latter go.
 fn with_known(found: Vec<Known>, known: Option<Known>) -> Vec<Known>
-    ensures { (m : plain.System) (i : ℕ) → AreMadeOfContext m i found.items → IsMadeOfContext m i known → AreMadeOfContext m i result.items }
+    ensures { (m : plain.System) (i : ℕ) → AreMadeOfContext m i found.items
+        → IsMadeOfContext m i known → AreMadeOfContext m i result.items }
 {
     let Some(known) = known else {
         return found;

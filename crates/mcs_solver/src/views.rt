@@ -1,6 +1,7 @@
 //! What a knowledge base accepts with heads, as views of beliefs, by the logic of its kind.
 
-ghost use Rattle.std.specs.Prelude.{◌≡◌, ◌≤◌, ℕ, List, [], ◌∷◌, None, length, map, IfOk, OnOk, IsTrue};
+ghost use Rattle.std.specs.Prelude.{◌≡◌, ◌≤◌, ℕ, List, [], ◌∷◌, None, length, map, IfOk, OnOk};
+ghost use Rattle.std.specs.Prelude.{IsTrue};
 ghost use Rattle.std.specs.List.{AllByRecursion};
 ghost use Rattle.mcs_sets.specs.Orders.{StateBefore};
 ghost use Rattle.mcs_base.specs.Listings.{IsListing};
@@ -17,8 +18,10 @@ ghost use Rattle.mcs_evidence.specs.Programs.{AreOverRules};
 ghost use Rattle.mcs_asking.specs.Certificates.{IsAcceptedFor};
 ghost use Rattle.mcs_asking.specs.Kinds.{IsOverKb, AreOfKind};
 ghost use Rattle.mcs_solver.specs.Certified.{IsCertified};
-ghost use Rattle.mcs_solver.specs.Kinds.{IsOnlyView, IsShownView, IsMadeOf, IsMadeOfFormulas, IsMadeOfItems};
-ghost use Rattle.mcs_solver.specs.Questions.{asked_names, asked_beliefs, asked_heads, AreAnswer, IsAnswerShown, IsMadeFor};
+ghost use Rattle.mcs_solver.specs.Kinds.{IsOnlyView, IsShownView, IsMadeOf, IsMadeOfFormulas};
+ghost use Rattle.mcs_solver.specs.Kinds.{IsMadeOfItems};
+ghost use Rattle.mcs_solver.specs.Questions.{asked_names, asked_beliefs, asked_heads, AreAnswer};
+ghost use Rattle.mcs_solver.specs.Questions.{IsAnswerShown, IsMadeFor};
 
 use crate::known::Known;
 use crate::question::Question;
@@ -33,9 +36,10 @@ use mcs_system::{Formula, Kb, Name, ProgRule, TheoryItem, names_of};
 use mcs_trace::ClassicalCert;
 use std::alloc::Global;
 
-/// The one view that a classical context accepts with the heads, which has the beliefs that follow, and its
-/// certificate. `known` has the clauses of its formulas. Those of the heads are added for the search and removed again.
-/// So `known` is as before, also if memory runs out, and can be used for the next question, with what was learnt.
+/// The one view that a classical context accepts with the heads, which has the beliefs that follow,
+/// and its certificate. `known` has the clauses of its formulas. Those of the heads are added for
+/// the search and removed again. So `known` is as before, also if memory runs out, and can be used
+/// for the next question, with what was learnt.
 fn view_with(
     alloc: Global,
     known: &mut ClauseBase,
@@ -46,9 +50,11 @@ fn view_with(
     requires room { length (given_names given.now) ≤ known.old.vars }
     ensures kept { known.new ≡ known.old }
     ensures exact { IfOk result
-        (λ r. IsOnlyView (given_names given.now) known.old (map (λ f. formula_of f.now) heads.now) (given_beliefs given.now) r.0) }
+        (λ r. IsOnlyView (given_names given.now) known.old (map (λ f. formula_of f.now) heads.now)
+        (given_beliefs given.now) r.0) }
     ensures shown { IfOk result
-        (λ r. IsShownView (given_names given.now) known.old (map (λ f. formula_of f.now) heads.now) (given_beliefs given.now) r.0 (certificate_of r.1)) }
+        (λ r. IsShownView (given_names given.now) known.old (map (λ f. formula_of f.now) heads.now)
+        (given_beliefs given.now) r.0 (certificate_of r.1)) }
 {
     let vars = known.vars();
     let count = known.count();
@@ -58,8 +64,8 @@ fn view_with(
     shown
 }
 
-/// Adds the clauses of the formulas, one formula after the other, and preprocesses them. If memory runs out, only those
-/// of the first ones are added.
+/// Adds the clauses of the formulas, one formula after the other, and preprocesses them. If memory
+/// runs out, only those of the first ones are added.
 fn keep_formulas(
     alloc: Global,
     known: &mut ClauseBase,
@@ -68,7 +74,8 @@ fn keep_formulas(
 ) -> Result<(), Memory>
     requires over { AreOver atoms.now (map formula_of formulas.now) }
     requires room { length atoms.now ≤ known.old.vars }
-    ensures { OnOk result (known.new ≡ with_formulas atoms.now known.old (map formula_of formulas.now)) }
+    ensures { OnOk result (known.new
+        ≡ with_formulas atoms.now known.old (map formula_of formulas.now)) }
 {
     for formula in formulas {
         add_formulas(alloc, known, &[formula], atoms)?;
@@ -91,8 +98,9 @@ fn made_clauses(alloc: Global, formulas: &[Formula], atoms: &[Name]) -> Result<C
     }
 }
 
-/// The clauses of the formulas, and what was found to follow from them. They are taken out of `known`, or made. If they
-/// are made, it is found at once that the beliefs follow that are literally among the formulas.
+/// The clauses of the formulas, and what was found to follow from them. They are taken out of
+/// `known`, or made. If they are made, it is found at once that the beliefs follow that are
+/// literally among the formulas.
 fn kept_formulas(
     alloc: Global,
     known: &mut Option<Known>,
@@ -101,8 +109,10 @@ fn kept_formulas(
 ) -> Result<(ClauseBase, Consequences), Memory>
     requires { AreOver asked.now.atoms.now (map formula_of formulas.now) }
     ensures made { IfOk result (λ r. (heads : ℕ → List plain.Formula)
-        → IsMadeOf asked.now.atoms.now (Classical (map formula_of formulas.now)) heads (map (λ f. formula_of f.now) asked.now.beliefs.now) known.old
-        → IsMadeOfFormulas asked.now.atoms.now (map formula_of formulas.now) heads (map (λ f. formula_of f.now) asked.now.beliefs.now) r.0 r.1) }
+        → IsMadeOf asked.now.atoms.now (Classical (map formula_of formulas.now)) heads
+        (map (λ f. formula_of f.now) asked.now.beliefs.now) known.old
+        → IsMadeOfFormulas asked.now.atoms.now (map formula_of formulas.now) heads
+        (map (λ f. formula_of f.now) asked.now.beliefs.now) r.0 r.1) }
     ensures none { known.new ≡ None }
 {
     match known.take() {
@@ -121,8 +131,8 @@ fn kept_formulas(
     }
 }
 
-/// The one view that a classical context accepts. `clauses` are those of its formulas. Without a certificate, what was
-/// found before is used as far as possible, and what is found is kept.
+/// The one view that a classical context accepts. `clauses` are those of its formulas. Without a
+/// certificate, what was found before is used as far as possible, and what is found is kept.
 fn followed_view(
     alloc: Global,
     clauses: &mut ClauseBase,
@@ -131,11 +141,16 @@ fn followed_view(
 ) -> Result<(Vars, Option<AnswerCert>), Memory>
     requires { length (asked_names question.now) ≤ clauses.old.vars }
     ensures kept { clauses.new ≡ clauses.old }
-    ensures right { (fs : List plain.Formula) → clauses.old ≡ clause_list (asked_names question.now) fs → AreOver (asked_names question.now) fs
-        → AreConsequencesOf question.now.given.now fs found.old → AreConsequencesOf question.now.given.now fs found.new }
-    ensures exact { IfOk result (λ r. (fs : List plain.Formula) → clauses.old ≡ clause_list (asked_names question.now) fs → AreOver (asked_names question.now) fs
-        → AreConsequencesOf question.now.given.now fs found.old → AreAnswer question.now (Classical fs) (r.0 ∷ [])) }
-    ensures certified { IfOk result (λ r. (fs : List plain.Formula) → clauses.old ≡ clause_list (asked_names question.now) fs → AreOver (asked_names question.now) fs
+    ensures right { (fs : List plain.Formula) → clauses.old
+        ≡ clause_list (asked_names question.now) fs → AreOver (asked_names question.now) fs
+        → AreConsequencesOf question.now.given.now fs found.old
+        → AreConsequencesOf question.now.given.now fs found.new }
+    ensures exact { IfOk result (λ r. (fs : List plain.Formula) → clauses.old
+        ≡ clause_list (asked_names question.now) fs → AreOver (asked_names question.now) fs
+        → AreConsequencesOf question.now.given.now fs found.old
+        → AreAnswer question.now (Classical fs) (r.0 ∷ [])) }
+    ensures certified { IfOk result (λ r. (fs : List plain.Formula) → clauses.old
+        ≡ clause_list (asked_names question.now) fs → AreOver (asked_names question.now) fs
         → IsAnswerShown question.now (Classical fs) (r.0 ∷ []) r.1) }
 {
     let given = question.given;
@@ -149,8 +164,8 @@ fn followed_view(
     }
 }
 
-/// The one view of no beliefs that a classical context accepts, whatever its formulas are, with a certificate if
-/// `certify` holds.
+/// The one view of no beliefs that a classical context accepts, whatever its formulas are, with a
+/// certificate if `certify` holds.
 fn view_of_nothing(alloc: Global, certify: bool) -> Result<(Vec<Vars>, Option<AnswerCert>), Memory>
     ensures exact { IfOk result (λ r. (fs : List plain.Formula)
         → IsListing (IsAcceptedView (Classical fs) []) StateBefore r.0.items) }
@@ -168,8 +183,8 @@ fn view_of_nothing(alloc: Global, certify: bool) -> Result<(Vec<Vars>, Option<An
     Ok((views, Some(AnswerCert::Classical(cert))))
 }
 
-/// The views that a classical context accepts. The clauses of its formulas are kept once they are made, with what was
-/// found to follow. Where no belief is asked for, none are made.
+/// The views that a classical context accepts. The clauses of its formulas are kept once they are
+/// made, with what was found to follow. Where no belief is asked for, none are made.
 fn classical_views(
     alloc: Global,
     known: &mut Option<Known>,
@@ -179,8 +194,10 @@ fn classical_views(
     requires formulas { AreOver (asked_names question.now) (map formula_of formulas.now) }
     requires made { IsMadeFor question.now (Classical (map formula_of formulas.now)) known.old }
     ensures made { IsMadeFor question.now (Classical (map formula_of formulas.now)) known.new }
-    ensures exact { IfOk result (λ r. AreAnswer question.now (Classical (map formula_of formulas.now)) r.0.items) }
-    ensures certified { IfOk result (λ r. IsAnswerShown question.now (Classical (map formula_of formulas.now)) r.0.items r.1) }
+    ensures exact { IfOk result (λ r. AreAnswer question.now
+        (Classical (map formula_of formulas.now)) r.0.items) }
+    ensures certified { IfOk result (λ r. IsAnswerShown question.now
+        (Classical (map formula_of formulas.now)) r.0.items r.1) }
 {
     if question.given.asked.beliefs.is_empty() {
         return view_of_nothing(alloc, question.certify);
@@ -207,8 +224,10 @@ fn kept_theory(
     asked: &Asked<'_>,
 ) -> Result<TheoryBase, Memory>
     requires { AreOverItems asked.now.atoms.now (map item_of items.now) }
-    ensures made { IfOk result (λ base. (heads : ℕ → List plain.Formula) (beliefs : List plain.Formula)
-        → IsMadeOf asked.now.atoms.now (DefaultTheory (map item_of items.now)) heads beliefs known.old
+    ensures made { IfOk result (λ base. (heads : ℕ → List plain.Formula)
+        (beliefs : List plain.Formula)
+        → IsMadeOf asked.now.atoms.now (DefaultTheory (map item_of items.now)) heads beliefs
+        known.old
         → IsMadeOfItems asked.now.atoms.now (map item_of items.now) heads base) }
     ensures none { known.new ≡ None }
 {
@@ -221,8 +240,8 @@ fn kept_theory(
     }
 }
 
-/// The views that a default theory accepts. Without a certificate, what was found before is used as far as possible,
-/// and what is found is kept.
+/// The views that a default theory accepts. Without a certificate, what was found before is used as
+/// far as possible, and what is found is kept.
 fn theory_views(
     alloc: Global,
     known: &mut Option<Known>,
@@ -233,8 +252,10 @@ fn theory_views(
     requires items { AreOverItems (asked_names question.now) (map item_of items.now) }
     requires made { IsMadeFor question.now (DefaultTheory (map item_of items.now)) known.old }
     ensures made { IsMadeFor question.now (DefaultTheory (map item_of items.now)) known.new }
-    ensures exact { IfOk result (λ r. AreAnswer question.now (DefaultTheory (map item_of items.now)) r.0.items) }
-    ensures certified { IfOk result (λ r. IsAnswerShown question.now (DefaultTheory (map item_of items.now)) r.0.items r.1) }
+    ensures exact { IfOk result (λ r. AreAnswer question.now
+        (DefaultTheory (map item_of items.now)) r.0.items) }
+    ensures certified { IfOk result (λ r. IsAnswerShown question.now
+        (DefaultTheory (map item_of items.now)) r.0.items r.1) }
 {
     let given = question.given;
     if question.certify {
@@ -256,10 +277,14 @@ fn program_views(
     question: &Question<'_>,
 ) -> Result<(Vec<Vars>, Option<AnswerCert>), Memory>
     requires rules { AreOverRules (asked_names question.now) (map rule_of rules.now) }
-    requires heads { AllByRecursion (λ (f : plain.Formula). IsTrue (is_atom f)) (asked_heads question.now) }
-    requires beliefs { AllByRecursion (λ (f : plain.Formula). IsTrue (is_atom f)) (asked_beliefs question.now) }
-    ensures exact { IfOk result (λ r. AreAnswer question.now (Program (map rule_of rules.now)) r.0.items) }
-    ensures certified { IfOk result (λ r. IsAnswerShown question.now (Program (map rule_of rules.now)) r.0.items r.1) }
+    requires heads { AllByRecursion (λ (f : plain.Formula). IsTrue (is_atom f))
+        (asked_heads question.now) }
+    requires beliefs { AllByRecursion (λ (f : plain.Formula). IsTrue (is_atom f))
+        (asked_beliefs question.now) }
+    ensures exact { IfOk result (λ r. AreAnswer question.now
+        (Program (map rule_of rules.now)) r.0.items) }
+    ensures certified { IfOk result (λ r. IsAnswerShown question.now
+        (Program (map rule_of rules.now)) r.0.items r.1) }
 {
     let given = question.given;
     let atoms = given.asked.atoms;
@@ -275,9 +300,10 @@ fn program_views(
     }
 }
 
-/// The views of the beliefs that the knowledge base accepts with the heads of the rules: each once, in the order of
-/// states. For a classical knowledge base the clauses are kept once they are made, with what was found to follow. For a
-/// default theory without a certificate the clauses of its facts are kept, with what was found of it.
+/// The views of the beliefs that the knowledge base accepts with the heads of the rules: each once,
+/// in the order of states. For a classical knowledge base the clauses are kept once they are made,
+/// with what was found to follow. For a default theory without a certificate the clauses of its
+/// facts are kept, with what was found of it.
 pub(crate) fn accepted_views(
     alloc: Global,
     known: &mut Option<Known>,

@@ -3,7 +3,8 @@
 ghost use Rattle.std.specs.Prelude.{◌≡◌, ◌<◌, ◌^◌, IfOk, IfSome};
 ghost use Rattle.std.specs.Option.{option_map};
 ghost use Rattle.mcs_spelling.specs.Parts.{SpellsNumber};
-ghost use Rattle.mcs_spelling.specs.Words.{with_digit, number_of_bytes, numbers_of, signed, literals_of_bytes};
+ghost use Rattle.mcs_spelling.specs.Words.{with_digit, number_of_bytes, numbers_of, signed};
+ghost use Rattle.mcs_spelling.specs.Words.{literals_of_bytes};
 
 use mcs_base::Memory;
 use std::alloc::Global;
@@ -11,8 +12,8 @@ use std::alloc::Global;
 /// The greatest number.
 const MOST: u64 = 9_223_372_036_854_775_807;
 
-/// The number with one more digit; the number of no digits is 0. `None` if the byte is no digit, or if the number would
-/// begin with 0 or be too large.
+/// The number with one more digit; the number of no digits is 0. `None` if the byte is no digit, or
+/// if the number would begin with 0 or be too large.
 #[tactic(auto, unfolding(crate::specs::Words::with_digit))]
 fn with_digit(number: u64, byte: u8) -> Option<u64>
     ensures value { result ≡ with_digit number byte }
@@ -40,8 +41,8 @@ fn number_in(bytes: &[u8]) -> Option<u64>
     if number == 0 { None } else { Some(number) }
 }
 
-/// The number from 1 to 2^63-1 that the bytes spell, in decimal without leading zeros. `None` exactly if they spell
-/// none.
+/// The number from 1 to 2^63-1 that the bytes spell, in decimal without leading zeros. `None`
+/// exactly if they spell none.
 pub fn read_number(bytes: &[u8]) -> Option<u64>
     ensures spelled { SpellsNumber bytes.now result }
     ensures exact { result ≡ number_of_bytes bytes.now }
@@ -49,7 +50,8 @@ pub fn read_number(bytes: &[u8]) -> Option<u64>
     number_in(bytes)
 }
 
-/// The numbers that the bytes spell: one or more, with one space between them. `None` if they spell none.
+/// The numbers that the bytes spell: one or more, with one space between them. `None` if they spell
+/// none.
 #[tactic(auto, unfolding(crate::specs::Words::numbers_of))]
 pub fn read_numbers(alloc: Global, bytes: &[u8]) -> Result<Option<Vec<u64>>, Memory>
     ensures { IfOk result (λ o. option_map (λ v. v.items) o ≡ numbers_of bytes.now) }
@@ -89,8 +91,8 @@ fn signed(size: u64, is_negative: bool) -> i64
     }
 }
 
-/// The literals that the bytes spell, each followed by one space; there may be none. `None` if the bytes are not of
-/// this form.
+/// The literals that the bytes spell, each followed by one space; there may be none. `None` if the
+/// bytes are not of this form.
 #[tactic(auto, unfolding(crate::specs::Words::literals_of_bytes))]
 pub fn read_literals(alloc: Global, bytes: &[u8]) -> Result<Option<Vec<i64>>, Memory>
     ensures { IfOk result (λ o. option_map (λ v. v.items) o ≡ literals_of_bytes bytes.now) }

@@ -1,4 +1,5 @@
-//! The parts of the lines of proofs, written and read: sets of atoms and of defaults, numbers, literals, steps.
+//! The parts of the lines of proofs, written and read: sets of atoms and of defaults, numbers,
+//! literals, steps.
 #![tactic(auto)]
 
 mod digits;

@@ -2,7 +2,8 @@
 
 ghost use Rattle.std.specs.Prelude.{◌≡◌, ◌++◌, map, OnOk, OnErr};
 ghost use Rattle.mcs_text.specs.Separated.{braced};
-ghost use Rattle.mcs_spelling.specs.Parts.{atom_text, atoms_text, default_places_text, defaults_text};
+ghost use Rattle.mcs_spelling.specs.Parts.{atom_text, atoms_text, default_places_text};
+ghost use Rattle.mcs_spelling.specs.Parts.{defaults_text};
 
 use mcs_base::{Members, Memory, Text, Vars};
 use mcs_system::Name;
@@ -32,8 +33,8 @@ fn push_atoms_at(text: &mut Text, names: &[Name], places: Members) -> Result<(),
     text.push(b"}")
 }
 
-/// Appends a set of atoms, in which bit i is the atom with the name at index i. Without memory the text stays as it
-/// was.
+/// Appends a set of atoms, in which bit i is the atom with the name at index i. Without memory the
+/// text stays as it was.
 pub fn push_atoms(text: &mut Text, names: &[Name], atoms: u64) -> Result<(), Memory>
     ensures ok { OnOk result (text.new ≡ text.old ++ atoms_text names.now atoms) }
     ensures err { OnErr result (text.new ≡ text.old) }
@@ -57,7 +58,8 @@ fn push_defaults_at(text: &mut Text, places: Members) -> Result<(), Memory>
     text.push(b"}")
 }
 
-/// Appends a set of defaults, in which bit i is default i+1. Without memory the text stays as it was.
+/// Appends a set of defaults, in which bit i is default i+1. Without memory the text stays as it
+/// was.
 pub fn push_defaults(text: &mut Text, set: u64) -> Result<(), Memory>
     ensures ok { OnOk result (text.new ≡ text.old ++ defaults_text set) }
     ensures err { OnErr result (text.new ≡ text.old) }

@@ -1,4 +1,5 @@
-//! Reading sets in lines. The members have to be in order, so one pass over all possible members finds them.
+//! Reading sets in lines. The members have to be in order, so one pass over all possible members
+//! finds them.
 
 ghost use Rattle.std.specs.Prelude.{◌≡◌, ◌≤◌, length, cond};
 ghost use Rattle.std.specs.Option.{option_copied};
@@ -39,7 +40,8 @@ fn after_allowed<'b>(
     is_first: bool,
     member: &[u8],
 ) -> Option<&'b [u8]>
-    ensures { option_copied result ≡ cond is_allowed (after_member bytes.now is_first member.now) None }
+    ensures { option_copied result
+        ≡ cond is_allowed (after_member bytes.now is_first member.now) None }
 {
     if is_allowed {
         after_member(bytes, is_first, member)
@@ -71,9 +73,10 @@ fn set_in(texts: &[Text], allowed: Vars, bytes: &[u8]) -> Option<Vars>
     }
 }
 
-/// The set of allowed numbers that the bytes spell: `{` and `}` around the texts of its members, which are in order,
-/// separated by a comma and a space. `texts` are those of the numbers from 0 on; there are at most 64. If they can be
-/// told apart, `None` is returned exactly if the bytes spell no such set.
+/// The set of allowed numbers that the bytes spell: `{` and `}` around the texts of its members,
+/// which are in order, separated by a comma and a space. `texts` are those of the numbers from 0
+/// on; there are at most 64. If they can be told apart, `None` is returned exactly if the bytes
+/// spell no such set.
 pub fn read_set(texts: &[Text], allowed: Vars, bytes: &[u8]) -> Option<Vars>
     requires { length texts.now ≤ 64 }
     ensures spelled { AreTellable texts.now → SpellsSet texts.now allowed bytes.now result }

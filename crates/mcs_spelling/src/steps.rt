@@ -38,7 +38,8 @@ fn step_in(alloc: Global, line: &[u8]) -> Result<Option<Step>, Memory>
     }
 }
 
-/// The resolution step that the line spells: `step LITERALS by CHAIN`. `None` exactly if it spells none.
+/// The resolution step that the line spells: `step LITERALS by CHAIN`. `None` exactly if it spells
+/// none.
 pub fn read_step(alloc: Global, line: &[u8]) -> Result<Option<Step>, Memory>
     ensures spelled { IfOk result (λ o. SpellsStep line.now (option_map inference_of o)) }
     ensures exact { IfOk result (λ o. option_map inference_of o ≡ step_of line.now) }

@@ -9,8 +9,8 @@ ghost use Rattle.mcs_trace.specs.Traces.{numbered_clause};
 use mcs_base::Rows;
 use mcs_trace::Clause;
 
-/// The clause with this number, counted from 1, or `None` if no clause has it. The clauses of the list come first, then
-/// those that were derived.
+/// The clause with this number, counted from 1, or `None` if no clause has it. The clauses of the
+/// list come first, then those that were derived.
 pub(crate) fn numbered<'a>(
     clauses: &'a [Clause],
     derived: &'a Rows<i64>,

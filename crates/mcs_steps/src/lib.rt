@@ -1,4 +1,5 @@
-//! Traces in the lines of a text, judged step by step as they are read: of a step nothing is kept but its clause.
+//! Traces in the lines of a text, judged step by step as they are read: of a step nothing is kept
+//! but its clause.
 #![tactic(auto)]
 
 mod derived;

@@ -8,7 +8,8 @@ use crate::words::{first_literal, first_number};
 use mcs_spelling::{find, strip};
 use mcs_trace::place;
 
-/// The parts of a line that is a step: the literals of its clause, each with a space after it, and its chain.
+/// The parts of a line that is a step: the literals of its clause, each with a space after it, and
+/// its chain.
 #[derive(Clone, Copy)]
 pub(crate) struct StepLine<'b> {
     pub literals: &'b [u8],

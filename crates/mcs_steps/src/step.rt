@@ -16,8 +16,9 @@ use mcs_base::{Memory, Rows};
 use mcs_trace::{Clause, resolve};
 use std::mem;
 
-/// Resolves the clause in `current` in turn with the clauses whose numbers the bytes spell, each after a space. Returns
-/// whether this can be done; `current` is then the last resolvent. The buffers are overwritten.
+/// Resolves the clause in `current` in turn with the clauses whose numbers the bytes spell, each
+/// after a space. Returns whether this can be done; `current` is then the last resolvent. The
+/// buffers are overwritten.
 fn resolve_all(
     clauses: &[Clause],
     derived: &Rows<i64>,
@@ -47,8 +48,8 @@ fn resolve_all(
     Ok(true)
 }
 
-/// Resolves the clauses in turn whose numbers the chain spells. Returns whether this can be done; `current` is then the
-/// last resolvent. The buffers are overwritten.
+/// Resolves the clauses in turn whose numbers the chain spells. Returns whether this can be done;
+/// `current` is then the last resolvent. The buffers are overwritten.
 fn derive(
     clauses: &[Clause],
     derived: &Rows<i64>,
@@ -91,8 +92,8 @@ fn are_spelled(literals: &[i64], bytes: &[u8]) -> bool
     left.is_empty()
 }
 
-/// Whether the clause of the step is the resolvent of its chain. If so, it is added to those that were derived. The
-/// buffers are overwritten.
+/// Whether the clause of the step is the resolvent of its chain. If so, it is added to those that
+/// were derived. The buffers are overwritten.
 pub(crate) fn judge_step(
     clauses: &[Clause],
     derived: &mut Rows<i64>,
@@ -101,7 +102,8 @@ pub(crate) fn judge_step(
     spare: &mut Vec<i64>,
 ) -> Result<bool, Memory>
     requires { AllByRecursion IsClause derived.old }
-    ensures { IfOk result (λ yes. (s : Inference) → Spells step.entry s → IsStepJudged clauses.now derived.old derived.new s yes) }
+    ensures { IfOk result (λ yes. (s : Inference) → Spells step.entry s
+        → IsStepJudged clauses.now derived.old derived.new s yes) }
 {
     if !derive(clauses, derived, step.chain, current, spare)? {
         return Ok(false);

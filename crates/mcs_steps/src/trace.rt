@@ -16,7 +16,8 @@ use mcs_proof_lines::{Lines, ReportFault, out_of_place};
 use mcs_trace::{Clause, Cnf};
 use std::alloc::Global;
 
-/// What is told of steps: whether each is right, and whether there is a last one and its clause is empty.
+/// What is told of steps: whether each is right, and whether there is a last one and its clause is
+/// empty.
 #[derive(Clone, Copy)]
 struct Judged {
     are_right: bool,
@@ -57,7 +58,8 @@ fn judge_next(
     judged: Judged,
 ) -> Result<Judged, Memory>
     requires { AllByRecursion IsClause derived.old }
-    ensures { IfOk result (λ now. (s : Inference) → Spells step.entry s → IsJudgedOn clauses.now derived.old derived.new s judged now) }
+    ensures { IfOk result (λ now. (s : Inference) → Spells step.entry s
+        → IsJudgedOn clauses.now derived.old derived.new s judged now) }
 {
     let ends_empty = step.literals.is_empty();
     if !judged.are_right {
@@ -73,7 +75,8 @@ fn judge_next(
     })
 }
 
-/// Judges the steps that are next. Each has to be the resolvent of clauses of the list and of steps before it.
+/// Judges the steps that are next. Each has to be the resolvent of clauses of the list and of steps
+/// before it.
 fn judge_steps(alloc: Global, clauses: &[Clause], lines: &mut Lines<'_>) -> Result<Judged, Memory>
     ensures { IfOk result (AreStepsJudged clauses.now lines.old lines.new) }
 {
@@ -98,9 +101,9 @@ fn judge_steps(alloc: Global, clauses: &[Clause], lines: &mut Lines<'_>) -> Resu
     Ok(judged)
 }
 
-/// Reads a trace, as `take_trace` does, and returns whether it is accepted as refuting the clauses: whether each step is
-/// the resolvent of clauses of the list and of steps before it, and the last one is empty. It is judged step by step: of
-/// the steps nothing is held but their clauses.
+/// Reads a trace, as `take_trace` does, and returns whether it is accepted as refuting the clauses:
+/// whether each step is the resolvent of clauses of the list and of steps before it, and the last
+/// one is empty. It is judged step by step: of the steps nothing is held but their clauses.
 #[tactic(auto, unfolding(mcs_proof_lines::specs::Walks::trace_at))]
 pub fn judge_trace(alloc: Global, known: &Cnf, lines: &mut Lines<'_>) -> Result<bool, ReportFault>
     ensures { Judges (IsAcceptedTrace known.now.clauses) result lines.new (trace_at lines.old) }

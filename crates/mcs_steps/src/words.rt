@@ -19,7 +19,8 @@ fn word_end(bytes: &[u8]) -> usize
 
 /// The number that is the first word of the bytes, and what follows it. `None` if it is none.
 pub fn first_number(bytes: &[u8]) -> Option<(u64, &[u8])>
-    ensures read { MatchOption result (numbers_of bytes.now ≡ None) (λ x. numbers_of bytes.now ≡ with_front x.0 (spaced_numbers x.1.now)) }
+    ensures read { MatchOption result (numbers_of bytes.now ≡ None)
+        (λ x. numbers_of bytes.now ≡ with_front x.0 (spaced_numbers x.1.now)) }
     ensures less { MatchOption result (Unit {0}) (λ x. length x.1.now < length bytes.now) }
 {
     let end = word_end(bytes);
@@ -50,11 +51,12 @@ fn literal_in(word: &[u8]) -> Option<i64>
     }
 }
 
-/// The literal that is the first word of the bytes, and what follows it and a space. `None` if it is none, or if no
-/// space follows.
+/// The literal that is the first word of the bytes, and what follows it and a space. `None` if it
+/// is none, or if no space follows.
 pub(crate) fn first_literal(bytes: &[u8]) -> Option<(i64, &[u8])>
     requires { ¬ (bytes.now ≡ []) }
-    ensures read { MatchOption result (literals_of_bytes bytes.now ≡ None) (λ x. literals_of_bytes bytes.now ≡ with_front x.0 (literals_of_bytes x.1.now)) }
+    ensures read { MatchOption result (literals_of_bytes bytes.now ≡ None)
+        (λ x. literals_of_bytes bytes.now ≡ with_front x.0 (literals_of_bytes x.1.now)) }
     ensures literal { MatchOption result (Unit {0}) (λ x. IsLiteral x.0) }
     ensures less { MatchOption result (Unit {0}) (λ x. length x.1.now < length bytes.now) }
 {

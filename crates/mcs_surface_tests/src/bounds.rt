@@ -7,7 +7,8 @@ use std::alloc::Global;
 use std::sync::Wait;
 use std::thread::Threads;
 
-/// Four times over, that each atom up to number 64 follows from the one before: 253 items with the first atom.
+/// Four times over, that each atom up to number 64 follows from the one before: 253 items with the
+/// first atom.
 const CHAIN: [Rows; 6] = [
     ("context c1 classical { a1.", 0, 1),
     (" a^ -> a#.", 2, 65),
@@ -36,8 +37,8 @@ const PROGRAM: [Rows; 3] = [
 const LAST_ATOM: &str =
     "mcs 1: 2 contexts, 1 rules, 1 variables\nequilibrium 1: {c1:a64} applicable {r1}\nconsistent\nend: 1 equilibria, need 2\n";
 
-/// That each of four pigeons sits in one of three holes and no two in one, and two rules that read whether the first
-/// one sits in the first.
+/// That each of four pigeons sits in one of three holes and no two in one, and two rules that read
+/// whether the first one sits in the first.
 const FOUR_IN_THREE: [Rows; 12] = [
     ("context c classical {", 0, 1),
     (" p0_0 | p0_1 | p0_2.", 0, 1),
@@ -90,12 +91,14 @@ const BOTH_SEATS: &str =
 const NO_SEAT: &str =
     "mcs 1: 2 contexts, 2 rules, 2 variables\nequilibrium 1: {} applicable {}\nconsistent\nend: 1 equilibria, need 2\n";
 
-/// Each of the eight variables supports itself and nothing else, so every set of them is an equilibrium.
+/// Each of the eight variables supports itself and nothing else, so every set of them is an
+/// equilibrium.
 const EIGHT_FREE: &str = "context c classical {}
 bridge r1: c:a1 if c:a1. bridge r2: c:a2 if c:a2. bridge r3: c:a3 if c:a3. bridge r4: c:a4 if c:a4.
 bridge r5: c:a5 if c:a5. bridge r6: c:a6 if c:a6. bridge r7: c:a7 if c:a7. bridge r8: c:a8 if c:a8.";
 
-/// Of two states the one that holds the first variable in which they differ comes first, so the full one does.
+/// Of two states the one that holds the first variable in which they differ comes first, so the
+/// full one does.
 const EIGHT_FREE_FRONT: &str =
     "mcs 1: 1 contexts, 8 rules, 8 variables\nequilibrium 1: {c:a1, c:a2, c:a3, c:a4, c:a5, c:a6, c:a7, c:a8} applicable {r1, r2, r3, r4, r5, r6, r7, r8}\nequilibrium 2: {c:a1, c:a2, c:a3, c:a4, c:a5, c:a6, c:a7} applicable {r1, r2, r3, r4, r5, r6, r7}\n";
 
@@ -113,10 +116,10 @@ fn lines(bytes: &[u8]) -> usize {
     count
 }
 
-/// Whether this is a heading, 256 equilibria, a verdict and an end. The lines of the equilibria have 31 bytes each
-/// beside numbers, variables and rules, and 660 digits in all. The 1024 members of their states have 4 bytes each and
-/// as many rules 2; what separates two neighbours, 769 times in the states and as often in the rules, has 2. The other
-/// lines have 40, 11 and 30.
+/// Whether this is a heading, 256 equilibria, a verdict and an end. The lines of the equilibria
+/// have 31 bytes each beside numbers, variables and rules, and 660 digits in all. The 1024 members
+/// of their states have 4 bytes each and as many rules 2; what separates two neighbours, 769 times
+/// in the states and as often in the rules, has 2. The other lines have 40, 11 and 30.
 fn are_all_sets(written: &[u8]) -> bool {
     lines(written) == 259
         && written.len() == 256 * 31 + 660 + 1024 * 6 + 769 * 4 + 81
@@ -137,8 +140,8 @@ fn all_sets_of_8_variables_are_listed(rt: HostRuntime) {
     assert!(rt; are_all_sets_listed(&rt, rt.alloc()) == Ok(true));
 }
 
-/// 64 contexts and 64 rules, of which 12 go into the first context and one into each of the last 52: the last context
-/// supports the first, and the first the others.
+/// 64 contexts and 64 rules, of which 12 go into the first context and one into each of the last
+/// 52: the last context supports the first, and the first the others.
 const WIDE: [Rows; 3] = [
     ("context n# classical {}\n", 0, 64),
     ("bridge r#: n0:x# if n63:y.\n", 0, 12),

@@ -9,7 +9,8 @@ use std::sync::Wait;
 use std::sync::atomic::{AtomicBool, AtomicU64, Ordering};
 use std::thread::Threads;
 
-/// A gate that keeps each caller for a question to the second context, until it sees two of them inside.
+/// A gate that keeps each caller for a question to the second context, until it sees two of them
+/// inside.
 #[derive(Drop)]
 struct Crowd {
     inside: AtomicU64,
@@ -46,8 +47,9 @@ impl Gate for Crowd {
     }
 }
 
-/// Eight rules into the second context, of which the first is against it. It has a question for each set of them: one
-/// of level 0, 8 more of level 1, 28 of level 2, 56 of level 3, 70 of level 4, and so on.
+/// Eight rules into the second context, of which the first is against it. It has a question for
+/// each set of them: one of level 0, 8 more of level 1, 28 of level 2, 56 of level 3, 70 of level
+/// 4, and so on.
 const EIGHT: &str = "context c1 program { a. } context c2 program { :- p1. }
 bridge r1: c2:p1 if c1:a. bridge r2: c2:p2 if c1:a. bridge r3: c2:p3 if c1:a. bridge r4: c2:p4 if c1:a.
 bridge r5: c2:p5 if c1:a. bridge r6: c2:p6 if c1:a. bridge r7: c2:p7 if c1:a. bridge r8: c2:p8 if c1:a.";

@@ -47,11 +47,13 @@ impl Gate for Counts {
     }
 }
 
-/// The first context has one question. The second has one of level 0, two more of level 1 and one more of level 2.
+/// The first context has one question. The second has one of level 0, two more of level 1 and one
+/// more of level 2.
 pub(crate) const FORBIDDEN: &str = "context c1 program { a. } context c2 program { :- p. :- q. }
 bridge r1: c2:p if c1:a. bridge r2: c2:q if not c1:b.";
 
-/// Whether the words over the system end with this status, and these are the questions that the gate was called before.
+/// Whether the words over the system end with this status, and these are the questions that the
+/// gate was called before.
 fn is_called<R: Threads + Wait + Sync>(
     rt: &R,
     alloc: Global,
@@ -67,8 +69,8 @@ fn is_called<R: Threads + Wait + Sync>(
     Ok(ended == Ok(status) && gate.counted() == counted)
 }
 
-/// Words, the status with which they end, and the questions. Where the budget does not suffice for a context, nothing
-/// is asked of it at that level.
+/// Words, the status with which they end, and the questions. Where the budget does not suffice for
+/// a context, nothing is asked of it at that level.
 const CALLS: [(&str, u8, (u64, u64, u64)); 4] = [
     ("equilibria f", 0, (1, 1, 0)),
     ("solve f", 0, (1, 4, 0)),

@@ -1,5 +1,5 @@
-//! Tests of mcs_words and mcs_top, over the libraries alone: words that ask for a job, and runs over devices in
-//! memory, from the text of a system to its listing.
+//! Tests of mcs_words and mcs_top, over the libraries alone: words that ask for a job, and runs
+//! over devices in memory, from the text of a system to its listing.
 #![tactic(auto)]
 
 #[cfg(test)]

@@ -3,8 +3,8 @@
 use mcs_base::{Memory, Text};
 use std::alloc::Global;
 
-/// A row, and from and up to before which number it stands. Each `#` in it stands for the number, and each `^` for the
-/// one before.
+/// A row, and from and up to before which number it stands. Each `#` in it stands for the number,
+/// and each `^` for the one before.
 pub type Rows = (&'static str, u64, u64);
 
 /// Appends the row for the number.

@@ -58,7 +58,8 @@ pub fn sink_of(alloc: Global) -> Result<MemorySink, Memory> {
     MemorySink::new(alloc, Vec::new(alloc), ROOM, ROOM)
 }
 
-/// What the words give over these files, with a gate before each question: the status by its number, and the trail.
+/// What the words give over these files, with a gate before each question: the status by its
+/// number, and the trail.
 pub fn run_with<G: Gate + Sync, R: Threads + Wait + Sync>(
     rt: &R,
     alloc: Global,
@@ -73,7 +74,8 @@ pub fn run_with<G: Gate + Sync, R: Threads + Wait + Sync>(
     Ok((status.number(), trail))
 }
 
-/// What the words give over these files, with a gate before each question: the status by its number.
+/// What the words give over these files, with a gate before each question: the status by its
+/// number.
 pub fn status_with<G: Gate + Sync, R: Threads + Wait + Sync>(
     rt: &R,
     alloc: Global,

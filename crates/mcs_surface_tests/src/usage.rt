@@ -21,7 +21,8 @@ fn all_end<R: Threads + Wait + Sync>(
     Ok(true)
 }
 
-/// Words that ask for no job, at first none at all. Where a line ends or begins with a space, an empty word stands.
+/// Words that ask for no job, at first none at all. Where a line ends or begins with a space, an
+/// empty word stands.
 const NO_JOBS: &str =
     "\nequilibria\nequilibria \nequilibria -\nsolve\nsolve f --proof --proof\ncheck f\nsolve f --workers 0\nsolve f --budget 5 --budget 5\nequilibria f f\nsolution f\nEquilibria f\nf equilibria\n f";
 

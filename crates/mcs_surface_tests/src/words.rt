@@ -116,7 +116,8 @@ fn asks_for_none(alloc: Global, line: &str) -> Result<bool, Memory> {
     Ok(read_words(alloc, &words).err() == Some(WordsFault::Usage))
 }
 
-/// Words that ask for no job, at first none at all. Where two spaces stand together, a word is empty.
+/// Words that ask for no job, at first none at all. Where two spaces stand together, a word is
+/// empty.
 const NO_JOBS: &str = "
 equilibria
 equilibria  --budget 5

@@ -1,4 +1,5 @@
-//! Runs by several workers: what is printed, what their last round leaves to be seen, and that they work at once.
+//! Runs by several workers: what is printed, what their last round leaves to be seen, and that they
+//! work at once.
 
 use crate::budgets::{RUNS, TOLD};
 use crate::gates::FORBIDDEN;
@@ -96,7 +97,8 @@ fn budgets_are_the_same_for_each_number_of_workers(rt: HostRuntime) {
     }
 }
 
-/// Whether the counts of the generated system of this number are the same with each number of workers as with one.
+/// Whether the counts of the generated system of this number are the same with each number of
+/// workers as with one.
 fn is_made_same<R: Threads + Wait + Sync>(
     rt: &R,
     alloc: Global,
@@ -115,7 +117,8 @@ fn generated_systems_are_counted_the_same(rt: HostRuntime) {
     }
 }
 
-/// Words over a text, and what the last round leaves to be seen: how many letters each inbox got, and the total.
+/// Words over a text, and what the last round leaves to be seen: how many letters each inbox got,
+/// and the total.
 struct Traced {
     words: &'static str,
     text: &'static str,
@@ -210,7 +213,8 @@ fn the_last_round_is_shown(rt: HostRuntime) {
     }
 }
 
-/// Whether the total is shown that is above the budget: of level 1, which has one question more than two.
+/// Whether the total is shown that is above the budget: of level 1, which has one question more
+/// than two.
 fn is_spent_shown<R: Threads + Wait + Sync>(rt: &R, alloc: Global) -> Result<bool, Memory> {
     let mut sink = sink_of(alloc)?;
     let files: [(&str, &[u8]); 1] = [("f", TOLD.as_bytes())];
@@ -269,7 +273,8 @@ const TWO: &str = "context c1 program {} context c2 program {}";
 const TWO_LISTING: &str =
     "mcs 1: 2 contexts, 0 rules, 0 variables\nequilibrium 1: {} applicable {}\nconsistent\nend: 1 equilibria, need 2\n";
 
-/// How many of the two contexts met the other at the gate; `None` if the listing is not the one of both.
+/// How many of the two contexts met the other at the gate; `None` if the listing is not the one of
+/// both.
 fn met<R: Threads + Wait + Sync>(
     rt: &R,
     alloc: Global,

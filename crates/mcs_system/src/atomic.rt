@@ -25,7 +25,8 @@ fn name_of(formula: &Formula) -> &Name
 /// The names of formulas that are atoms, in their order.
 pub fn names_of<'f>(alloc: Global, formulas: &[&'f Formula]) -> Result<Vec<&'f Name>, Memory>
     requires { AllByRecursion (λ f. IsTrue (is_atom (formula_of f.now))) formulas.now }
-    ensures { IfOk result (λ names. map Atom (map (λ n. n.now) names.items) ≡ map (λ f. formula_of f.now) formulas.now) }
+    ensures { IfOk result (λ names. map Atom (map (λ n. n.now) names.items)
+        ≡ map (λ f. formula_of f.now) formulas.now) }
 {
     let mut names = Vec::new(alloc);
     for formula in formulas {

@@ -1,4 +1,5 @@
-//! The atoms of a context: those of its items, of the heads of the rules into it, and of its variables.
+//! The atoms of a context: those of its items, of the heads of the rules into it, and of its
+//! variables.
 
 ghost use Rattle.std.specs.Prelude.{◌≡◌, ◌<◌, ◌≤◌, List, map, length, IfOk, IfErr, [], ◌∷◌};
 ghost use Rattle.std.specs.List.{flat_map};
@@ -7,7 +8,8 @@ ghost use Rattle.mcs_system.specs.Atoms.{item_atoms, rule_atoms, kb_atoms, atoms
 ghost use Rattle.mcs_system.specs.Gathered.{GathersNames, IsLimitDue, head_atoms, belief_atoms};
 ghost use Rattle.mcs_system.specs.Logic.{is_in, atoms};
 ghost use Rattle.mcs_system.specs.Plain.{Name};
-ghost use Rattle.mcs_system.specs.Seen.{formula_of, rule_of, item_of, kb_of, read_of, bridge_of, system_of};
+ghost use Rattle.mcs_system.specs.Seen.{formula_of, rule_of, item_of, kb_of, read_of, bridge_of};
+ghost use Rattle.mcs_system.specs.Seen.{system_of};
 ghost use Rattle.mcs_system.specs.Systems.{variables};
 
 use crate::bridge::{Bridge, Read};
@@ -124,7 +126,8 @@ fn add_head(
     context: u32,
     found: &mut Vec<Name>,
 ) -> Result<(), BuildFault>
-    ensures { GathersNames found.old.items found.new.items (head_atoms context (bridge_of bridge.now)) result }
+    ensures { GathersNames found.old.items found.new.items
+        (head_atoms context (bridge_of bridge.now)) result }
 {
     if bridge.target == context {
         bridge.head.add_atoms(alloc, found)
@@ -156,7 +159,8 @@ fn add_belief(
     context: u32,
     found: &mut Vec<Name>,
 ) -> Result<(), BuildFault>
-    ensures { GathersNames found.old.items found.new.items (belief_atoms context (read_of read.now)) result }
+    ensures { GathersNames found.old.items found.new.items
+        (belief_atoms context (read_of read.now)) result }
 {
     if read.context == context {
         read.belief.add_atoms(alloc, found)
@@ -181,8 +185,9 @@ fn add_beliefs(
     Ok(())
 }
 
-/// The atoms of a context, by first occurrence: in its items, in the heads of the rules into it, in its variables.
-/// `known` are the variables of the system. Refuses if there are more atoms than the limit.
+/// The atoms of a context, by first occurrence: in its items, in the heads of the rules into it, in
+/// its variables. `known` are the variables of the system. Refuses if there are more atoms than the
+/// limit.
 pub(crate) fn atoms_of(
     alloc: Global,
     contexts: &[Context],
@@ -192,10 +197,12 @@ pub(crate) fn atoms_of(
 ) -> Result<Vec<Name>, BuildFault>
     requires in_range { context < length contexts.now }
     requires variables { map read_of known.now ≡ variables (system_of contexts.now bridges.now) }
-    ensures atoms { IfOk result (λ v. v.items ≡ atoms_of (system_of contexts.now bridges.now) context) }
+    ensures atoms { IfOk result (λ v. v.items
+        ≡ atoms_of (system_of contexts.now bridges.now) context) }
     ensures few { IfOk result (λ v. length v.items ≤ 64) }
     ensures many { IfErr result
-        (IsLimitDue AtomsPerContext (64 < length (atoms_of (system_of contexts.now bridges.now) context))) }
+        (IsLimitDue AtomsPerContext (64 < length (atoms_of
+        (system_of contexts.now bridges.now) context))) }
 {
     let mut found = Vec::new(alloc);
     contexts[context as usize].kb.add_atoms(alloc, &mut found)?;

@@ -40,9 +40,9 @@ impl Copied for Read {
     }
 }
 
-/// A bridge rule: it adds its head to the target if each positive read is believed and no negative one is. A repair may
-/// not remove a rule that is `keep`, and may not force one that is `closed`. The weight is the cost of removing or
-/// forcing the rule; it does not affect repairs yet.
+/// A bridge rule: it adds its head to the target if each positive read is believed and no negative
+/// one is. A repair may not remove a rule that is `keep`, and may not force one that is `closed`.
+/// The weight is the cost of removing or forcing the rule; it does not affect repairs yet.
 #[derive(PartialEq, Drop)]
 pub struct Bridge {
     pub name: Name,

@@ -1,7 +1,9 @@
-//! What a system keeps of its contexts and bridge rules, or the first of their faults in the order of their numbers.
+//! What a system keeps of its contexts and bridge rules, or the first of their faults in the order
+//! of their numbers.
 
 ghost use Rattle.std.specs.Prelude.{◌≡◌, IfOk, IfErr};
-ghost use Rattle.mcs_system.specs.Built.{first_flaw, first_limits, last_limits, IsFaultOf, IsSystemKept};
+ghost use Rattle.mcs_system.specs.Built.{first_flaw, first_limits, last_limits, IsFaultOf};
+ghost use Rattle.mcs_system.specs.Built.{IsSystemKept};
 ghost use Rattle.mcs_system.specs.Faults.{first_exceeded};
 ghost use Rattle.mcs_system.specs.Seen.{system_of};
 

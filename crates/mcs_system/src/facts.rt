@@ -42,7 +42,9 @@ pub fn with_facts(
     rules: &[ProgRule],
     added: &[&Name],
 ) -> Result<Vec<ProgRule>, Memory>
-    ensures { IfOk result (λ all. map rule_of all.items ≡ map rule_of rules.now ++ filter_map fact_of (map plain.Atom (map (λ b. b.now) added.now))) }
+    ensures { IfOk result (λ all. map rule_of all.items
+        ≡ map rule_of rules.now ++ filter_map fact_of
+        (map plain.Atom (map (λ b. b.now) added.now))) }
 {
     let mut all = copies(alloc, rules)?;
     for name in added {
@@ -57,7 +59,8 @@ pub fn with_heads(
     rules: &[ProgRule],
     heads: &[&Formula],
 ) -> Result<Vec<ProgRule>, Memory>
-    ensures { IfOk result (λ all. map rule_of all.items ≡ map rule_of rules.now ++ filter_map fact_of (map (λ f. formula_of f.now) heads.now)) }
+    ensures { IfOk result (λ all. map rule_of all.items
+        ≡ map rule_of rules.now ++ filter_map fact_of (map (λ f. formula_of f.now) heads.now)) }
 {
     let mut all = copies(alloc, rules)?;
     for head in heads {

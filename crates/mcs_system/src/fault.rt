@@ -7,13 +7,13 @@ ghost use Rattle.mcs_system.specs.declared.fault.BuildFault.TheVariants.{Fault, 
 use crate::limit::Limit;
 use std::alloc::{AllocError, AllocFailed};
 
-/// Why no system was built: memory ran out, or the lists have the fault of this number. `limit` is given exactly for
-/// number 5.
+/// Why no system was built: memory ran out, or the lists have the fault of this number. `limit` is
+/// given exactly for number 5.
 ///
 /// - 2: a context number is out of range.
 /// - 3: two contexts, or two bridge rules, have the same name.
-/// - 4: the head of a rule into a program or a belief of a program is not an atom, a bridge rule has the weight 0, or a
-///   default has no justification.
+/// - 4: the head of a rule into a program or a belief of a program is not an atom, a bridge rule
+///   has the weight 0, or a default has no justification.
 /// - 5: a limit is exceeded.
 #[derive(Clone, Copy, Debug, PartialEq, Eq)]
 pub enum BuildFault {
@@ -28,8 +28,8 @@ pub(crate) enum Flaw {
     UnknownContext,
     /// Two contexts, or two bridge rules, have the same name.
     TwinNames,
-    /// The head of a rule into a program or a belief of a program is not an atom, a bridge rule has the weight 0, or a
-    /// default has no justification.
+    /// The head of a rule into a program or a belief of a program is not an atom, a bridge rule has
+    /// the weight 0, or a default has no justification.
     Misfits,
 }
 

@@ -1,13 +1,22 @@
 //! The tests that decide whether lists of contexts and bridge rules make a system.
 
-ghost use Rattle.std.specs.Prelude.{◌≡◌, ◌&&◌, IfOk, List, not, nat_eq, nat_lt, count_by, map, min, slice_get};
+ghost use Rattle.std.specs.Prelude.{◌≡◌, ◌&&◌, IfOk, List, not, nat_eq, nat_lt, count_by, map, min};
+ghost use Rattle.std.specs.Prelude.{slice_get};
 ghost use Rattle.std.specs.List.{list_any};
 ghost use Rattle.mcs_system.specs.declared.bridge.Bridge.{Bridge};
 ghost use Rattle.mcs_system.specs.declared.knowledge.Context.{Context};
-ghost use Rattle.mcs_system.specs.declared.limit.Limit.TheVariants.{RulesPerContext, DefaultsPerContext, ItemsPerContext, Weight, FormulaSize};
-ghost use Rattle.mcs_system.specs.Faults.{default_count, exceeds, has_large_formula, has_large_item, has_large_part, has_misfit, has_misfits, has_twins, has_twin_names, has_unjustified, has_unknown_context, is_atom, is_large, is_large_rule, is_program, is_unjustified, points_outside};
+ghost use Rattle.mcs_system.specs.declared.limit.Limit.TheVariants.{RulesPerContext};
+ghost use Rattle.mcs_system.specs.declared.limit.Limit.TheVariants.{DefaultsPerContext};
+ghost use Rattle.mcs_system.specs.declared.limit.Limit.TheVariants.{ItemsPerContext, Weight};
+ghost use Rattle.mcs_system.specs.declared.limit.Limit.TheVariants.{FormulaSize};
+ghost use Rattle.mcs_system.specs.Faults.{default_count, exceeds, has_large_formula};
+ghost use Rattle.mcs_system.specs.Faults.{has_large_item, has_large_part, has_misfit, has_misfits};
+ghost use Rattle.mcs_system.specs.Faults.{has_twins, has_twin_names, has_unjustified};
+ghost use Rattle.mcs_system.specs.Faults.{has_unknown_context, is_atom, is_large, is_large_rule};
+ghost use Rattle.mcs_system.specs.Faults.{is_program, is_unjustified, points_outside};
 ghost use Rattle.mcs_system.specs.Plain.{Name};
-ghost use Rattle.mcs_system.specs.Seen.{bridge_of, context_of, formula_of, formula_size, item_of, kb_of, rule_of, system_of};
+ghost use Rattle.mcs_system.specs.Seen.{bridge_of, context_of, formula_of, formula_size, item_of};
+ghost use Rattle.mcs_system.specs.Seen.{kb_of, rule_of, system_of};
 
 use crate::bridge::{Bridge, Read};
 use crate::formula::Formula;
@@ -24,7 +33,8 @@ fn any_outside(count: usize, reads: &[Read]) -> bool
     reads.iter().any(|read| read.context as usize >= count)
 }
 
-/// Whether the target of the rule, or a context that it reads, has a number that is not below `count`.
+/// Whether the target of the rule, or a context that it reads, has a number that is not below
+/// `count`.
 #[tactic(auto, using(mcs_base::proofs::Ranges::any_of_both))]
 fn points_outside(count: usize, bridge: &Bridge) -> bool
     ensures { result ≡ points_outside count (bridge_of bridge.now) }
@@ -113,7 +123,8 @@ fn is_misfit(contexts: &[Context], number: u32, formula: &Formula) -> bool
 /// Whether some read is of a program and its belief is not an atom.
 fn any_misfit(contexts: &[Context], reads: &[Read]) -> bool
     ensures { result ≡ list_any
-        (λ r. is_program (slice_get (map context_of contexts.now) r.context) && not (is_atom (formula_of r.belief)))
+        (λ r. is_program (slice_get (map context_of contexts.now) r.context) && not
+        (is_atom (formula_of r.belief)))
         reads.now }
 {
     reads
@@ -121,7 +132,8 @@ fn any_misfit(contexts: &[Context], reads: &[Read]) -> bool
         .any(|read| is_misfit(contexts, read.context, &read.belief))
 }
 
-/// Whether the rule has the weight 0, or has a head into a program or a read of a program that is not an atom.
+/// Whether the rule has the weight 0, or has a head into a program or a read of a program that is
+/// not an atom.
 #[tactic(auto, using(mcs_base::proofs::Ranges::any_of_both))]
 fn has_misfit(contexts: &[Context], bridge: &Bridge) -> bool
     ensures { result ≡ has_misfit (map context_of contexts.now) (bridge_of bridge.now) }
@@ -132,9 +144,11 @@ fn has_misfit(contexts: &[Context], bridge: &Bridge) -> bool
         || any_misfit(contexts, &bridge.neg)
 }
 
-/// Whether some rule has the weight 0, or has a head into a program or a read of a program that is not an atom.
+/// Whether some rule has the weight 0, or has a head into a program or a read of a program that is
+/// not an atom.
 fn any_rule_misfit(contexts: &[Context], bridges: &[Bridge]) -> bool
-    ensures { result ≡ list_any (λ b. has_misfit (map context_of contexts.now) (bridge_of b)) bridges.now }
+    ensures { result
+        ≡ list_any (λ b. has_misfit (map context_of contexts.now) (bridge_of b)) bridges.now }
 {
     bridges.iter().any(|bridge| has_misfit(contexts, bridge))
 }
@@ -176,8 +190,8 @@ fn any_unjustified(contexts: &[Context]) -> bool
         .any(|context| has_unjustified_default(&context.kb))
 }
 
-/// Whether some default has no justification, or some rule has the weight 0, or has a head into a program or a read of
-/// a program that is not an atom.
+/// Whether some default has no justification, or some rule has the weight 0, or has a head into a
+/// program or a read of a program that is not an atom.
 #[tactic(auto, using(mcs_base::proofs::Ranges::any_of_map))]
 pub(crate) fn has_misfits(contexts: &[Context], bridges: &[Bridge]) -> bool
     ensures { result ≡ has_misfits (system_of contexts.now bridges.now) }
@@ -250,7 +264,8 @@ pub(crate) fn has_heavy_rule(bridges: &[Bridge]) -> bool
     bridges.iter().any(|bridge| Limit::Weight.is_exceeded_by(bridge.weight as usize))
 }
 
-/// How many atoms, constants and connectives the formula has; if there are more than the limit, the limit and one.
+/// How many atoms, constants and connectives the formula has; if there are more than the limit, the
+/// limit and one.
 fn capped_size(formula: &Formula) -> usize
     ensures { result ≡ min (formula_size (formula_of formula.now)) 513 }
 {

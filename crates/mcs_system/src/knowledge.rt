@@ -11,8 +11,8 @@ use crate::name::Name;
 use mcs_base::Memory;
 use std::alloc::Global;
 
-/// A default (Reiter 1980): if the prerequisite is believed and the negation of no justification is, the consequent is
-/// believed.
+/// A default (Reiter 1980): if the prerequisite is believed and the negation of no justification
+/// is, the consequent is believed.
 #[derive(PartialEq, Drop)]
 pub struct Default {
     pub pre: Formula,
@@ -41,8 +41,8 @@ impl Default {
     }
 }
 
-/// A rule of a disjunctive program: if all positive body atoms hold and no negative one does, one of the head atoms
-/// holds.
+/// A rule of a disjunctive program: if all positive body atoms hold and no negative one does, one
+/// of the head atoms holds.
 #[derive(PartialEq, Drop)]
 pub struct ProgRule {
     pub head: Vec<Name>,

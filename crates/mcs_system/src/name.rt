@@ -11,7 +11,8 @@ use mcs_base::{Memory, is_name};
 use std::alloc::Global;
 use std::marker::Model;
 
-/// A name: a letter or `_`, then letters, digits and `_`. It has at most 64 bytes and is no reserved word.
+/// A name: a letter or `_`, then letters, digits and `_`. It has at most 64 bytes and is no
+/// reserved word.
 #[derive(Drop)]
 pub struct Name {
     bytes: Vec<u8>,

@@ -1,10 +1,14 @@
-//! Each name in a system satisfies the definition of a name. `Name::bytes` ensures this for one name; the functions
-//! here call it for all names of a value, so that their contracts say it of the whole value. They compute nothing.
+//! Each name in a system satisfies the definition of a name. `Name::bytes` ensures this for one
+//! name; the functions here call it for all names of a value, so that their contracts say it of the
+//! whole value. They compute nothing.
 
 ghost use Rattle.std.specs.Prelude.{map};
 ghost use Rattle.std.specs.List.{AllByRecursion};
-ghost use Rattle.mcs_system.specs.Seen.{formula_of, default_of, item_of, rule_of, context_of, read_of, bridge_of, system_of};
-ghost use Rattle.mcs_system.specs.Naming.{IsName, AreNames, IsNamedFormula, IsNamedDefault, IsNamedItem, IsNamedRule, IsNamedContext, AreNamedReads, IsNamedBridge, IsSystemNamed};
+ghost use Rattle.mcs_system.specs.Seen.{formula_of, default_of, item_of, rule_of, context_of};
+ghost use Rattle.mcs_system.specs.Seen.{read_of, bridge_of, system_of};
+ghost use Rattle.mcs_system.specs.Naming.{IsName, AreNames, IsNamedFormula, IsNamedDefault};
+ghost use Rattle.mcs_system.specs.Naming.{IsNamedItem, IsNamedRule, IsNamedContext, AreNamedReads};
+ghost use Rattle.mcs_system.specs.Naming.{IsNamedBridge, IsSystemNamed};
 
 use crate::bridge::{Bridge, Read};
 use crate::formula::Formula;

@@ -1,14 +1,18 @@
-//! What a system keeps of its contexts and rules, so that later calls need not compare formulas again.
+//! What a system keeps of its contexts and rules, so that later calls need not compare formulas
+//! again.
 
 ghost use Rattle.std.specs.Prelude.{◌≡◌, ◌≤◌, ◌<◌, List, map, length, true, false, IfOk, IfErr};
 ghost use Rattle.std.specs.List.{range_with_len};
 ghost use Rattle.mcs_system.specs.declared.knowledge.Context.{Context};
-ghost use Rattle.mcs_system.specs.declared.limit.Limit.TheVariants.{InputsPerContext, AtomsPerContext};
+ghost use Rattle.mcs_system.specs.declared.limit.Limit.TheVariants.{InputsPerContext};
+ghost use Rattle.mcs_system.specs.declared.limit.Limit.TheVariants.{AtomsPerContext};
 ghost use Rattle.mcs_system.specs.Atoms.{atoms_of};
 ghost use Rattle.mcs_system.specs.Faults.{exceeds};
 ghost use Rattle.mcs_system.specs.Gathered.{IsLimitDue};
 ghost use Rattle.mcs_system.specs.Imports.{rules_into};
-ghost use Rattle.mcs_system.specs.Parts.{context_part, context_part_of, variables_among, inputs_among, variables_read, read_into, rule_part, rule_part_of};
+ghost use Rattle.mcs_system.specs.Parts.{context_part, context_part_of, variables_among};
+ghost use Rattle.mcs_system.specs.Parts.{inputs_among, variables_read, read_into, rule_part};
+ghost use Rattle.mcs_system.specs.Parts.{rule_part_of};
 ghost use Rattle.mcs_system.specs.Seen.{read_of, bridge_of, system_of};
 ghost use Rattle.mcs_system.specs.Systems.{variables};
 
@@ -22,8 +26,8 @@ use crate::variables::is_among;
 use mcs_base::{Active, Memory, Vars};
 use std::alloc::Global;
 
-/// What is kept of a context: its atoms, its variables, the variables that rules into it read, and these
-/// rules.
+/// What is kept of a context: its atoms, its variables, the variables that rules into it read, and
+/// these rules.
 #[derive(Drop)]
 pub(crate) struct ContextParts {
     pub atoms: Vec<Name>,
@@ -32,14 +36,16 @@ pub(crate) struct ContextParts {
     pub rules: Active,
 }
 
-/// What is kept of a rule: the variables that it reads positively, and those that it reads negatively.
+/// What is kept of a rule: the variables that it reads positively, and those that it reads
+/// negatively.
 #[derive(Drop)]
 pub(crate) struct RuleReads {
     pub positive: Vars,
     pub negative: Vars,
 }
 
-/// What a system keeps beside its contexts and rules: its variables, and the parts of each context and of each rule.
+/// What a system keeps beside its contexts and rules: its variables, and the parts of each context
+/// and of each rule.
 #[derive(Drop)]
 pub(crate) struct Kept {
     pub variables: Vec<Read>,
@@ -81,7 +87,8 @@ fn variables_among(known: &[Read], context: u32) -> Vars
 #[tactic(auto, using(crate::proofs::SeenLemmas::loops), unfolding(crate::specs::Imports::rules_into))]
 fn rules_into(bridges: &[Bridge], context: u32) -> Active
     requires { length bridges.now ≤ 64 }
-    ensures { (contexts : List Context) → result ≡ rules_into (system_of contexts bridges.now) context }
+    ensures { (contexts : List Context)
+        → result ≡ rules_into (system_of contexts bridges.now) context }
 {
     let mut set = Active::empty();
     for (k, bridge) in bridges.iter().enumerate() {
@@ -137,7 +144,8 @@ pub(crate) fn rule_reads(
     Ok(reads)
 }
 
-/// Whether the rules into one context read more variables than the limit. `known` are the variables of the system.
+/// Whether the rules into one context read more variables than the limit. `known` are the variables
+/// of the system.
 pub(crate) fn has_many_inputs(contexts: &[Context], bridges: &[Bridge], known: &[Read]) -> bool
     requires few_contexts { length contexts.now ≤ 64 }
     requires few { length known.now ≤ 64 }
@@ -154,8 +162,8 @@ pub(crate) fn has_many_inputs(contexts: &[Context], bridges: &[Bridge], known: &
     false
 }
 
-/// What is kept of one context. `known` are the variables of the system. Refuses if the context has more atoms than the
-/// limit.
+/// What is kept of one context. `known` are the variables of the system. Refuses if the context has
+/// more atoms than the limit.
 fn parts_of_context(
     alloc: Global,
     contexts: &[Context],
@@ -171,7 +179,8 @@ fn parts_of_context(
         (λ p. context_part_of p ≡ context_part (system_of contexts.now bridges.now) context) }
     ensures few { IfOk result (λ p. length p.atoms.items ≤ 64) }
     ensures many { IfErr result
-        (IsLimitDue AtomsPerContext (64 < length (atoms_of (system_of contexts.now bridges.now) context))) }
+        (IsLimitDue AtomsPerContext (64 < length (atoms_of
+        (system_of contexts.now bridges.now) context))) }
 {
     let atoms = atoms_of(alloc, contexts, bridges, known, context)?;
     Ok(ContextParts {
@@ -182,8 +191,8 @@ fn parts_of_context(
     })
 }
 
-/// What is kept of the contexts. `known` are the variables of the system. Refuses if a context has more atoms than the
-/// limit.
+/// What is kept of the contexts. `known` are the variables of the system. Refuses if a context has
+/// more atoms than the limit.
 pub(crate) fn parts_of_contexts(
     alloc: Global,
     contexts: &[Context],
@@ -196,10 +205,13 @@ pub(crate) fn parts_of_contexts(
     requires variables { map read_of known.now ≡ variables (system_of contexts.now bridges.now) }
     ensures parts { IfOk result
         (λ parts. map context_part_of parts.items
-        ≡ map (context_part (system_of contexts.now bridges.now)) (range_with_len 0 (length contexts.now))) }
-    ensures few { IfOk result (λ _. exceeds (system_of contexts.now bridges.now) AtomsPerContext ≡ false) }
+        ≡ map (context_part (system_of contexts.now bridges.now))
+        (range_with_len 0 (length contexts.now))) }
+    ensures few { IfOk result (λ _. exceeds (system_of contexts.now bridges.now) AtomsPerContext
+        ≡ false) }
     ensures many { IfErr result
-        (IsLimitDue AtomsPerContext (exceeds (system_of contexts.now bridges.now) AtomsPerContext ≡ true)) }
+        (IsLimitDue AtomsPerContext (exceeds (system_of contexts.now bridges.now) AtomsPerContext
+        ≡ true)) }
 {
     let mut parts = Vec::new(alloc);
     for context in 0..contexts.len() as u32 {

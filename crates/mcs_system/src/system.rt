@@ -1,6 +1,7 @@
 //! Multi-context systems.
 
-ghost use Rattle.std.specs.Prelude.{◌≡◌, ◌↔◌, IsTrue, ◌<◌, ◌≤◌, cond, length, map, Some, slice_get, IfOk, IfErr};
+ghost use Rattle.std.specs.Prelude.{◌≡◌, ◌↔◌, IsTrue, ◌<◌, ◌≤◌, cond, length, map, Some, slice_get};
+ghost use Rattle.std.specs.Prelude.{IfOk, IfErr};
 ghost use Rattle.mcs_sets.specs.Sets.{common, single, union};
 ghost use Rattle.mcs_system.specs.Atoms.{atoms_of};
 ghost use Rattle.mcs_system.specs.Built.{IsFaultOf};
@@ -32,7 +33,8 @@ fn with_unless(marks: Marks, mark: u32, barred: bool) -> Marks
     if barred { marks } else { marks.with(mark) }
 }
 
-/// A multi-context system (Brewka & Eiter 2007): contexts and bridge rules that have none of the faults.
+/// A multi-context system (Brewka & Eiter 2007): contexts and bridge rules that have none of the
+/// faults.
 #[derive(Drop)]
 pub struct System {
     contexts: Vec<Context>,
@@ -56,8 +58,8 @@ impl Model for System {
 }
 
 impl System {
-    /// The system of these contexts and bridge rules, or the first of their faults. This is the fault with the lowest
-    /// number; among exceeded limits it is the first in the order of `Limit`.
+    /// The system of these contexts and bridge rules, or the first of their faults. This is the
+    /// fault with the lowest number; among exceeded limits it is the first in the order of `Limit`.
     pub fn build(
         alloc: Global,
         contexts: Vec<Context>,
@@ -101,7 +103,8 @@ impl System {
         &self.bridges
     }
 
-    /// The variables: the beliefs that bridge rules read, by context, and within a context by first occurrence.
+    /// The variables: the beliefs that bridge rules read, by context, and within a context by first
+    /// occurrence.
     pub fn variables(&self) -> &[Read]
         ensures value { map read_of result.now ≡ variables self.now }
         ensures few { length result.now ≤ 64 }
@@ -122,7 +125,8 @@ impl System {
     /// What is kept of a rule of the system.
     fn reads_of(&self, rule: u32) -> &RuleReads
         requires { rule < length self.now.bridges }
-        ensures part { (b : plain.Bridge) → slice_get self.now.bridges rule ≡ Some b → rule_part_of result.now ≡ rule_part (variables self.now) b }
+        ensures part { (b : plain.Bridge) → slice_get self.now.bridges rule ≡ Some b
+            → rule_part_of result.now ≡ rule_part (variables self.now) b }
         ensures valid { IsValid self.now }
     {
         &self.kept.reads[rule as usize]
@@ -137,8 +141,8 @@ impl System {
         reads.positive.within(state) && !reads.negative.meets(state)
     }
 
-    /// The atoms of a context of the system, by first occurrence: in its items, in the heads of the rules
-    /// into it, in its variables.
+    /// The atoms of a context of the system, by first occurrence: in its items, in the heads of the
+    /// rules into it, in its variables.
     pub fn atoms_of(&self, context: u32) -> &[Name]
         requires { context < length self.now.contexts }
         ensures value { result.now ≡ atoms_of self.now context }
@@ -199,8 +203,8 @@ impl System {
         rules
     }
 
-    /// The marks that a repair of the system may have: 2r (removal) for each rule r that is not `keep`, and 2r+1
-    /// (forcing) for each that is not `closed`.
+    /// The marks that a repair of the system may have: 2r (removal) for each rule r that is not
+    /// `keep`, and 2r+1 (forcing) for each that is not `closed`.
     pub fn allowed(&self) -> Marks
         ensures { result ≡ allowed_marks self.now }
     {

@@ -22,7 +22,8 @@ fn is_true_at(atoms: &[Name], values: Vars, name: &Name) -> bool
     false
 }
 
-/// Whether the formula holds under the assignment in which an atom is true exactly if its place is in `values`.
+/// Whether the formula holds under the assignment in which an atom is true exactly if its place is
+/// in `values`.
 pub fn holds_at(atoms: &[Name], values: Vars, f: &Formula) -> bool
     requires { length atoms.now ≤ 64 }
     ensures { result ≡ holds (true_names 0 atoms.now values) (formula_of f.now) }
@@ -39,7 +40,8 @@ pub fn holds_at(atoms: &[Name], values: Vars, f: &Formula) -> bool
     }
 }
 
-/// Whether all the formulas hold under the assignment in which an atom is true exactly if its place is in `values`.
+/// Whether all the formulas hold under the assignment in which an atom is true exactly if its place
+/// is in `values`.
 pub fn all_hold_at(atoms: &[Name], values: Vars, formulas: &[Formula]) -> bool
     requires { length atoms.now ≤ 64 }
     ensures { result ≡ holds_all (true_names 0 atoms.now values) (map formula_of formulas.now) }

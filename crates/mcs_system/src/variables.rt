@@ -66,7 +66,8 @@ fn variables_of_context(
     ensures variables { IfOk result
         (λ v. map read_of v.items ≡ context_variables (system_of [] bridges.now) context) }
     ensures many { IfErr result
-        (IsLimitDue Variables (64 < length (context_variables (system_of [] bridges.now) context))) }
+        (IsLimitDue Variables (64 < length (context_variables
+        (system_of [] bridges.now) context))) }
 {
     let mut found = Vec::new(alloc);
     for bridge in bridges {
@@ -76,16 +77,18 @@ fn variables_of_context(
     Ok(found)
 }
 
-/// The variables of the system of these contexts and rules, by context and within a context by first occurrence.
-/// Refuses if there are more than the limit.
+/// The variables of the system of these contexts and rules, by context and within a context by
+/// first occurrence. Refuses if there are more than the limit.
 pub(crate) fn variables_of(
     alloc: Global,
     contexts: &[Context],
     bridges: &[Bridge],
 ) -> Result<Vec<Read>, BuildFault>
-    ensures variables { IfOk result (λ v. map read_of v.items ≡ variables (system_of contexts.now bridges.now)) }
+    ensures variables { IfOk result (λ v. map read_of v.items
+        ≡ variables (system_of contexts.now bridges.now)) }
     ensures few { IfOk result (λ v. length v.items ≤ 64) }
-    ensures many { IfErr result (IsLimitDue Variables (64 < length (variables (system_of contexts.now bridges.now)))) }
+    ensures many { IfErr result (IsLimitDue Variables
+        (64 < length (variables (system_of contexts.now bridges.now)))) }
 {
     let mut variables = Vec::new(alloc);
     for context in 0..contexts.len() {

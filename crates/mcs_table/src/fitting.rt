@@ -16,7 +16,8 @@ use std::alloc::Global;
 
 /// The rows of the table that fit the partial state, in order.
 pub fn matching(alloc: Global, t: &Table, partial: &Partial) -> Result<Vec<Row>, Memory>
-    ensures { IfOk result (λ rows. IsListing (λ r. IsAmong r t.now.rows × Fits r.state partial.now) RowBefore rows.items) }
+    ensures { IfOk result (λ rows. IsListing (λ r. IsAmong r t.now.rows × Fits r.state partial.now)
+        RowBefore rows.items) }
 {
     let mut found = Vec::new(alloc);
     for row in t.rows() {
@@ -29,7 +30,8 @@ pub fn matching(alloc: Global, t: &Table, partial: &Partial) -> Result<Vec<Row>,
 
 /// The projection of each row's state onto the variables of a set, row by row.
 fn project_rows(alloc: Global, rows: &[Row], set: Vars) -> Result<Vec<Vars>, Memory>
-    ensures { IfOk result (λ projections. projections.items ≡ map (λ (r : declared.Row). common r.state.values set) rows.now) }
+    ensures { IfOk result (λ projections. projections.items
+        ≡ map (λ (r : declared.Row). common r.state.values set) rows.now) }
 {
     let projections = rows
         .iter()
@@ -38,17 +40,19 @@ fn project_rows(alloc: Global, rows: &[Row], set: Vars) -> Result<Vec<Vars>, Mem
     Ok(projections)
 }
 
-/// The projections of the states of the table's rows onto a set of variables, each once, in the order of states.
+/// The projections of the states of the table's rows onto a set of variables, each once, in the
+/// order of states.
 pub fn projections_of(alloc: Global, t: &Table, set: Vars) -> Result<Vec<Vars>, Memory>
-    ensures { IfOk result (λ projections. IsListing (IsRowProjection t.now.rows set) StateBefore projections.items) }
+    ensures { IfOk result (λ projections. IsListing
+        (IsRowProjection t.now.rows set) StateBefore projections.items) }
 {
     let mut projections = project_rows(alloc, t.rows(), set)?;
     list_states(&mut projections);
     Ok(projections)
 }
 
-/// Whether the projection of the state onto a set of variables is among these; they are in the order of states, each
-/// once.
+/// Whether the projection of the state onto a set of variables is among these; they are in the
+/// order of states, each once.
 fn is_projection(projections: &[Vars], state: Vars, set: Vars) -> bool
     requires { IsAscending StateBefore projections.now }
     ensures { IsTrue result ↔ IsAmong (common state set) projections.now }
@@ -56,8 +60,8 @@ fn is_projection(projections: &[Vars], state: Vars, set: Vars) -> bool
     projections.binary_search(&state.common(set)).is_ok()
 }
 
-/// The states whose projection onto a set of variables is among `projections`; these are in the order of states, each
-/// once.
+/// The states whose projection onto a set of variables is among `projections`; these are in the
+/// order of states, each once.
 pub fn states_with(
     alloc: Global,
     states: &[Vars],
@@ -65,7 +69,8 @@ pub fn states_with(
     set: Vars,
 ) -> Result<Vec<Vars>, Memory>
     requires { IsAscending StateBefore projections.now }
-    ensures { IfOk result (λ kept. (s : ℕ) → IsAmong s kept.items ↔ (IsAmong s states.now × IsAmong (common s set) projections.now)) }
+    ensures { IfOk result (λ kept. (s : ℕ)
+        → IsAmong s kept.items ↔ (IsAmong s states.now × IsAmong (common s set) projections.now)) }
 {
     let mut kept = Vec::new(alloc);
     for state in states {

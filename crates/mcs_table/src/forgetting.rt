@@ -9,8 +9,9 @@ use crate::table::Table;
 use mcs_base::{Memory, Vars};
 use std::alloc::Global;
 
-/// The table without the variables that are not to be kept. It has, for each state of the variables that are
-/// left, what rows of the table say of them, without the ones that hold the marks of another one.
+/// The table without the variables that are not to be kept. It has, for each state of the variables
+/// that are left, what rows of the table say of them, without the ones that hold the marks of
+/// another one.
 pub fn forget(alloc: Global, t: &Table, keep: Vars) -> Result<Table, Memory>
     ensures { IfOk result (IsForgetting t.now keep) }
 {

@@ -16,9 +16,9 @@ use crate::table::Table;
 use mcs_base::{Marks, Memory, Vars};
 use std::alloc::Global;
 
-/// The join of two tables of which no mark of the one occurs in the other, up to a number of marks. It is on
-/// the variables of both. It has, for each state, the unions of a row of each that fit and have at most so
-/// many marks, without those that hold the marks of another one.
+/// The join of two tables of which no mark of the one occurs in the other, up to a number of marks.
+/// It is on the variables of both. It has, for each state, the unions of a row of each that fit and
+/// have at most so many marks, without those that hold the marks of another one.
 pub fn join(alloc: Global, a: &Table, b: &Table, level: u32) -> Result<Table, Memory>
     requires { ShareNoMark a.now.rows b.now.rows }
     ensures { IfOk result (IsJoin a.now b.now level) }
@@ -28,8 +28,8 @@ pub fn join(alloc: Global, a: &Table, b: &Table, level: u32) -> Result<Table, Me
     Ok(minimal_table(left.union(right), unions))
 }
 
-/// The unions of a row that is on the variables of a scope with one of the table that fits it, no mark of which
-/// occurs in it, up to a number of marks. Each is there as often as it comes about.
+/// The unions of a row that is on the variables of a scope with one of the table that fits it, no
+/// mark of which occurs in it, up to a number of marks. Each is there as often as it comes about.
 pub fn unions(
     alloc: Global,
     rows: &[Row],
@@ -39,7 +39,8 @@ pub fn unions(
 ) -> Result<Vec<Row>, Memory>
     requires on_scope { AllByRecursion (IsRowOn scope) rows.now }
     requires apart { ShareNoMark rows.now t.now.rows }
-    ensures { IfOk result (λ all. (r : declared.Row) → IsAmong r all.items ↔ IsUnion rows.now t.now.rows level r) }
+    ensures { IfOk result (λ all. (r : declared.Row)
+        → IsAmong r all.items ↔ IsUnion rows.now t.now.rows level r) }
 {
     let right = t.scope();
     let sorted = by_shared(alloc, t.rows(), scope)?;
@@ -53,7 +54,8 @@ pub fn unions(
     Ok(unions)
 }
 
-/// The states of the unions that `unions` gives, one for each, without the marks: they take a third of the memory.
+/// The states of the unions that `unions` gives, one for each, without the marks: they take a third
+/// of the memory.
 pub fn union_states(
     alloc: Global,
     rows: &[Row],
@@ -63,7 +65,8 @@ pub fn union_states(
 ) -> Result<Vec<Vars>, Memory>
     requires on_scope { AllByRecursion (IsRowOn scope) rows.now }
     requires apart { ShareNoMark rows.now t.now.rows }
-    ensures { IfOk result (λ states. (all : List declared.Row) × ((r : declared.Row) → IsAmong r all ↔ IsUnion rows.now t.now.rows level r)
+    ensures { IfOk result (λ states. (all : List declared.Row)
+        × ((r : declared.Row) → IsAmong r all ↔ IsUnion rows.now t.now.rows level r)
         × (states.items ≡ map (λ (r : declared.Row). r.state.values) all)) }
 {
     let right = t.scope();
@@ -101,7 +104,8 @@ fn all_marks(rows: &[Row]) -> Marks
 /// Adds the union of the row with each of its partners.
 fn push_unions(unions: &mut Vec<Row>, row: &Row, partners: &[Row]) -> Result<(), Memory>
     requires { AllByRecursion (λ (r : declared.Row). Fits row.now.state r.state) partners.now }
-    ensures { OnOk result (unions.new.items ≡ unions.old.items ++ map (united_row row.now) partners.now) }
+    ensures { OnOk result (unions.new.items
+        ≡ unions.old.items ++ map (united_row row.now) partners.now) }
 {
     for partner in partners {
         unions.push(row.union(partner))?;
@@ -111,7 +115,8 @@ fn push_unions(unions: &mut Vec<Row>, row: &Row, partners: &[Row]) -> Result<(),
 
 /// Adds the union of the state with that of each of the rows.
 fn push_states(states: &mut Vec<Vars>, state: Vars, partners: &[Row]) -> Result<(), Memory>
-    ensures { OnOk result (states.new.items ≡ states.old.items ++ map (λ (r : declared.Row). union state r.state.values) partners.now) }
+    ensures { OnOk result (states.new.items
+        ≡ states.old.items ++ map (λ (r : declared.Row). union state r.state.values) partners.now) }
 {
     for partner in partners {
         states.push(state.union(partner.state.values()))?;

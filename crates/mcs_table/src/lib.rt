@@ -1,5 +1,5 @@
-//! Tables of partial states with the marks that they take: joining them, finding what fits, and forgetting
-//! variables.
+//! Tables of partial states with the marks that they take: joining them, finding what fits, and
+//! forgetting variables.
 #![tactic(auto)]
 
 mod fitting;

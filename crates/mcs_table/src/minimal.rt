@@ -11,8 +11,8 @@ use crate::row::Row;
 use crate::table::Table;
 use mcs_base::Vars;
 
-/// The table of the minimal ones among these rows, each of which is on the variables of the scope. It takes
-/// no memory.
+/// The table of the minimal ones among these rows, each of which is on the variables of the scope.
+/// It takes no memory.
 pub fn minimal_table(scope: Vars, rows: Vec<Row>) -> Table
     requires { AllByRecursion (λ (r : declared.Row). r.state.mask ≡ scope) rows.items }
     ensures scope { result.scope ≡ scope }
@@ -32,10 +32,11 @@ pub fn minimal_table(scope: Vars, rows: Vec<Row>) -> Table
     Table::in_order(scope, rows)
 }
 
-/// Whether one of the kept rows has the state of the row, which comes after them, and marks within its
-/// marks. Those of the same state with fewer marks are the last ones before those with as many.
+/// Whether one of the kept rows has the state of the row, which comes after them, and marks within
+/// its marks. Those of the same state with fewer marks are the last ones before those with as many.
 fn is_covered(kept: &[Row], row: &Row) -> bool
-    requires scope { AllByRecursion (λ (r : declared.Row). r.state.mask ≡ row.now.state.mask) kept.now }
+    requires scope { AllByRecursion (λ (r : declared.Row). r.state.mask
+        ≡ row.now.state.mask) kept.now }
     requires ascending { IsAscending RowBefore kept.now }
     requires after { AllByRecursion (λ (r : declared.Row). RowBefore r row.now) kept.now }
     ensures { IsTrue result ↔ IsCovered kept.now row.now }
@@ -55,9 +56,9 @@ fn is_covered(kept: &[Row], row: &Row) -> bool
 /// So many rows of one state are gone through sooner than searched.
 const FEW_ROWS: usize = 32;
 
-/// How many of the kept rows are to be looked at for one that has the state of the row, which comes after them, and
-/// marks within its marks: none of the others has both. Where there are many rows of the state, those with as many
-/// marks as the row are left out.
+/// How many of the kept rows are to be looked at for one that has the state of the row, which comes
+/// after them, and marks within its marks: none of the others has both. Where there are many rows
+/// of the state, those with as many marks as the row are left out.
 fn end_to_look_at(kept: &[Row], row: &Row) -> usize
     requires ascending { IsAscending RowBefore kept.now }
     requires after { AllByRecursion (λ (r : declared.Row). RowBefore r row.now) kept.now }
@@ -70,8 +71,8 @@ fn end_to_look_at(kept: &[Row], row: &Row) -> usize
     }
 }
 
-/// How many of the kept rows come before each one that has the state of the row, which comes after them, and as
-/// many marks. None of the others has marks within its marks and its state.
+/// How many of the kept rows come before each one that has the state of the row, which comes after
+/// them, and as many marks. None of the others has marks within its marks and its state.
 fn end_of_fewer(kept: &[Row], row: &Row) -> usize
     requires ascending { IsAscending RowBefore kept.now }
     requires after { AllByRecursion (λ (r : declared.Row). RowBefore r row.now) kept.now }

@@ -37,8 +37,8 @@ impl Row {
     }
 }
 
-/// Rows come in the order of states, those of one state in the order of pairs, so that std's sort lists the
-/// rows of a table in order.
+/// Rows come in the order of states, those of one state in the order of pairs, so that std's sort
+/// lists the rows of a table in order.
 impl PartialOrd for Row {
     ghost use Rattle.std.specs.Ordering.{as_partial_cmp};
     ghost use Rattle.mcs_table.specs.RowOrder.{row_cmp, row_po};

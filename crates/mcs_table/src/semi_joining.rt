@@ -13,9 +13,9 @@ use crate::table::Table;
 use mcs_base::{Memory, Vars};
 use std::alloc::Global;
 
-/// Of the rows of the first of two tables, no mark of which occurs in the other, those that fit a row of the
-/// second with which they have at most so many marks. Joined up to that number of marks, both tables give the
-/// same with these rows alone.
+/// Of the rows of the first of two tables, no mark of which occurs in the other, those that fit a
+/// row of the second with which they have at most so many marks. Joined up to that number of marks,
+/// both tables give the same with these rows alone.
 pub fn semi_join(alloc: Global, a: &Table, b: &Table, level: u32) -> Result<Table, Memory>
     requires { ShareNoMark a.now.rows b.now.rows }
     ensures { IfOk result (IsSemiJoin a.now b.now level) }
@@ -32,11 +32,12 @@ pub fn semi_join(alloc: Global, a: &Table, b: &Table, level: u32) -> Result<Tabl
     Ok(Table::in_order(left, rows))
 }
 
-/// Whether, of rows that are sorted so, one says this of the scope, and has at most so many marks together
-/// with the number of them that is there already.
+/// Whether, of rows that are sorted so, one says this of the scope, and has at most so many marks
+/// together with the number of them that is there already.
 fn has_partner(sorted: &[Row], scope: Vars, shared: Vars, count: u32, level: u32) -> bool
     requires { IsByShared scope sorted.now }
-    ensures { IsTrue result ↔ ((r : declared.Row) × IsAmong r sorted.now × (common r.state.values scope ≡ shared) × (size r.marks + count ≤ level)) }
+    ensures { IsTrue result ↔ ((r : declared.Row) × IsAmong r sorted.now
+        × (common r.state.values scope ≡ shared) × (size r.marks + count ≤ level)) }
 {
     match level.checked_sub(count) {
         Some(room) => !partners(sorted, scope, shared, room).is_empty(),

@@ -14,8 +14,8 @@ use mcs_base::{Marks, Memory, Partial, Vars};
 use std::alloc::Global;
 use std::marker::Model;
 
-/// Rows on the same variables, the scope. They come in the order of states, those of one state in the order
-/// of pairs, and each is there once.
+/// Rows on the same variables, the scope. They come in the order of states, those of one state in
+/// the order of pairs, and each is there once.
 #[derive(Debug, Drop)]
 pub struct Table {
     scope: Vars,
@@ -33,7 +33,8 @@ impl Model for Table {
 }
 
 impl Table {
-    /// The table of no variables and its one row of no marks: joined with it, a table keeps its minimal rows.
+    /// The table of no variables and its one row of no marks: joined with it, a table keeps its
+    /// minimal rows.
     pub fn unit(alloc: Global) -> Result<Table, Memory>
         ensures { IfOk result (λ t. t ≡ unit_table) }
     {
@@ -62,8 +63,8 @@ impl Table {
         Table { scope, rows }
     }
 
-    /// The table of these rows, which are those of a table already: all on the variables of the scope, in
-    /// order and each once, as what is kept of a table's rows is. It takes no memory.
+    /// The table of these rows, which are those of a table already: all on the variables of the
+    /// scope, in order and each once, as what is kept of a table's rows is. It takes no memory.
     pub fn in_order(scope: Vars, rows: Vec<Row>) -> Table
         requires { IsTable (record { scope = scope; rows = rows.items }) }
         ensures { result ≡ record { scope = scope; rows = rows.items } }

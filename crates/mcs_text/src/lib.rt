@@ -1,4 +1,5 @@
-//! Building texts and writing them: separators between pieces, and lines that are written whole or up to a prefix.
+//! Building texts and writing them: separators between pieces, and lines that are written whole or
+//! up to a prefix.
 #![tactic(auto, using(crate::proofs::WriteLaws::writes))]
 
 mod line;

@@ -25,8 +25,8 @@ fn have_fault(
     built(alloc, contexts, rules).err() == fault
 }
 
-/// Whether twins are found where the second context stands behind all once more, and among more contexts than there may
-/// be.
+/// Whether twins are found where the second context stands behind all once more, and among more
+/// contexts than there may be.
 pub(crate) fn are_twins_found(alloc: Global, contexts: &[Context]) -> bool {
     let second = contexts.get(1..2).unwrap_or(&[]);
     have_fault(alloc, &[contexts], &[], None)
@@ -71,7 +71,8 @@ fn denial(alloc: Global, formula: &Formula) -> Result<Formula, Memory> {
     Ok(Formula::Not(Box::new(alloc, copy)?))
 }
 
-/// A rule with the name of the other one, which puts the denial of the formula into the first context.
+/// A rule with the name of the other one, which puts the denial of the formula into the first
+/// context.
 fn denying(alloc: Global, other: &Bridge, formula: &Formula) -> Result<Bridge, Memory> {
     let name = other.name.copy(alloc)?;
     let head = denial(alloc, formula)?;
@@ -100,8 +101,8 @@ fn last_formula(system: &System) -> Option<&Formula> {
     }
 }
 
-/// Whether the denial of the last formula in the head of a rule exceeds the limit of its signs and atoms. The rule has the
-/// name of the first of the rules.
+/// Whether the denial of the last formula in the head of a rule exceeds the limit of its signs and
+/// atoms. The rule has the name of the first of the rules.
 fn is_denial_longer(alloc: Global, system: &System, rules: &[Bridge]) -> Result<bool, Memory> {
     let Some(rule) = rules.first() else {
         return Ok(false);
@@ -116,8 +117,8 @@ fn is_denial_longer(alloc: Global, system: &System, rules: &[Bridge]) -> Result<
     Ok(is_longer)
 }
 
-/// Whether the limit of the text that is full is exceeded in its system: that of a formula's signs and atoms by the head
-/// of a rule with one negation more, and another one by the rules.
+/// Whether the limit of the text that is full is exceeded in its system: that of a formula's signs
+/// and atoms by the head of a rule with one negation more, and another one by the rules.
 fn is_exceeded(alloc: Global, system: &System, rules: &[Bridge], limit: Limit) -> bool {
     match limit {
         Limit::FormulaSize => is_denial_longer(alloc, system, rules) == Ok(true),
@@ -135,7 +136,8 @@ fn exceed_full(alloc: Global, rules: &[Bridge], parts: &Parts) -> bool {
     is_exceeded
 }
 
-/// Whether 64 atoms are exceeded by the heads of rules with another one, and 512 signs and atoms by one negation more.
+/// Whether 64 atoms are exceeded by the heads of rules with another one, and 512 signs and atoms by
+/// one negation more.
 pub(crate) fn keep_limits(alloc: Global, rules: &[Bridge]) -> bool {
     exceed_full(alloc, rules, &FULL_OF_ATOMS) && exceed_full(alloc, rules, &FULL_OF_SIGNS)
 }
@@ -145,16 +147,19 @@ fn keeps_limits_of_heads(rt: HostRuntime) {
     assert!(rt; holds(rt.alloc(), OTHER_HEAD, &Claim::LimitsAreKept));
 }
 
-/// Rules that have the faults 4, 4, 3, 2 and 2 in the contexts of `THREE`: what is no atom for a program as a head and
-/// as a read, a name that is there, and a context that is not there, told and read.
+/// Rules that have the faults 4, 4, 3, 2 and 2 in the contexts of `THREE`: what is no atom for a
+/// program as a head and as a read, a name that is there, and a context that is not there, told and
+/// read.
 const FAULTY: &[u8] =
     b"context a classical {} context b classical {} context c classical {} context d classical {}
 bridge r: c:true. bridge s: a:true if not c:true. bridge r0: b:true. bridge t: d:true. bridge u: a:true if not d:true.";
 
-/// From and up to which of these rules are added to those of `THREE`, and the number of the fault that is told.
+/// From and up to which of these rules are added to those of `THREE`, and the number of the fault
+/// that is told.
 static ADDED: [(usize, usize, u8); 5] = [(0, 1, 4), (1, 2, 4), (0, 3, 3), (0, 4, 2), (4, 5, 2)];
 
-/// Whether the lowest fault is told of the contexts and rules of the one system with rules of the other.
+/// Whether the lowest fault is told of the contexts and rules of the one system with rules of the
+/// other.
 fn is_lowest_told<'s>(alloc: Global, three: &'s System, faulty: &'s System) -> bool {
     let contexts = [three.contexts()];
     let mut is_told = have_fault(alloc, &contexts, &[three.bridges()], None);
@@ -207,7 +212,8 @@ static WEIGHTS: [(u32, Option<BuildFault>); 4] = [
     ),
 ];
 
-/// Whether the system of the contexts and a copy of the rule with another weight has just this fault.
+/// Whether the system of the contexts and a copy of the rule with another weight has just this
+/// fault.
 fn is_judged(
     alloc: Global,
     contexts: &[Context],

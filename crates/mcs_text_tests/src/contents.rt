@@ -79,7 +79,8 @@ fn are_told(system: &System) -> bool {
     are_told
 }
 
-/// A context, a state, and the rules into the context that apply in it, the sets as bits of numbers.
+/// A context, a state, and the rules into the context that apply in it, the sets as bits of
+/// numbers.
 static APPLICABLE: [(u32, u64, u64); 5] = [
     (1, 0b01001, 0b1001),
     (1, 0b11001, 0b1000),
@@ -98,7 +99,8 @@ fn are_applicable(system: &System) -> bool {
     are_right
 }
 
-/// Whether the system has three contexts, four rules and five variables, and tells what the text says.
+/// Whether the system has three contexts, four rules and five variables, and tells what the text
+/// says.
 pub(crate) fn is_three(system: &System) -> bool {
     system.contexts().len() == 3
         && system.bridges().len() == 4
@@ -124,7 +126,8 @@ fn marked_rules(alloc: Global, system: &System) -> Result<Vec<Bridge>, Memory> {
     Ok(rules)
 }
 
-/// Whether repairs may change each rule of the system both ways, and with these copies each but as it is marked.
+/// Whether repairs may change each rule of the system both ways, and with these copies each but as
+/// it is marked.
 pub(crate) fn are_repairs_told(alloc: Global, system: &System) -> Result<bool, Memory> {
     let contexts = contexts_of(alloc, &[system.contexts()])?;
     let rules = marked_rules(alloc, system)?;

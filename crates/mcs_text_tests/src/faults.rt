@@ -25,8 +25,8 @@ pub(crate) fn has_fault(
     fault_of(alloc, text) == Some(fault)
 }
 
-/// Texts, the numbers of their faults, and their offsets: first where something is missing, too much, or begins no
-/// token, then of names.
+/// Texts, the numbers of their faults, and their offsets: first where something is missing, too
+/// much, or begins no token, then of names.
 static FAULTS: [(&str, u8, usize); 20] = [
     ("context", 1, 7),
     ("context context classical {}", 1, 8),
@@ -86,9 +86,10 @@ fn texts_without_faults_are_read(rt: HostRuntime) {
 pub(crate) const EACH_CONSTRUCT: &str =
     "context c classical { (p & q | ~true) -> false <-> p. } # a\ncontext d default { p. p : q, r / s. } context e program { a | b :- c, not d. :- a. b. :-. } bridge r: c:~p if d:(p | q), not e:a.";
 
-/// Whether the front of this length is a text where the text may end, and otherwise has a fault at its last token or at
-/// its end. The text may end at nothing, after each context with the comment and the blanks there, and after the rule.
-/// The fronts that end with the first letters of `not` name a context that is not there.
+/// Whether the front of this length is a text where the text may end, and otherwise has a fault at
+/// its last token or at its end. The text may end at nothing, after each context with the comment
+/// and the blanks there, and after the rule. The fronts that end with the first letters of `not`
+/// name a context that is not there.
 fn is_front(alloc: Global, end: usize) -> bool {
     let front = EACH_CONSTRUCT.as_bytes().get(..end).unwrap_or(b"?");
     let whole = matches!(end, 0 | 55..=60 | 98 | 99 | 152 | 153 | 190);

@@ -51,8 +51,8 @@ fn text_of(alloc: Global, parts: &[&[Rows]]) -> Result<Text, Memory> {
     Ok(text)
 }
 
-/// A text of a front, a row for each number from 1 up to a count, and a back. With the count `most` it keeps the limit,
-/// and with one more it exceeds it where the tail begins.
+/// A text of a front, a row for each number from 1 up to a count, and a back. With the count `most`
+/// it keeps the limit, and with one more it exceeds it where the tail begins.
 pub(crate) struct Parts {
     pub(crate) limit: Limit,
     most: u64,
@@ -180,8 +180,8 @@ fn limits_of_parts_are_kept(rt: HostRuntime) {
     }
 }
 
-/// A text that keeps the limit with the rest behind its front, and exceeds it with other rows there, where the last of
-/// them begin.
+/// A text that keeps the limit with the rest behind its front, and exceeds it with other rows
+/// there, where the last of them begin.
 struct Full {
     limit: Limit,
     front: &'static [Rows],
@@ -191,7 +191,8 @@ struct Full {
 }
 
 static FULL: [Full; 3] = [
-    // A formula in 512 parentheses, from the last one that is opened on; and one in 513, from there on.
+    // A formula in 512 parentheses, from the last one that is opened on; and one in 513, from there
+    // on.
     Full {
         limit: Limit::OpenParentheses,
         front: &[("context c classical { ", 0, 1), ("(", 0, 512)],
@@ -215,7 +216,8 @@ static FULL: [Full; 3] = [
         other: &[],
         last: &[("bridge r64: c5:p. ", 0, 1)],
     },
-    // Four rules that read sixteen beliefs of a context each, and the front of a rule that reads one more.
+    // Four rules that read sixteen beliefs of a context each, and the front of a rule that reads
+    // one more.
     Full {
         limit: Limit::Variables,
         front: &[

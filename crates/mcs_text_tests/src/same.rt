@@ -4,8 +4,9 @@ use crate::systems::{Claim, holds, system_of};
 use mcs_system::System;
 use std::alloc::Global;
 
-/// A system, and systems that differ from it in one thing each: a sign, the name of a rule, the name of a context, an
-/// item, a head, a belief, the target, the order of the rules, the kind of a context.
+/// A system, and systems that differ from it in one thing each: a sign, the name of a rule, the
+/// name of a context, an item, a head, a belief, the target, the order of the rules, the kind of a
+/// context.
 const SYSTEMS: &[&str] = &[
     "context a classical { p & q. } context b default { q : r / s. } bridge r0: a:p if b:q, not b:r. bridge r1: b:s.",
     "context a classical { p & q. } context b default { q : r / s. } bridge r0: a:p if b:q, b:r. bridge r1: b:s.",

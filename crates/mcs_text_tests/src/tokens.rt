@@ -51,7 +51,8 @@ fn one_byte(rt: HostRuntime) {
     }
 }
 
-/// Texts, and the offsets from and up to which their tokens stand: first of gaps, then of words and signs.
+/// Texts, and the offsets from and up to which their tokens stand: first of gaps, then of words and
+/// signs.
 static SPANS: [(&str, &str); 13] = [
     ("", ""),
     (" \t\r\n", ""),
@@ -87,7 +88,8 @@ fn are_two(spans: &[Span], middle: usize, end: usize) -> bool {
     }
 }
 
-/// Whether the one sign after the other has two tokens, of which the second begins where the first sign ends.
+/// Whether the one sign after the other has two tokens, of which the second begins where the first
+/// sign ends.
 fn are_two_tokens(alloc: Global, first: &[u8], second: &[u8]) -> Result<bool, Memory> {
     let mut text = Text::new(alloc);
     text.push(first)?;

@@ -1,6 +1,7 @@
 //! Laws over the definitions of tokens. The functions compute nothing: each contract is a law.
 
-ghost use Rattle.mcs_tokens.specs.Laws.{OneTokenIsNext, OneListOfTokens, TokensDoNotOverlap, TokensAndGapsAreWhole, OneKindForBytes};
+ghost use Rattle.mcs_tokens.specs.Laws.{OneTokenIsNext, OneListOfTokens, TokensDoNotOverlap};
+ghost use Rattle.mcs_tokens.specs.Laws.{TokensAndGapsAreWhole, OneKindForBytes};
 
 /// There is at most one next token, and a text has at most one list of tokens.
 pub fn tokens_are_unique()

@@ -1,8 +1,10 @@
 //! The scanner: where the tokens of a text are.
 
-ghost use Rattle.std.specs.Prelude.{◌≡◌, ◌≢◌, ◌≤◌, ◌<◌, length, IfOk, IsTrue, take, drop, slice_index, slice_range, All};
+ghost use Rattle.std.specs.Prelude.{◌≡◌, ◌≢◌, ◌≤◌, ◌<◌, length, IfOk, IsTrue, take, drop};
+ghost use Rattle.std.specs.Prelude.{slice_index, slice_range, All};
 ghost use Rattle.std.specs.List.{list_all};
-ghost use Rattle.mcs_tokens.specs.Tokens.{IsNextToken, IsGap, IsGapByte, IsToken, AreTokens, IsSpanOf, is_separator, hash};
+ghost use Rattle.mcs_tokens.specs.Tokens.{IsNextToken, IsGap, IsGapByte, IsToken, AreTokens};
+ghost use Rattle.mcs_tokens.specs.Tokens.{IsSpanOf, is_separator, hash};
 ghost use Rattle.mcs_base.specs.Words.{is_letter, is_word_byte};
 
 use crate::sign::first_sign;
@@ -57,7 +59,8 @@ fn gap_end(bytes: &[u8], at: usize) -> usize
 fn word_len(text: &[u8]) -> usize
     ensures inside { result ≤ length text.now }
     ensures word { IsTrue (list_all is_word_byte (take result text.now)) }
-    ensures ended { result < length text.now → ¬ IsTrue (is_word_byte (slice_index text.now result)) }
+    ensures ended { result < length text.now
+        → ¬ IsTrue (is_word_byte (slice_index text.now result)) }
 {
     for (k, byte) in text.iter().enumerate() {
         if !is_word_byte(*byte) {
@@ -84,8 +87,9 @@ fn token_len(text: &[u8]) -> usize
     }
 }
 
-/// The offset of the first token that begins at or after `at`, and the offset after it. The text is read as if it began
-/// at `at`, so `at` must not be within a token or a comment. At the end of the text both are its length.
+/// The offset of the first token that begins at or after `at`, and the offset after it. The text is
+/// read as if it began at `at`, so `at` must not be within a token or a comment. At the end of the
+/// text both are its length.
 pub fn next_token(bytes: &[u8], at: usize) -> (usize, usize)
     requires { at ≤ length bytes.now }
     ensures { IsNextToken bytes.now at result.0 result.1 }

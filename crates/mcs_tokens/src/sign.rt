@@ -69,7 +69,8 @@ impl Sign {
 
     /// The sign with these bytes.
     pub fn of(bytes: &[u8]) -> Option<Sign>
-        ensures { MatchOption result ((s : Sign) → ¬ (bytes.now ≡ sign_bytes s)) (λ s. bytes.now ≡ sign_bytes s) }
+        ensures { MatchOption result ((s : Sign) → ¬ (bytes.now ≡ sign_bytes s))
+            (λ s. bytes.now ≡ sign_bytes s) }
     {
         for sign in SIGNS {
             if bytes == sign.spelling() {
@@ -90,7 +91,9 @@ fn begins_with(text: &[u8], part: &[u8]) -> bool
 pub(crate) fn first_sign(text: &[u8]) -> Option<Sign>
     ensures { MatchOption result
         ((s : Sign) → ¬ BeginsWith text.now (sign_bytes s))
-        (λ sign. BeginsWith text.now (sign_bytes sign) × ((s : Sign) → BeginsWith text.now (sign_bytes s) → length (sign_bytes s) ≤ length (sign_bytes sign))) }
+        (λ sign. BeginsWith text.now (sign_bytes sign)
+        × ((s : Sign) → BeginsWith text.now (sign_bytes s)
+        → length (sign_bytes s) ≤ length (sign_bytes sign))) }
 {
     for sign in SIGNS {
         if begins_with(text, sign.spelling()) {

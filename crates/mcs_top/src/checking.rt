@@ -17,8 +17,8 @@ use mcs_ports::{Shelf, Sink};
 use mcs_text::{Unwritten, write_line};
 use std::alloc::Global;
 
-/// Checks the report in the file `report` against the system whose text is in the file `file`, and prints whether it is
-/// valid.
+/// Checks the report in the file `report` against the system whose text is in the file `file`, and
+/// prints whether it is valid.
 pub(crate) fn check<H: Shelf, K: Sink>(
     alloc: Global,
     file: &str,
@@ -28,16 +28,22 @@ pub(crate) fn check<H: Shelf, K: Sink>(
 ) -> Result<Outcome, Stop>
     ensures shelf_later { H.faults shelf.old ≤ H.faults shelf.new }
     ensures sink_later { (K.device sink.old).faults ≤ (K.device sink.new).faults }
-    ensures unfailed { ¬ IsErrOf result Stop.WriteFault → (K.device sink.new).faults ≡ (K.device sink.old).faults }
+    ensures unfailed { ¬ IsErrOf result Stop.WriteFault
+        → (K.device sink.new).faults ≡ (K.device sink.old).faults }
     ensures notes { (K.device sink.new).notes ≡ (K.device sink.old).notes }
-    ensures ok { IfOk result (λ outcome. IfSome (told_all (H.held shelf.old) (file.now ∷ report.now ∷ []))
-        (EndsSo outcome (K.device sink.old).written (K.device sink.new).written (meaning (commands.check file.now report.now)))) }
+    ensures ok { IfOk result (λ outcome. IfSome (told_all (H.held shelf.old)
+        (file.now ∷ report.now ∷ []))
+        (EndsSo outcome (K.device sink.old).written (K.device sink.new).written
+        (meaning (commands.check file.now report.now)))) }
     ensures cause { IfErr result (λ stop. IsStopCause stop
-        (Rose (H.faults shelf.old) (H.faults shelf.new)) (Rose (H.failures shelf.old) (H.failures shelf.new))
+        (Rose (H.faults shelf.old) (H.faults shelf.new))
+        (Rose (H.failures shelf.old) (H.failures shelf.new))
         (Rose (K.device sink.old).faults (K.device sink.new).faults)
-        (meaning (commands.check file.now report.now)) (told_all (H.held shelf.old) (file.now ∷ report.now ∷ []))) }
+        (meaning (commands.check file.now report.now))
+        (told_all (H.held shelf.old) (file.now ∷ report.now ∷ []))) }
     ensures leaves { IfErr result (λ stop. LeavesText stop
-        (meaning (commands.check file.now report.now)) (told_all (H.held shelf.old) (file.now ∷ report.now ∷ []))
+        (meaning (commands.check file.now report.now))
+        (told_all (H.held shelf.old) (file.now ∷ report.now ∷ []))
         (K.device sink.old).written (K.device sink.new).written) }
 {
     let read = system_in(alloc, file, shelf)?;

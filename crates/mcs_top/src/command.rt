@@ -18,23 +18,25 @@ use std::thread::Threads;
 
 /// Does the job that the words ask for. `words` are the words after the program's name.
 ///
-/// - `equilibria FILE` prints the projected equilibria of the system whose text is in FILE, each once, in the order of
-///   states.
-/// - `solve FILE` prints its minimal diagnoses and its minimal explanations too, in the order of pairs. With `--proof`
-///   it also prints the answers on which these depend, each with a certificate.
+/// - `equilibria FILE` prints the projected equilibria of the system whose text is in FILE, each
+///   once, in the order of states.
+/// - `solve FILE` prints its minimal diagnoses and its minimal explanations too, in the order of
+///   pairs. With `--proof` it also prints the answers on which these depend, each with a
+///   certificate.
 /// - `check FILE REPORT` prints whether REPORT has such a listing with its proof.
-/// - `make NUMBER` reads no file. It prints how many members each list of the generated system of that number has.
+/// - `make NUMBER` reads no file. It prints how many members each list of the generated system of
+///   that number has.
 ///
-/// Rounds of questions are played by so many workers as the words say, but by no more than there are contexts. One
-/// worker is the caller itself, which then waits for nobody, as it does for `check`. What is printed does not depend on
-/// their number.
+/// Rounds of questions are played by so many workers as the words say, but by no more than there
+/// are contexts. One worker is the caller itself, which then waits for nobody, as it does for
+/// `check`. What is printed does not depend on their number.
 ///
-/// Returns the status. For each status but `Done` and `NotValid` one line is noted. Nothing is written but the output
-/// of the job, or a prefix of it. What each status implies is stated by the record `KeepsPromise`. If the words ask for
-/// no job that names a file, the shelf is not called.
+/// Returns the status. For each status but `Done` and `NotValid` one line is noted. Nothing is
+/// written but the output of the job, or a prefix of it. What each status implies is stated by the
+/// record `KeepsPromise`. If the words ask for no job that names a file, the shelf is not called.
 ///
-/// The trail shows the last round that several workers played, as the record `KeepsTrail` states. It is empty with fewer
-/// than two workers used, and where no system was evaluated.
+/// The trail shows the last round that several workers played, as the record `KeepsTrail` states.
+/// It is empty with fewer than two workers used, and where no system was evaluated.
 pub fn run<H: Shelf, K: Sink, G: Gate + Sync, R: Threads + Wait + Sync>(
     rt: &R,
     alloc: Global,
@@ -43,9 +45,12 @@ pub fn run<H: Shelf, K: Sink, G: Gate + Sync, R: Threads + Wait + Sync>(
     sink: &mut K,
     gate: &G,
 ) -> (Status, Trail)
-    ensures kept { KeepsPromise (texts_of words.now) (H.held shelf.old) (H.faults shelf.old) (H.faults shelf.new)
-        (H.failures shelf.old) (H.failures shelf.new) (K.device sink.old) (K.device sink.new) result.0 }
-    ensures trail { KeepsTrail (texts_of words.now) (H.held shelf.old) (K.device sink.old).notes (K.device sink.new).notes result.0 (trail_of result.1) }
+    ensures kept { KeepsPromise (texts_of words.now) (H.held shelf.old) (H.faults shelf.old)
+        (H.faults shelf.new)
+        (H.failures shelf.old) (H.failures shelf.new) (K.device sink.old)
+        (K.device sink.new) result.0 }
+    ensures trail { KeepsTrail (texts_of words.now) (H.held shelf.old) (K.device sink.old).notes
+        (K.device sink.new).notes result.0 (trail_of result.1) }
     ensures unread { NamesNoFile (texts_of words.now) → shelf.new ≡ shelf.old }
 {
     let mut trail = Trail::nothing(alloc);
@@ -53,8 +58,8 @@ pub fn run<H: Shelf, K: Sink, G: Gate + Sync, R: Threads + Wait + Sync>(
     (status, trail)
 }
 
-/// Does the job that the words ask for, and returns the status. What the last round of several workers leaves to be seen
-/// is put into `trail`.
+/// Does the job that the words ask for, and returns the status. What the last round of several
+/// workers leaves to be seen is put into `trail`.
 fn run_job<H: Shelf, K: Sink, G: Gate + Sync, R: Threads + Wait + Sync>(
     rt: &R,
     alloc: Global,
@@ -65,9 +70,12 @@ fn run_job<H: Shelf, K: Sink, G: Gate + Sync, R: Threads + Wait + Sync>(
     trail: &mut Trail,
 ) -> Status
     requires { IsNoTrail (trail_of trail.old) }
-    ensures kept { KeepsPromise (texts_of words.now) (H.held shelf.old) (H.faults shelf.old) (H.faults shelf.new)
-        (H.failures shelf.old) (H.failures shelf.new) (K.device sink.old) (K.device sink.new) result }
-    ensures trail { KeepsTrail (texts_of words.now) (H.held shelf.old) (K.device sink.old).notes (K.device sink.new).notes result (trail_of trail.new) }
+    ensures kept { KeepsPromise (texts_of words.now) (H.held shelf.old) (H.faults shelf.old)
+        (H.faults shelf.new)
+        (H.failures shelf.old) (H.failures shelf.new) (K.device sink.old)
+        (K.device sink.new) result }
+    ensures trail { KeepsTrail (texts_of words.now) (H.held shelf.old) (K.device sink.old).notes
+        (K.device sink.new).notes result (trail_of trail.new) }
     ensures unread { NamesNoFile (texts_of words.now) → shelf.new ≡ shelf.old }
 {
     let job = match read_words(alloc, words) {

@@ -23,11 +23,12 @@ use std::alloc::Global;
 use std::sync::{Arc, Wait};
 use std::thread::Threads;
 
-/// Does the task for the system. No level may have more questions than the budget. The nodes come back with what their
-/// solvers were asked. What the last round of several workers leaves to be seen is put into `trail`.
+/// Does the task for the system. No level may have more questions than the budget. The nodes come
+/// back with what their solvers were asked. What the last round of several workers leaves to be
+/// seen is put into `trail`.
 ///
-/// Stops if a level has more questions, if a write fails, or for want of memory. Then the contract says how much was
-/// printed.
+/// Stops if a level has more questions, if a write fails, or for want of memory. Then the contract
+/// says how much was printed.
 pub(crate) fn evaluate_system<K: Sink, G: Gate + Sync, R: Threads + Wait + Sync>(
     rt: &R,
     alloc: Global,
@@ -38,12 +39,19 @@ pub(crate) fn evaluate_system<K: Sink, G: Gate + Sync, R: Threads + Wait + Sync>
     trail: &mut Trail,
 ) -> Result<Nodes<LocalSolver>, Stop>
     ensures later { (K.device sink.old).faults ≤ (K.device sink.new).faults }
-    ensures unfailed { ¬ IsErrOf result Stop.WriteFault → (K.device sink.new).faults ≡ (K.device sink.old).faults }
+    ensures unfailed { ¬ IsErrOf result Stop.WriteFault
+        → (K.device sink.new).faults ≡ (K.device sink.old).faults }
     ensures notes { (K.device sink.new).notes ≡ (K.device sink.old).notes }
-    ensures ok { IfOk result (λ nodes. HasListed assignment.task assignment.budget assignment.keep (arc_value system.now) (oracles_of nodes.list.items) (K.device sink.old).written (K.device sink.new).written) }
-    ensures stop { IfErr result (λ stop. StopsWork stop assignment.task assignment.budget (arc_value system.now)
-        (Rose (K.device sink.old).faults (K.device sink.new).faults) (K.device sink.old).written (K.device sink.new).written) }
-    ensures trail { IsNoTrail (trail_of trail.old) → ShowsEnd assignment.task assignment.budget assignment.workers (arc_value system.now) (trail_of trail.new) result }
+    ensures ok { IfOk result (λ nodes. HasListed assignment.task assignment.budget assignment.keep
+        (arc_value system.now) (oracles_of nodes.list.items) (K.device sink.old).written
+        (K.device sink.new).written) }
+    ensures stop { IfErr result (λ stop. StopsWork stop assignment.task assignment.budget
+        (arc_value system.now)
+        (Rose (K.device sink.old).faults (K.device sink.new).faults) (K.device sink.old).written
+        (K.device sink.new).written) }
+    ensures trail { IsNoTrail (trail_of trail.old)
+        → ShowsEnd assignment.task assignment.budget assignment.workers (arc_value system.now)
+        (trail_of trail.new) result }
 {
     let Assignment {
         task,
@@ -77,10 +85,13 @@ fn work_on<K: Sink, G: Gate + Sync, R: Threads + Wait + Sync>(
     sink: &mut K,
     gate: &G,
 ) -> Worked<LocalSolver>
-    requires { Begins (arc_value system) (arc_value beginning.plan) beginning.budget beginning.nodes.list.items }
-    ensures worked { (by : ℕ) × IsWorked by task (arc_value system) beginning.budget (oracles_of beginning.nodes.list.items) (oracles_of result.nodes.list.items)
+    requires { Begins (arc_value system) (arc_value beginning.plan) beginning.budget
+        beginning.nodes.list.items }
+    ensures worked { (by : ℕ) × IsWorked by task (arc_value system) beginning.budget
+        (oracles_of beginning.nodes.list.items) (oracles_of result.nodes.list.items)
         (K.device sink.old) (K.device sink.new) result.ended }
-    ensures shows { ShowsWork task beginning.budget workers (arc_value system) (trail_of result.trail) result.ended }
+    ensures shows { ShowsWork task beginning.budget workers (arc_value system)
+        (trail_of result.trail) result.ended }
 {
     if workers >= 2 {
         return work_in_threads(rt, alloc, workers, beginning, system, task, sink, gate);
@@ -93,11 +104,11 @@ fn work_on<K: Sink, G: Gate + Sync, R: Threads + Wait + Sync>(
     }
 }
 
-/// Does the task for the system, and lets go of it. No level may have more questions than the budget. What the last round
-/// of several workers leaves to be seen is put into `trail`.
+/// Does the task for the system, and lets go of it. No level may have more questions than the
+/// budget. What the last round of several workers leaves to be seen is put into `trail`.
 ///
-/// Stops if a level has more questions, if a write fails, or for want of memory. Then the contract says how much was
-/// printed.
+/// Stops if a level has more questions, if a write fails, or for want of memory. Then the contract
+/// says how much was printed.
 pub(crate) fn list_system<K: Sink, G: Gate + Sync, R: Threads + Wait + Sync>(
     rt: &R,
     alloc: Global,
@@ -108,12 +119,17 @@ pub(crate) fn list_system<K: Sink, G: Gate + Sync, R: Threads + Wait + Sync>(
     trail: &mut Trail,
 ) -> Result<(), Stop>
     ensures later { (K.device sink.old).faults ≤ (K.device sink.new).faults }
-    ensures unfailed { ¬ IsErrOf result Stop.WriteFault → (K.device sink.new).faults ≡ (K.device sink.old).faults }
+    ensures unfailed { ¬ IsErrOf result Stop.WriteFault
+        → (K.device sink.new).faults ≡ (K.device sink.old).faults }
     ensures notes { (K.device sink.new).notes ≡ (K.device sink.old).notes }
-    ensures ok { OnOk result (Prints (λ text. IsListingText assignment.task assignment.budget text system) (K.device sink.old).written (K.device sink.new).written) }
+    ensures ok { OnOk result (Prints (λ text. IsListingText assignment.task assignment.budget text
+        system) (K.device sink.old).written (K.device sink.new).written) }
     ensures stop { IfErr result (λ stop. StopsWork stop assignment.task assignment.budget system
-        (Rose (K.device sink.old).faults (K.device sink.new).faults) (K.device sink.old).written (K.device sink.new).written) }
-    ensures trail { IsNoTrail (trail_of trail.old) → ShowsEnd assignment.task assignment.budget assignment.workers system (trail_of trail.new) result }
+        (Rose (K.device sink.old).faults (K.device sink.new).faults) (K.device sink.old).written
+        (K.device sink.new).written) }
+    ensures trail { IsNoTrail (trail_of trail.old)
+        → ShowsEnd assignment.task assignment.budget assignment.workers system
+        (trail_of trail.new) result }
 {
     let system = shared(alloc, system)?;
     let nodes = evaluate_system(rt, alloc, assignment, &system, sink, gate, trail)?;

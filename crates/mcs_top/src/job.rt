@@ -24,8 +24,8 @@ use std::alloc::Global;
 use std::sync::Wait;
 use std::thread::Threads;
 
-/// Does the job. If it names no file, the shelf stays as it is. What the last round of several workers leaves to be seen
-/// is put into `trail`.
+/// Does the job. If it names no file, the shelf stays as it is. What the last round of several
+/// workers leaves to be seen is put into `trail`.
 pub(crate) fn do_job<H: Shelf, K: Sink, G: Gate + Sync, R: Threads + Wait + Sync>(
     rt: &R,
     alloc: Global,
@@ -38,18 +38,25 @@ pub(crate) fn do_job<H: Shelf, K: Sink, G: Gate + Sync, R: Threads + Wait + Sync
     ensures shelf_later { H.faults shelf.old ≤ H.faults shelf.new }
     ensures unread { files_in (request_of job.now) ≡ [] → shelf.new ≡ shelf.old }
     ensures sink_later { (K.device sink.old).faults ≤ (K.device sink.new).faults }
-    ensures unfailed { ¬ IsErrOf result Stop.WriteFault → (K.device sink.new).faults ≡ (K.device sink.old).faults }
+    ensures unfailed { ¬ IsErrOf result Stop.WriteFault
+        → (K.device sink.new).faults ≡ (K.device sink.old).faults }
     ensures notes { (K.device sink.new).notes ≡ (K.device sink.old).notes }
-    ensures ok { IfOk result (λ outcome. IfSome (told_all (H.held shelf.old) (files_in (request_of job.now)))
-        (EndsSo outcome (K.device sink.old).written (K.device sink.new).written (meaning (request_of job.now)))) }
+    ensures ok { IfOk result (λ outcome. IfSome (told_all (H.held shelf.old)
+        (files_in (request_of job.now)))
+        (EndsSo outcome (K.device sink.old).written (K.device sink.new).written
+        (meaning (request_of job.now)))) }
     ensures cause { IfErr result (λ stop. IsStopCause stop
-        (Rose (H.faults shelf.old) (H.faults shelf.new)) (Rose (H.failures shelf.old) (H.failures shelf.new))
+        (Rose (H.faults shelf.old) (H.faults shelf.new))
+        (Rose (H.failures shelf.old) (H.failures shelf.new))
         (Rose (K.device sink.old).faults (K.device sink.new).faults)
-        (meaning (request_of job.now)) (told_all (H.held shelf.old) (files_in (request_of job.now)))) }
+        (meaning (request_of job.now)) (told_all (H.held shelf.old)
+        (files_in (request_of job.now)))) }
     ensures leaves { IfErr result (λ stop. LeavesText stop
         (meaning (request_of job.now)) (told_all (H.held shelf.old) (files_in (request_of job.now)))
         (K.device sink.old).written (K.device sink.new).written) }
-    ensures trail { IsNoTrail (trail_of trail.old) → LeavesTrail (meaning (request_of job.now)) (told_all (H.held shelf.old) (files_in (request_of job.now))) (trail_of trail.new) result }
+    ensures trail { IsNoTrail (trail_of trail.old)
+        → LeavesTrail (meaning (request_of job.now))
+        (told_all (H.held shelf.old) (files_in (request_of job.now))) (trail_of trail.new) result }
 {
     match job {
         Job::Equilibria {

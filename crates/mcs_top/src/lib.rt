@@ -1,5 +1,5 @@
-//! The one call that the program makes: from the words of the command line and the bytes of a file to the printed
-//! listing and the number of the status.
+//! The one call that the program makes: from the words of the command line and the bytes of a file
+//! to the printed listing and the number of the status.
 #![tactic(auto)]
 
 mod assignment;

@@ -17,8 +17,8 @@ use std::alloc::Global;
 use std::sync::Wait;
 use std::thread::Threads;
 
-/// Does the task for the system whose text is in the file, within a budget of questions. What the last round of several
-/// workers leaves to be seen is put into `trail`.
+/// Does the task for the system whose text is in the file, within a budget of questions. What the
+/// last round of several workers leaves to be seen is put into `trail`.
 pub(crate) fn evaluate<H: Shelf, K: Sink, G: Gate + Sync, R: Threads + Wait + Sync>(
     rt: &R,
     alloc: Global,
@@ -31,18 +31,24 @@ pub(crate) fn evaluate<H: Shelf, K: Sink, G: Gate + Sync, R: Threads + Wait + Sy
 ) -> Result<(), Stop>
     ensures shelf_later { H.faults shelf.old ≤ H.faults shelf.new }
     ensures sink_later { (K.device sink.old).faults ≤ (K.device sink.new).faults }
-    ensures unfailed { ¬ IsErrOf result Stop.WriteFault → (K.device sink.new).faults ≡ (K.device sink.old).faults }
+    ensures unfailed { ¬ IsErrOf result Stop.WriteFault
+        → (K.device sink.new).faults ≡ (K.device sink.old).faults }
     ensures notes { (K.device sink.new).notes ≡ (K.device sink.old).notes }
     ensures ok { OnOk result (IfSome (told_all (H.held shelf.old) (file.now ∷ []))
-        (WritesOutput (K.device sink.old).written (K.device sink.new).written (task_job assignment.task file.now assignment.budget assignment.workers))) }
+        (WritesOutput (K.device sink.old).written (K.device sink.new).written
+        (task_job assignment.task file.now assignment.budget assignment.workers))) }
     ensures cause { IfErr result (λ stop. IsStopCause stop
-        (Rose (H.faults shelf.old) (H.faults shelf.new)) (Rose (H.failures shelf.old) (H.failures shelf.new))
+        (Rose (H.faults shelf.old) (H.faults shelf.new))
+        (Rose (H.failures shelf.old) (H.failures shelf.new))
         (Rose (K.device sink.old).faults (K.device sink.new).faults)
-        (task_job assignment.task file.now assignment.budget assignment.workers) (told_all (H.held shelf.old) (file.now ∷ []))) }
+        (task_job assignment.task file.now assignment.budget assignment.workers)
+        (told_all (H.held shelf.old) (file.now ∷ []))) }
     ensures leaves { IfErr result (λ stop. LeavesText stop
-        (task_job assignment.task file.now assignment.budget assignment.workers) (told_all (H.held shelf.old) (file.now ∷ []))
+        (task_job assignment.task file.now assignment.budget assignment.workers)
+        (told_all (H.held shelf.old) (file.now ∷ []))
         (K.device sink.old).written (K.device sink.new).written) }
-    ensures trail { IsNoTrail (trail_of trail.old) → LeavesTrail (task_job assignment.task file.now assignment.budget assignment.workers)
+    ensures trail { IsNoTrail (trail_of trail.old)
+        → LeavesTrail (task_job assignment.task file.now assignment.budget assignment.workers)
         (told_all (H.held shelf.old) (file.now ∷ [])) (trail_of trail.new) (as_done result) }
 {
     let system = system_in(alloc, file, shelf)?;

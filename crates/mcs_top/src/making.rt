@@ -19,13 +19,13 @@ use std::alloc::Global;
 use std::sync::Wait;
 use std::thread::Threads;
 
-/// Prints the line of the number, and does the task `Make` for the system generated for it. No level may have more
-/// questions than `budget`.
+/// Prints the line of the number, and does the task `Make` for the system generated for it. No
+/// level may have more questions than `budget`.
 ///
 /// What the last round of several workers leaves to be seen is put into `trail`.
 ///
-/// Stops if a level has more questions, if a write fails, or for want of memory. Then the contract says how much was
-/// printed.
+/// Stops if a level has more questions, if a write fails, or for want of memory. Then the contract
+/// says how much was printed.
 pub(crate) fn generated<K: Sink, G: Gate + Sync, R: Threads + Wait + Sync>(
     rt: &R,
     alloc: Global,
@@ -37,12 +37,16 @@ pub(crate) fn generated<K: Sink, G: Gate + Sync, R: Threads + Wait + Sync>(
     trail: &mut Trail,
 ) -> Result<(), Stop>
     ensures sink_later { (K.device sink.old).faults ≤ (K.device sink.new).faults }
-    ensures unfailed { ¬ IsErrOf result Stop.WriteFault → (K.device sink.new).faults ≡ (K.device sink.old).faults }
+    ensures unfailed { ¬ IsErrOf result Stop.WriteFault
+        → (K.device sink.new).faults ≡ (K.device sink.old).faults }
     ensures notes { (K.device sink.new).notes ≡ (K.device sink.old).notes }
-    ensures ok { OnOk result (Prints (AfterNumber (IsListingText Make budget) number) (K.device sink.old).written (K.device sink.new).written) }
+    ensures ok { OnOk result (Prints (AfterNumber (IsListingText Make budget) number)
+        (K.device sink.old).written (K.device sink.new).written) }
     ensures stop { IfErr result (λ stop. StopsGenerated stop number budget
-        (Rose (K.device sink.old).faults (K.device sink.new).faults) (K.device sink.old).written (K.device sink.new).written) }
-    ensures trail { IsNoTrail (trail_of trail.old) → ShowsEnd Make budget workers (generated_system number) (trail_of trail.new) result }
+        (Rose (K.device sink.old).faults (K.device sink.new).faults) (K.device sink.old).written
+        (K.device sink.new).written) }
+    ensures trail { IsNoTrail (trail_of trail.old)
+        → ShowsEnd Make budget workers (generated_system number) (trail_of trail.new) result }
 {
     let system = generate(alloc, number)?;
     print_number(alloc, number, &system, sink)?;

@@ -14,10 +14,11 @@ use std::sync::Wait;
 use std::thread::Threads;
 use std::{env, io};
 
-/// Runs the program. `words` are the words that the operating system gives; the first, the program's name, is dropped,
-/// and the others are passed to `run`. Returns the number of the status, with which the program ends. If the operating
-/// system fails to give the words, there are none, and so they ask for no job; but if it fails for want of memory, the
-/// run ends for want of memory.
+/// Runs the program. `words` are the words that the operating system gives; the first, the
+/// program's name, is dropped, and the others are passed to `run`. Returns the number of the
+/// status, with which the program ends. If the operating system fails to give the words, there are
+/// none, and so they ask for no job; but if it fails for want of memory, the run ends for want of
+/// memory.
 pub fn run_program<H: Shelf, K: Sink, G: Gate + Sync, R: Threads + Wait + Sync>(
     rt: &R,
     alloc: Global,
@@ -27,8 +28,10 @@ pub fn run_program<H: Shelf, K: Sink, G: Gate + Sync, R: Threads + Wait + Sync>(
     gate: &G,
 ) -> u8
     ensures kept { (status : Status) × (result ≡ status_number status)
-        × KeepsPromise (words_given words) (H.held shelf.old) (H.faults shelf.old) (H.faults shelf.new)
-        (H.failures shelf.old) (H.failures shelf.new) (K.device sink.old) (K.device sink.new) status }
+        × KeepsPromise (words_given words) (H.held shelf.old) (H.faults shelf.old)
+        (H.faults shelf.new)
+        (H.failures shelf.old) (H.failures shelf.new) (K.device sink.old)
+        (K.device sink.new) status }
     ensures unread { NamesNoFile (words_given words) → shelf.new ≡ shelf.old }
     ensures unheard { LackedMemory words → result ≡ 7 }
 {
@@ -44,8 +47,10 @@ fn done_so<H: Shelf, K: Sink, G: Gate + Sync, R: Threads + Wait + Sync>(
     sink: &mut K,
     gate: &G,
 ) -> Status
-    ensures kept { KeepsPromise (words_given words) (H.held shelf.old) (H.faults shelf.old) (H.faults shelf.new)
-        (H.failures shelf.old) (H.failures shelf.new) (K.device sink.old) (K.device sink.new) result }
+    ensures kept { KeepsPromise (words_given words) (H.held shelf.old) (H.faults shelf.old)
+        (H.faults shelf.new)
+        (H.failures shelf.old) (H.failures shelf.new) (K.device sink.old)
+        (K.device sink.new) result }
     ensures unread { NamesNoFile (words_given words) → shelf.new ≡ shelf.old }
     ensures unheard { LackedMemory words → result ≡ statuses.OutOfMemory }
 {
@@ -55,8 +60,8 @@ fn done_so<H: Shelf, K: Sink, G: Gate + Sync, R: Threads + Wait + Sync>(
     }
 }
 
-/// The given words, the program's name among them; none if the operating system fails to give them, unless it fails for
-/// want of memory.
+/// The given words, the program's name among them; none if the operating system fails to give them,
+/// unless it fails for want of memory.
 fn kept_words(alloc: Global, words: io::Result<env::Args>) -> Result<Vec<String>, AllocError>
     ensures kept { IfOk result (λ kept. kept.items ≡ all_given words) }
     ensures unheard { LackedMemory words → IsErr result }

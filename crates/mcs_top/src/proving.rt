@@ -24,9 +24,9 @@ use std::alloc::Global;
 use std::sync::Wait;
 use std::thread::Threads;
 
-/// Prints the equilibria, minimal diagnoses and minimal explanations of the system whose text is in the file, within a
-/// budget of questions. The answers on which these depend follow, each with a certificate. What the last round of several
-/// workers leaves to be seen is put into `trail`.
+/// Prints the equilibria, minimal diagnoses and minimal explanations of the system whose text is in
+/// the file, within a budget of questions. The answers on which these depend follow, each with a
+/// certificate. What the last round of several workers leaves to be seen is put into `trail`.
 pub(crate) fn prove<H: Shelf, K: Sink, G: Gate + Sync, R: Threads + Wait + Sync>(
     rt: &R,
     alloc: Global,
@@ -40,22 +40,28 @@ pub(crate) fn prove<H: Shelf, K: Sink, G: Gate + Sync, R: Threads + Wait + Sync>
 ) -> Result<(), Stop>
     ensures shelf_later { H.faults shelf.old ≤ H.faults shelf.new }
     ensures sink_later { (K.device sink.old).faults ≤ (K.device sink.new).faults }
-    ensures unfailed { ¬ IsErrOf result Stop.WriteFault → (K.device sink.new).faults ≡ (K.device sink.old).faults }
+    ensures unfailed { ¬ IsErrOf result Stop.WriteFault
+        → (K.device sink.new).faults ≡ (K.device sink.old).faults }
     ensures notes { (K.device sink.new).notes ≡ (K.device sink.old).notes }
     ensures ok { OnOk result (IfSome (told_all (H.held shelf.old) (file.now ∷ []))
-        (WritesOutput (K.device sink.old).written (K.device sink.new).written (meaning (solve file.now budget workers true)))) }
+        (WritesOutput (K.device sink.old).written (K.device sink.new).written
+        (meaning (solve file.now budget workers true)))) }
     ensures cause { IfErr result (λ stop. IsStopCause stop
-        (Rose (H.faults shelf.old) (H.faults shelf.new)) (Rose (H.failures shelf.old) (H.failures shelf.new))
+        (Rose (H.faults shelf.old) (H.faults shelf.new))
+        (Rose (H.failures shelf.old) (H.failures shelf.new))
         (Rose (K.device sink.old).faults (K.device sink.new).faults)
-        (meaning (solve file.now budget workers true)) (told_all (H.held shelf.old) (file.now ∷ []))) }
+        (meaning (solve file.now budget workers true))
+        (told_all (H.held shelf.old) (file.now ∷ []))) }
     ensures leaves { IfErr result (λ stop. LeavesText stop
         (meaning (solve file.now budget workers true)) (told_all (H.held shelf.old) (file.now ∷ []))
         (K.device sink.old).written (K.device sink.new).written) }
-    ensures trail { IsNoTrail (trail_of trail.old) → LeavesTrail (meaning (solve file.now budget workers true)) (told_all (H.held shelf.old) (file.now ∷ [])) (trail_of trail.new) (as_done result) }
+    ensures trail { IsNoTrail (trail_of trail.old)
+        → LeavesTrail (meaning (solve file.now budget workers true))
+        (told_all (H.held shelf.old) (file.now ∷ [])) (trail_of trail.new) (as_done result) }
 {
     let system = system_in(alloc, file, shelf)?;
-    // The contract of `contexts` ensures that the system is valid and its names are names, so the output is a valid
-    // report.
+    // The contract of `contexts` ensures that the system is valid and its names are names, so the
+    // output is a valid report.
     let _ = system.contexts();
     prove_system(rt, alloc, system, budget, workers, sink, gate, trail)
 }
@@ -72,12 +78,16 @@ fn prove_system<K: Sink, G: Gate + Sync, R: Threads + Wait + Sync>(
     trail: &mut Trail,
 ) -> Result<(), Stop>
     ensures later { (K.device sink.old).faults ≤ (K.device sink.new).faults }
-    ensures unfailed { ¬ IsErrOf result Stop.WriteFault → (K.device sink.new).faults ≡ (K.device sink.old).faults }
+    ensures unfailed { ¬ IsErrOf result Stop.WriteFault
+        → (K.device sink.new).faults ≡ (K.device sink.old).faults }
     ensures notes { (K.device sink.new).notes ≡ (K.device sink.old).notes }
-    ensures ok { OnOk result (Prints (λ text. IsWithinBudget IsProvedListing Solve budget text system) (K.device sink.old).written (K.device sink.new).written) }
+    ensures ok { OnOk result (Prints (λ text. IsWithinBudget IsProvedListing Solve budget text
+        system) (K.device sink.old).written (K.device sink.new).written) }
     ensures stop { IfErr result (λ stop. StopsStages (IsSolutionStage true) stop Solve budget system
-        (Rose (K.device sink.old).faults (K.device sink.new).faults) (K.device sink.old).written (K.device sink.new).written) }
-    ensures trail { IsNoTrail (trail_of trail.old) → ShowsEnd Solve budget workers system (trail_of trail.new) result }
+        (Rose (K.device sink.old).faults (K.device sink.new).faults) (K.device sink.old).written
+        (K.device sink.new).written) }
+    ensures trail { IsNoTrail (trail_of trail.old)
+        → ShowsEnd Solve budget workers system (trail_of trail.new) result }
 {
     let system = shared(alloc, system)?;
     let assignment = Assignment {

@@ -28,8 +28,8 @@ pub(crate) struct Worked<O: Oracle> {
     pub(crate) trail: Trail,
 }
 
-/// Does the task with so many workers, but at most one for each context, of which each may be a thread of its own. It
-/// may wait for them.
+/// Does the task with so many workers, but at most one for each context, of which each may be a
+/// thread of its own. It may wait for them.
 pub(crate) fn work_in_threads<O: Fork + Send, K: Sink, G: Gate + Sync, R: Threads + Wait + Sync>(
     rt: &R,
     alloc: Global,
@@ -40,16 +40,22 @@ pub(crate) fn work_in_threads<O: Fork + Send, K: Sink, G: Gate + Sync, R: Thread
     sink: &mut K,
     gate: &G,
 ) -> Worked<O>
-    requires { Begins (arc_value system) (arc_value beginning.plan) beginning.budget beginning.nodes.list.items }
-    ensures worked { IsWorked workers task (arc_value system) beginning.budget (oracles_of beginning.nodes.list.items) (oracles_of result.nodes.list.items)
+    requires { Begins (arc_value system) (arc_value beginning.plan) beginning.budget
+        beginning.nodes.list.items }
+    ensures worked { IsWorked workers task (arc_value system) beginning.budget
+        (oracles_of beginning.nodes.list.items) (oracles_of result.nodes.list.items)
         (K.device sink.old) (K.device sink.new) result.ended }
-    ensures shows { ShowsWork task beginning.budget workers (arc_value system) (trail_of result.trail) result.ended }
+    ensures shows { ShowsWork task beginning.budget workers (arc_value system)
+        (trail_of result.trail) result.ended }
 {
     let play = |round: Round<Nodes<O>>| -> Played<Nodes<O>, Trail>
         requires shared { IsSync R.row × IsSync G.row × IsSend O.row }
-        requires ready { IsReadyRound (arc_value round.plan) round.level round.budget round.asked round.nodes.list.items }
-        ensures played { IsPlayed (arc_value round.plan) round.level round.budget round.nodes.list.items result.nodes.list.items result.total }
-        ensures trail { IsTrail (arc_value round.plan) round.level workers result.nodes.list.items result.total (trail_of result.trail) }
+        requires ready { IsReadyRound (arc_value round.plan) round.level round.budget round.asked
+            round.nodes.list.items }
+        ensures played { IsPlayed (arc_value round.plan) round.level round.budget
+            round.nodes.list.items result.nodes.list.items result.total }
+        ensures trail { IsTrail (arc_value round.plan) round.level workers result.nodes.list.items
+            result.total (trail_of result.trail) }
     { play_in_threads(rt, alloc, gate, workers, round) };
     let player = CrewPlayer::new(&play, workers);
     let (ended, parts) = work_by(alloc, beginning, system, player, task, sink);

@@ -2,9 +2,9 @@
 
 use crate::trace::Trace;
 
-/// Whether a formula follows from others, and what shows it. `Yes` has a trace that refutes these with its negation.
-/// `No` has an assignment under which these hold and it does not, as the set of the true atoms. In the set, bit i is
-/// atom i+1.
+/// Whether a formula follows from others, and what shows it. `Yes` has a trace that refutes these
+/// with its negation. `No` has an assignment under which these hold and it does not, as the set of
+/// the true atoms. In the set, bit i is atom i+1.
 #[derive(Drop)]
 pub enum Entail {
     Yes(Trace),
@@ -17,14 +17,14 @@ pub struct ClassicalCert {
     pub entails: Vec<Entail>,
 }
 
-/// Why a default does not apply to the beliefs that a set of defaults generates. Defaults and justifications are
-/// numbered from 1.
+/// Why a default does not apply to the beliefs that a set of defaults generates. Defaults and
+/// justifications are numbered from 1.
 #[derive(Drop)]
 pub enum Outside {
     /// The prerequisite of the default with this number does not follow: a `No`.
     Unsupported(u32, Entail),
-    /// The negation of a justification of a default follows: the number of the default, that of the justification, and
-    /// a `Yes`.
+    /// The negation of a justification of a default follows: the number of the default, that of the
+    /// justification, and a `Yes`.
     Blocked(u32, u32, Entail),
 }
 
@@ -33,23 +33,23 @@ pub enum Outside {
 pub enum SetCert {
     /// A default of the set does not apply.
     Fails(Outside),
-    /// The default with this number is not in the set and applies: its prerequisite follows (`pre`, a `Yes`), and the
-    /// negation of no justification does (`justs`, a `No` for each).
+    /// The default with this number is not in the set and applies: its prerequisite follows (`pre`,
+    /// a `Yes`), and the negation of no justification does (`justs`, a `No` for each).
     Applied {
         number: u32,
         pre: Entail,
         justs: Vec<Entail>,
     },
-    /// With the defaults of a proper subset, `closed`, the prerequisites of the others of the set do not follow
-    /// (`pres`, a `No` for each, ascending). In `closed`, bit i is default i+1.
+    /// With the defaults of a proper subset, `closed`, the prerequisites of the others of the set
+    /// do not follow (`pres`, a `No` for each, ascending). In `closed`, bit i is default i+1.
     Ungrounded {
         closed: u32,
         pres: Vec<Entail>,
     },
-    /// The set generates an extension. In the order `order` each prerequisite follows by means of the defaults before
-    /// it (`pres`, a `Yes` for each). The negation of no justification follows (`justs`, a `No` for each, by ascending
-    /// default). No default outside the set applies (`outside`, ascending). For each belief it is shown whether it
-    /// follows (`outputs`).
+    /// The set generates an extension. In the order `order` each prerequisite follows by means of
+    /// the defaults before it (`pres`, a `Yes` for each). The negation of no justification follows
+    /// (`justs`, a `No` for each, by ascending default). No default outside the set applies
+    /// (`outside`, ascending). For each belief it is shown whether it follows (`outputs`).
     Extension {
         order: Vec<u32>,
         pres: Vec<Entail>,
@@ -59,23 +59,24 @@ pub enum SetCert {
     },
 }
 
-/// For each set of the defaults of a theory a verdict, ascending by the number of the set. In this number, bit i is
-/// default i+1.
+/// For each set of the defaults of a theory a verdict, ascending by the number of the set. In this
+/// number, bit i is default i+1.
 #[derive(Drop)]
 pub struct DefaultCert {
     pub sets: Vec<SetCert>,
 }
 
-/// A model of a program, and a trace that no proper subset of it satisfies its reduct. In the model, bit i is atom i+1.
+/// A model of a program, and a trace that no proper subset of it satisfies its reduct. In the
+/// model, bit i is atom i+1.
 #[derive(Drop)]
 pub struct AnswerSetCert {
     pub model: u64,
     pub minimal: Trace,
 }
 
-/// One answer set for each state of a program that is output; smaller sets, each of which satisfies the reduct by some
-/// other model and is a proper subset of it; and a trace. The trace shows that every other model either has one of
-/// these states, or is undone by one of the smaller sets.
+/// One answer set for each state of a program that is output; smaller sets, each of which satisfies
+/// the reduct by some other model and is a proper subset of it; and a trace. The trace shows that
+/// every other model either has one of these states, or is undone by one of the smaller sets.
 #[derive(Drop)]
 pub struct ProgramCert {
     /// One for each state, in the order of states.

@@ -3,7 +3,9 @@
 ghost use Rattle.std.specs.Prelude.{◌≡◌, ◌++◌, ◌↔◌, map, IsTrue, IfOk};
 ghost use Rattle.std.specs.Option.{option_copied};
 ghost use Rattle.mcs_trace.specs.Clauses.{IsClause, IsUnsatisfiable};
-ghost use Rattle.mcs_trace.specs.Traces.{numbered_clause, ResolvesTo, IsChainResolvent, AreRightSteps, EndsEmpty, IsAcceptedTrace, inference_of, clauses_of, inferences_of};
+ghost use Rattle.mcs_trace.specs.Traces.{numbered_clause, ResolvesTo, IsChainResolvent};
+ghost use Rattle.mcs_trace.specs.Traces.{AreRightSteps, EndsEmpty, IsAcceptedTrace, inference_of};
+ghost use Rattle.mcs_trace.specs.Traces.{clauses_of, inferences_of};
 
 use crate::clause::Clause;
 use crate::cnf::Cnf;
@@ -13,8 +15,8 @@ use mcs_base::Memory;
 use std::alloc::Global;
 use std::mem;
 
-/// The clause with this number, counted from 1, or `None` if no clause has it. The clauses of the list come first, then
-/// those of the steps.
+/// The clause with this number, counted from 1, or `None` if no clause has it. The clauses of the
+/// list come first, then those of the steps.
 pub fn numbered<'a>(clauses: &'a [Clause], steps: &'a [Step], number: u64) -> Option<&'a Clause>
     ensures { option_copied result ≡ numbered_clause (clauses.now ++ clauses_of steps.now) number }
 {
@@ -32,8 +34,8 @@ pub fn numbered<'a>(clauses: &'a [Clause], steps: &'a [Step], number: u64) -> Op
     None
 }
 
-/// Whether the clause in `current`, resolved in turn with the clauses with these numbers, yields `last`. The buffers
-/// are overwritten.
+/// Whether the clause in `current`, resolved in turn with the clauses with these numbers, yields
+/// `last`. The buffers are overwritten.
 fn resolves_to(
     clauses: &[Clause],
     steps: &[Step],
@@ -44,7 +46,8 @@ fn resolves_to(
 ) -> Result<bool, Memory>
     requires { IsClause current.old.items }
     ensures { IfOk result
-        (λ yes. IsTrue yes ↔ ResolvesTo (clauses.now ++ clauses_of steps.now) current.old.items numbers.now last.now) }
+        (λ yes. IsTrue yes ↔ ResolvesTo (clauses.now ++ clauses_of steps.now) current.old.items
+        numbers.now last.now) }
 {
     for number in numbers {
         let Some(next) = numbered(clauses, steps, *number) else {
@@ -67,7 +70,8 @@ fn is_right(
     spare: &mut Vec<i64>,
 ) -> Result<bool, Memory>
     ensures { IfOk result
-        (λ yes. IsTrue yes ↔ IsChainResolvent (clauses.now ++ clauses_of steps.now) step.now.chain.items step.now.clause) }
+        (λ yes. IsTrue yes ↔ IsChainResolvent (clauses.now ++ clauses_of steps.now)
+        step.now.chain.items step.now.clause) }
 {
     let Some((number, numbers)) = step.chain.split_first() else {
         return Ok(false);
@@ -89,7 +93,8 @@ fn is_right(
 
 /// Whether the clause of each step is the resolvent of its chain.
 fn are_right(alloc: Global, clauses: &[Clause], steps: &[Step]) -> Result<bool, Memory>
-    ensures { IfOk result (λ yes. IsTrue yes ↔ AreRightSteps clauses.now (map inference_of steps.now)) }
+    ensures { IfOk result (λ yes. IsTrue yes
+        ↔ AreRightSteps clauses.now (map inference_of steps.now)) }
 {
     let mut current = Vec::new(alloc);
     let mut spare = Vec::new(alloc);
@@ -111,10 +116,11 @@ fn ends_empty(steps: &[Step]) -> bool
     }
 }
 
-/// Whether the clause of each step is the resolvent of its chain, and that of the last step is empty. Time and memory
-/// are linear in the sizes of the clauses that the chains name.
+/// Whether the clause of each step is the resolvent of its chain, and that of the last step is
+/// empty. Time and memory are linear in the sizes of the clauses that the chains name.
 pub fn check(alloc: Global, cnf: &Cnf, trace: &Trace) -> Result<bool, Memory>
-    ensures accepted { IfOk result (λ yes. IsTrue yes ↔ IsAcceptedTrace cnf.now.clauses (inferences_of trace.now)) }
+    ensures accepted { IfOk result (λ yes. IsTrue yes
+        ↔ IsAcceptedTrace cnf.now.clauses (inferences_of trace.now)) }
     ensures refutes { IfOk result (λ yes. IsTrue yes → IsUnsatisfiable cnf.now.clauses) }
 {
     if !ends_empty(&trace.steps) {

@@ -1,6 +1,7 @@
 //! Clauses: ordered sets of literals.
 
-ghost use Rattle.std.specs.Prelude.{◌≡◌, ◌⊎◌, ◌↔◌, ◌<◌, ◌≤◌, ℕ, pos, IsTrue, MatchOption, OnOk, OnErr, [], length, slice_index_or};
+ghost use Rattle.std.specs.Prelude.{◌≡◌, ◌⊎◌, ◌↔◌, ◌<◌, ◌≤◌, ℕ, pos, IsTrue, MatchOption, OnOk};
+ghost use Rattle.std.specs.Prelude.{OnErr, [], length, slice_index_or};
 ghost use Rattle.mcs_base.specs.Listings.{IsAmong, IsListing};
 ghost use Rattle.mcs_trace.specs.Clauses.{IsClause, IsLiteral, LiteralBefore, place};
 
@@ -9,8 +10,9 @@ use mcs_base::Memory;
 use std::alloc::Global;
 use std::marker::Model;
 
-/// A set of literals. The literal n says that variable n is true, and -n that it is false; n is from 1 to 2^63-1. The
-/// literals are ordered by variable, with the positive literal of a variable first. Each occurs once.
+/// A set of literals. The literal n says that variable n is true, and -n that it is false; n is
+/// from 1 to 2^63-1. The literals are ordered by variable, with the positive literal of a variable
+/// first. Each occurs once.
 #[derive(Drop)]
 pub struct Clause {
     lits: Vec<i64>,
@@ -46,8 +48,10 @@ fn place_in(lits: &[i64], literal: i64) -> usize
     requires clause { IsClause lits.now }
     requires literal { IsLiteral literal }
     ensures bound { result ≤ length lits.now }
-    ensures before { (k : ℕ) → k < result → place (slice_index_or lits.now k (pos 0)) < place literal }
-    ensures after { result < length lits.now → place literal ≤ place (slice_index_or lits.now result (pos 0)) }
+    ensures before { (k : ℕ) → k < result
+        → place (slice_index_or lits.now k (pos 0)) < place literal }
+    ensures after { result < length lits.now
+        → place literal ≤ place (slice_index_or lits.now result (pos 0)) }
 {
     let mut index = 0;
     while index < lits.len() && place(lits[index]) < place(literal) {
@@ -57,7 +61,8 @@ fn place_in(lits: &[i64], literal: i64) -> usize
 }
 
 impl Clause {
-    /// The clause of these literals, or `None` exactly if they are not in strict order or one of them is not a literal.
+    /// The clause of these literals, or `None` exactly if they are not in strict order or one of
+    /// them is not a literal.
     pub fn new(lits: Vec<i64>) -> Option<Clause>
         ensures { MatchOption result (¬ IsClause lits.items) (λ c. (c ≡ lits.items) × IsClause c) }
     {
@@ -77,10 +82,12 @@ impl Clause {
         }
     }
 
-    /// Adds the literal, in time linear in the number of literals. If memory runs out, the clause is as before.
+    /// Adds the literal, in time linear in the number of literals. If memory runs out, the clause
+    /// is as before.
     pub fn insert(&mut self, literal: i64) -> Result<(), Memory>
         requires { IsLiteral literal }
-        ensures ok { OnOk result (IsListing (λ l. (l ≡ literal) ⊎ IsAmong l self.old) LiteralBefore self.new) }
+        ensures ok { OnOk result (IsListing (λ l. (l ≡ literal) ⊎ IsAmong l self.old) LiteralBefore
+            self.new) }
         ensures err { OnErr result (self.new ≡ self.old) }
     {
         let index = place_in(&self.lits, literal);

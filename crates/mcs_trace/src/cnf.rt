@@ -10,7 +10,8 @@ use mcs_base::Memory;
 use std::alloc::Global;
 use std::marker::Model;
 
-/// A list of clauses over the variables 1 to `vars`. The clauses are numbered from 1 in their order.
+/// A list of clauses over the variables 1 to `vars`. The clauses are numbered from 1 in their
+/// order.
 #[derive(Drop)]
 pub struct Cnf {
     vars: u64,
@@ -68,20 +69,23 @@ impl Cnf {
     /// Appends a clause. If memory runs out, the list is as before.
     pub fn push(&mut self, clause: Clause) -> Result<(), Memory>
         requires { IsWithin self.old.vars clause }
-        ensures ok { OnOk result (self.new ≡ record self.old { clauses = self.old.clauses ++ clause ∷ [] }) }
+        ensures ok { OnOk result (self.new
+            ≡ record self.old { clauses = self.old.clauses ++ clause ∷ [] }) }
         ensures err { OnErr result (self.new ≡ self.old) }
     {
-        // The contract of `literals` ensures that it is a clause, as the invariant of the list requires.
+        // The contract of `literals` ensures that it is a clause, as the invariant of the list
+        // requires.
         let _ = clause.literals();
         self.clauses.push(clause)?;
         Ok(())
     }
 
-    /// Appends the clauses of another list, which has the same variables or more. If memory runs out, the list is as
-    /// before.
+    /// Appends the clauses of another list, which has the same variables or more. If memory runs
+    /// out, the list is as before.
     pub fn append(&mut self, mut other: Cnf) -> Result<(), Memory>
         requires { self.old.vars ≤ other.vars }
-        ensures ok { OnOk result (self.new ≡ record { vars = other.vars; clauses = self.old.clauses ++ other.clauses }) }
+        ensures ok { OnOk result (self.new
+            ≡ record { vars = other.vars; clauses = self.old.clauses ++ other.clauses }) }
         ensures err { OnErr result (self.new ≡ self.old) }
     {
         self.clauses.append(&mut other.clauses)?;
@@ -99,8 +103,8 @@ impl Cnf {
         self.vars
     }
 
-    /// Keeps the first `count` clauses, over the variables 1 to `vars`. The variables of these clauses have to be among
-    /// them.
+    /// Keeps the first `count` clauses, over the variables 1 to `vars`. The variables of these
+    /// clauses have to be among them.
     pub fn cut(&mut self, vars: u64, count: usize)
         requires fewer { vars ≤ self.old.vars }
         requires within { AllByRecursion (IsWithin vars) (take count self.old.clauses) }

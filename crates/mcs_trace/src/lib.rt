@@ -1,5 +1,5 @@
-//! Propositional clauses, and traces of resolution steps. A trace that derives the empty clause shows that no
-//! assignment satisfies the clauses from which it is derived.
+//! Propositional clauses, and traces of resolution steps. A trace that derives the empty clause
+//! shows that no assignment satisfies the clauses from which it is derived.
 #![tactic(auto)]
 
 mod certificate;

@@ -21,7 +21,8 @@ pub fn is_literal(number: i64) -> bool
 
 /// Whether the literal is at the index.
 pub(crate) fn is_at(lits: &[i64], index: usize, literal: i64) -> bool
-    ensures { IsTrue result ↔ ((index < length lits.now) × (slice_index_or lits.now index (pos 0) ≡ literal)) }
+    ensures { IsTrue result
+        ↔ ((index < length lits.now) × (slice_index_or lits.now index (pos 0) ≡ literal)) }
 {
     index < lits.len() && lits[index] == literal
 }

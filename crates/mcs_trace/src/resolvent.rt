@@ -1,6 +1,7 @@
 //! The resolvent of two clauses.
 
-ghost use Rattle.std.specs.Prelude.{◌≡◌, [], ◌<◌, ◌≤◌, ◌↔◌, ℤ, List, unsigned_abs, length, drop, slice_index_or, pos, IsTrue, IfOk, MatchOption, OnOk};
+ghost use Rattle.std.specs.Prelude.{◌≡◌, [], ◌<◌, ◌≤◌, ◌↔◌, ℤ, List, unsigned_abs, length, drop};
+ghost use Rattle.std.specs.Prelude.{slice_index_or, pos, IsTrue, IfOk, MatchOption, OnOk};
 ghost use Rattle.std.specs.Bool.{MatchBool};
 ghost use Rattle.mcs_base.specs.Listings.{IsAmong, IsListing};
 ghost use Rattle.mcs_trace.specs.Clauses.{IsClause, IsLiteral, LiteralBefore, place};
@@ -13,8 +14,10 @@ use mcs_base::Memory;
 fn skip_smaller(lits: &[i64], start: usize, size: u64) -> usize
     requires { start ≤ length lits.now }
     ensures bound { result ≤ length lits.now }
-    ensures kept { (k : ℤ) → size ≤ unsigned_abs k → IsAmong k (drop start lits.now) → IsAmong k (drop result lits.now) }
-    ensures large { result < length lits.now → size ≤ unsigned_abs (slice_index_or lits.now result (pos 0)) }
+    ensures kept { (k : ℤ) → size ≤ unsigned_abs k → IsAmong k (drop start lits.now)
+        → IsAmong k (drop result lits.now) }
+    ensures large { result < length lits.now
+        → size ≤ unsigned_abs (slice_index_or lits.now result (pos 0)) }
 {
     let mut index = start;
     while index < lits.len() && lits[index].unsigned_abs() < size {
@@ -23,21 +26,25 @@ fn skip_smaller(lits: &[i64], start: usize, size: u64) -> usize
     index
 }
 
-/// Whether the literal is in the clause from `start` on, where no literal has a smaller absolute value.
+/// Whether the literal is in the clause from `start` on, where no literal has a smaller absolute
+/// value.
 fn is_next(lits: &[i64], start: usize, literal: i64) -> bool
     requires clause { IsClause lits.now }
     requires start { start ≤ length lits.now }
-    requires large { start < length lits.now → unsigned_abs literal ≤ unsigned_abs (slice_index_or lits.now start (pos 0)) }
+    requires large { start < length lits.now
+        → unsigned_abs literal ≤ unsigned_abs (slice_index_or lits.now start (pos 0)) }
     ensures { IsTrue result ↔ IsAmong literal (drop start lits.now) }
 {
     is_at(lits, start, literal) || is_at(lits, start + 1, literal)
 }
 
-/// The one literal of the first clause whose negation is in the second, or `None` if there is none or more than one.
+/// The one literal of the first clause whose negation is in the second, or `None` if there is none
+/// or more than one.
 fn only_clash(first: &[i64], second: &[i64]) -> Option<i64>
     requires first { IsClause first.now }
     requires second { IsClause second.now }
-    ensures { MatchOption result ((l : ℤ) → ¬ IsOnlyClash first.now second.now l) (IsOnlyClash first.now second.now) }
+    ensures { MatchOption result ((l : ℤ) → ¬ IsOnlyClash first.now second.now l)
+        (IsOnlyClash first.now second.now) }
 {
     let mut found = None;
     let mut index = 0;
@@ -53,25 +60,28 @@ fn only_clash(first: &[i64], second: &[i64]) -> Option<i64>
     found
 }
 
-/// Whether the next literal is that of the first clause, at `i`: it comes before the one of the second clause at `j`,
-/// or the second clause has none left.
+/// Whether the next literal is that of the first clause, at `i`: it comes before the one of the
+/// second clause at `j`, or the second clause has none left.
 fn comes_first(first: &[i64], i: usize, second: &[i64], j: usize) -> bool
     requires first { IsClause first.now }
     requires second { IsClause second.now }
     ensures { IsTrue result
         ↔ ((i < length first.now)
-        × (j < length second.now → place (slice_index_or first.now i (pos 0)) < place (slice_index_or second.now j (pos 0)))) }
+        × (j < length second.now → place (slice_index_or first.now i (pos 0))
+        < place (slice_index_or second.now j (pos 0)))) }
 {
     i < first.len() && (j >= second.len() || place(first[i]) < place(second[j]))
 }
 
-/// Appends the union of the first clause without the literal and of the second clause without its negation.
+/// Appends the union of the first clause without the literal and of the second clause without its
+/// negation.
 fn join(first: &[i64], second: &[i64], literal: i64, out: &mut Vec<i64>) -> Result<(), Memory>
     requires first { IsClause first.now }
     requires second { IsClause second.now }
     requires literal { IsLiteral literal }
     requires empty { out.old.items ≡ [] }
-    ensures { OnOk result (IsListing (IsLeft first.now second.now literal) LiteralBefore out.new.items) }
+    ensures { OnOk result (IsListing (IsLeft first.now second.now literal) LiteralBefore
+        out.new.items) }
 {
     let negated = -literal;
     let mut i = 0;
@@ -96,8 +106,9 @@ fn join(first: &[i64], second: &[i64], literal: i64, out: &mut Vec<i64>) -> Resu
     Ok(())
 }
 
-/// Replaces `out` by the resolvent of the two clauses, and returns whether there is one. If there is none, `out` is as
-/// before. If memory runs out, it has only the first literals of the resolvent, and can be used for another one.
+/// Replaces `out` by the resolvent of the two clauses, and returns whether there is one. If there
+/// is none, `out` is as before. If memory runs out, it has only the first literals of the
+/// resolvent, and can be used for another one.
 pub fn resolve(first: &[i64], second: &[i64], out: &mut Vec<i64>) -> Result<bool, Memory>
     requires first { IsClause first.now }
     requires second { IsClause second.now }

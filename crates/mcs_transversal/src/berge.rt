@@ -26,13 +26,14 @@ fn has_none_within(ts: &[Marks], edge: Marks, grown: Marks) -> bool
     true
 }
 
-/// Extends `t`, a minimal transversal of the edges before the last one, `edge`, which it does not meet. Appends to
-/// `out` the set with each mark of `edge` added, if each mark of that set still has a critical edge. This is tested on
-/// the edges.
+/// Extends `t`, a minimal transversal of the edges before the last one, `edge`, which it does not
+/// meet. Appends to `out` the set with each mark of `edge` added, if each mark of that set still
+/// has a critical edge. This is tested on the edges.
 fn grow_by_edges(t: Marks, edge: Marks, edges: &[Marks], out: &mut Vec<Marks>) -> Result<(), Memory>
     requires { ¬ Meets t edge }
     ensures { OnOk result
-        ((x : ℕ) → IsAmong x out.new.items ↔ (IsAmong x out.old.items ⊎ ComesOf edges.now edge x t)) }
+        ((x : ℕ) → IsAmong x out.new.items
+        ↔ (IsAmong x out.old.items ⊎ ComesOf edges.now edge x t)) }
 {
     let barred = barred(edges, t, edge);
     for mark in edge.members() {
@@ -43,14 +44,15 @@ fn grow_by_edges(t: Marks, edge: Marks, edges: &[Marks], out: &mut Vec<Marks>) -
     Ok(())
 }
 
-/// The same, tested on `ts`, all minimal transversals of the edges before `edge`. A set with a mark added is left out
-/// if one of them meets `edge` and lies within it.
+/// The same, tested on `ts`, all minimal transversals of the edges before `edge`. A set with a mark
+/// added is left out if one of them meets `edge` and lies within it.
 fn grow_by_sets(t: Marks, edge: Marks, ts: &[Marks], out: &mut Vec<Marks>) -> Result<(), Memory>
     requires apart { ¬ Meets t edge }
     requires among { IsAmong t ts.now }
     ensures { OnOk result
         ((before : List ℕ) → ((x : ℕ) → IsAmong x ts.now ↔ IsMinimal (IsTransversalOf before) x)
-        → (x : ℕ) → IsAmong x out.new.items ↔ (IsAmong x out.old.items ⊎ ComesOf (before ++ edge ∷ []) edge x t)) }
+        → (x : ℕ) → IsAmong x out.new.items
+        ↔ (IsAmong x out.old.items ⊎ ComesOf (before ++ edge ∷ []) edge x t)) }
 {
     for mark in edge.members() {
         let grown = t.with(mark);
@@ -61,9 +63,9 @@ fn grow_by_sets(t: Marks, edge: Marks, ts: &[Marks], out: &mut Vec<Marks>) -> Re
     Ok(())
 }
 
-/// Appends to `out` what one of the minimal transversals of the edges before the last one, `edge`, yields: itself, if
-/// it meets `edge`, and otherwise its extensions. These are tested on the edges or on the transversals, whichever list
-/// is shorter.
+/// Appends to `out` what one of the minimal transversals of the edges before the last one, `edge`,
+/// yields: itself, if it meets `edge`, and otherwise its extensions. These are tested on the edges
+/// or on the transversals, whichever list is shorter.
 fn extend(
     t: Marks,
     edge: Marks,
@@ -71,10 +73,12 @@ fn extend(
     ts: &[Marks],
     out: &mut Vec<Marks>,
 ) -> Result<(), Memory>
-    requires before { (before : List ℕ) × (edges.now ≡ before ++ edge ∷ []) × ((x : ℕ) → IsAmong x ts.now ↔ IsMinimal (IsTransversalOf before) x) }
+    requires before { (before : List ℕ) × (edges.now ≡ before ++ edge ∷ [])
+        × ((x : ℕ) → IsAmong x ts.now ↔ IsMinimal (IsTransversalOf before) x) }
     requires among { IsAmong t ts.now }
     ensures { OnOk result
-        ((x : ℕ) → IsAmong x out.new.items ↔ (IsAmong x out.old.items ⊎ ComesOf edges.now edge x t)) }
+        ((x : ℕ) → IsAmong x out.new.items
+        ↔ (IsAmong x out.old.items ⊎ ComesOf edges.now edge x t)) }
 {
     if t.meets(edge) {
         out.push(t)?;
@@ -94,7 +98,8 @@ fn extend_each(
     edges: &[Marks],
     out: &mut Vec<Marks>,
 ) -> Result<(), Memory>
-    requires { (before : List ℕ) × (edges.now ≡ before ++ edge ∷ []) × ((x : ℕ) → IsAmong x ts.now ↔ IsMinimal (IsTransversalOf before) x) }
+    requires { (before : List ℕ) × (edges.now ≡ before ++ edge ∷ [])
+        × ((x : ℕ) → IsAmong x ts.now ↔ IsMinimal (IsTransversalOf before) x) }
     ensures { OnOk result ((x : ℕ) → IsAmong x out.new.items ↔ ComesOfOne edges.now edge ts.now x) }
 {
     out.clear();
@@ -104,10 +109,11 @@ fn extend_each(
     Ok(())
 }
 
-/// The minimal sets that meet every edge (Berge 1989), each once, in the order of pairs. For no edges this is the empty
-/// set alone. If an edge is empty, there is none.
+/// The minimal sets that meet every edge (Berge 1989), each once, in the order of pairs. For no
+/// edges this is the empty set alone. If an edge is empty, there is none.
 pub fn minimal_transversals(alloc: Global, edges: &[Marks]) -> Result<Vec<Marks>, Memory>
-    ensures { IfOk result (λ ts. IsListing (IsMinimal (IsTransversalOf edges.now)) PairBefore ts.items) }
+    ensures { IfOk result (λ ts. IsListing (IsMinimal (IsTransversalOf edges.now)) PairBefore
+        ts.items) }
 {
     let mut current = Vec::new(alloc);
     let mut next = Vec::new(alloc);

@@ -1,6 +1,7 @@
 //! Critical edges of a set: edges that it meets in one mark alone.
 
-ghost use Rattle.std.specs.Prelude.{◌<◌, ◌⊎◌, ◌↔◌, ℕ, IsTrue, MatchOption, IfSome, length, slice_index_or};
+ghost use Rattle.std.specs.Prelude.{◌<◌, ◌⊎◌, ◌↔◌, ℕ, IsTrue, MatchOption, IfSome, length};
+ghost use Rattle.std.specs.Prelude.{slice_index_or};
 ghost use Rattle.mcs_sets.specs.Sets.{has};
 ghost use Rattle.mcs_base.specs.Transversals.{MeetAloneAt};
 ghost use Rattle.mcs_transversal.specs.Transversals.{IsCritical, IsFirstCritical, AreFirstCritical};
@@ -33,8 +34,8 @@ fn meet_alone_at(edge: Marks, t: Marks, mark: u32) -> bool
     }
 }
 
-/// The index of the first edge that meets the set in this mark alone, or `None` exactly if there is none. No memory is
-/// needed.
+/// The index of the first edge that meets the set in this mark alone, or `None` exactly if there is
+/// none. No memory is needed.
 pub fn critical(edges: &[Marks], t: Marks, mark: u32) -> Option<usize>
     ensures { MatchOption result
         ((j : ℕ) → j < length edges.now → ¬ MeetAloneAt (slice_index_or edges.now j 0) t mark)
@@ -61,8 +62,9 @@ fn new_mark(edge: Marks, t: Marks, left: Marks) -> Option<u32>
     if left.has(mark) { Some(mark) } else { None }
 }
 
-/// For each mark the index of the first edge that meets the set in this mark alone, or `None` exactly if there is none.
-/// No memory is needed. There is one pass over the edges, which ends at the last of these edges.
+/// For each mark the index of the first edge that meets the set in this mark alone, or `None`
+/// exactly if there is none. No memory is needed. There is one pass over the edges, which ends at
+/// the last of these edges.
 pub fn first_critical_edges(edges: &[Marks], t: Marks) -> [Option<usize>; 128]
     ensures { AreFirstCritical edges.now t result }
 {

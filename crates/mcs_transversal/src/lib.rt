@@ -1,4 +1,5 @@
-//! Minimal transversals (hitting sets) of a hypergraph: the minimal sets of marks that meet each edge.
+//! Minimal transversals (hitting sets) of a hypergraph: the minimal sets of marks that meet each
+//! edge.
 #![tactic(auto)]
 
 mod barred;

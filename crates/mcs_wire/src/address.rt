@@ -14,8 +14,8 @@ use mcs_node::Letter;
 use std::marker::Model;
 use std::sync::Wait;
 
-/// An end that sends letters to the inbox of its wire. It stands for one or more of the wire's addresses, its parts.
-/// `wire` makes the first address, and `split` each other one.
+/// An end that sends letters to the inbox of its wire. It stands for one or more of the wire's
+/// addresses, its parts. `wire` makes the first address, and `split` each other one.
 #[derive(Drop)]
 pub struct Address {
     pub(crate) sender: Sender,
@@ -54,8 +54,8 @@ impl Address {
         self.sent
     }
 
-    /// Moves one part to a new address, which has sent nothing. The address has to have at least two. If there is no
-    /// memory, it stays as it was.
+    /// Moves one part to a new address, which has sent nothing. The address has to have at least
+    /// two. If there is no memory, it stays as it was.
     pub fn split(&mut self) -> Result<Address, Memory>
         requires { 2 ≤ self.old.parts }
         ensures kept { OnOk result (self.new ≡ less_one self.old) }
@@ -73,8 +73,8 @@ impl Address {
         })
     }
 
-    /// Adds the parts of `other`, and the letters that it has sent. The two numbers of letters have to add up to less
-    /// than 2^63. No memory is needed.
+    /// Adds the parts of `other`, and the letters that it has sent. The two numbers of letters have
+    /// to add up to less than 2^63. No memory is needed.
     pub fn join(&mut self, other: Address)
         requires wire { other.wire ≡ self.old.wire }
         requires sent { length self.old.sent + length other.sent < 2 ^ 63 }
@@ -92,8 +92,8 @@ impl Address {
         self.sent += sent;
     }
 
-    /// Sends the letter, which has to name the plan of the wire. It may wait as long as the inbox is full. Fewer than
-    /// 2^63 - 1 letters may have been sent. No memory is needed.
+    /// Sends the letter, which has to name the plan of the wire. It may wait as long as the inbox
+    /// is full. Fewer than 2^63 - 1 letters may have been sent. No memory is needed.
     pub fn send<R: Wait>(&mut self, rt: &R, letter: Letter)
         requires sent { length self.old.sent < 2 ^ 63 - 1 }
         requires plan { letter.plan ≡ self.old.wire.plan }

@@ -27,15 +27,17 @@ pub struct Ends {
     pub inbox: Inbox,
 }
 
-/// A wire for letters of the plan. Its inbox holds at most `capacity` letters, and it has so many addresses, of which
-/// the first stands for all. Both numbers are at least 1. An address, or an inbox, that is passed to a call together
-/// with another end has to be of the same wire.
+/// A wire for letters of the plan. Its inbox holds at most `capacity` letters, and it has so many
+/// addresses, of which the first stands for all. Both numbers are at least 1. An address, or an
+/// inbox, that is passed to a call together with another end has to be of the same wire.
 pub fn wire(alloc: Global, plan: Arc<Plan>, capacity: usize, addresses: u32) -> Result<Ends, Memory>
     requires capacity { 0 < capacity }
     requires addresses { 0 < addresses }
     ensures one { IfOk result (λ ends. ends.inbox.wire ≡ ends.address.wire) }
-    ensures wire { IfOk result (λ ends. (ends.address.wire.plan ≡ arc_value plan) × (ends.address.wire.addresses ≡ addresses)) }
-    ensures address { IfOk result (λ ends. (ends.address.parts ≡ addresses) × (ends.address.sent ≡ [])) }
+    ensures wire { IfOk result (λ ends. (ends.address.wire.plan ≡ arc_value plan)
+        × (ends.address.wire.addresses ≡ addresses)) }
+    ensures address { IfOk result (λ ends. (ends.address.parts ≡ addresses)
+        × (ends.address.sent ≡ [])) }
     ensures inbox { IfOk result (λ ends. ends.inbox.taken ≡ []) }
 {
     let (sender, receiver, mut pass) = bounded_with(alloc, capacity)?;
@@ -50,7 +52,8 @@ pub fn wire(alloc: Global, plan: Arc<Plan>, capacity: usize, addresses: u32) -> 
     Ok(Ends { address, inbox })
 }
 
-/// Gives a new channel its plan and its number of addresses, and makes the pass of the first address.
+/// Gives a new channel its plan and its number of addresses, and makes the pass of the first
+/// address.
 fn begin<N: Terms>(
     sender: &Sender,
     pass: &mut Pass<Letter, View>,

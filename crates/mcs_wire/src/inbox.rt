@@ -44,10 +44,11 @@ impl Inbox {
         take_on(rt, &self.receiver, &mut self.pass)
     }
 
-    /// Takes a letter if there is one. `None` is answered only if the inbox was empty at a moment of the call. No memory
-    /// is needed.
+    /// Takes a letter if there is one. `None` is answered only if the inbox was empty at a moment
+    /// of the call. No memory is needed.
     pub fn try_take<R: Wait>(&mut self, rt: &R) -> Option<Letter>
-        ensures taken { IfSome result (λ letter. (self.new ≡ with_taken letter self.old) × (letter.plan ≡ self.old.wire.plan)) }
+        ensures taken { IfSome result (λ letter. (self.new ≡ with_taken letter self.old)
+            × (letter.plan ≡ self.old.wire.plan)) }
         ensures none { IfNone result ((self.new ≡ self.old) × HasBeenEmpty self.old) }
     {
         self.receiver

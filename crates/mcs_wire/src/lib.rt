@@ -1,5 +1,5 @@
-//! Wires: several threads send letters to one inbox, each by an address of its own. Nothing is lost and nothing is
-//! handed out twice.
+//! Wires: several threads send letters to one inbox, each by an address of its own. Nothing is lost
+//! and nothing is handed out twice.
 #![tactic(auto)]
 
 mod address;

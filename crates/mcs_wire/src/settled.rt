@@ -16,8 +16,8 @@ use std::alloc::Global;
 use std::marker::Model;
 use std::sync::Wait;
 
-/// A wire that nobody uses any more: which letters were sent by it, which of them were taken, and which were left. Only
-/// `settle` makes it.
+/// A wire that nobody uses any more: which letters were sent by it, which of them were taken, and
+/// which were left. Only `settle` makes it.
 #[derive(Drop)]
 pub struct Settled {
     pass: Pass<Letter, View>,
@@ -55,8 +55,8 @@ impl Settled {
         self.got
     }
 
-    /// The letters that were sent and not taken, in the order of the inbox. As bags, they and those taken are those
-    /// sent.
+    /// The letters that were sent and not taken, in the order of the inbox. As bags, they and those
+    /// taken are those sent.
     pub fn left(&self) -> &[Letter]
         ensures left { result.now ≡ self.now.left }
         ensures together { AreTogether self.now.got self.now.left self.now.sent }
@@ -65,8 +65,9 @@ impl Settled {
     }
 }
 
-/// Ends a wire by its inbox and the address that has all its parts, since all others were joined to it. It takes the
-/// letters that the inbox still holds. Without memory for them, the wire is dropped with its letters.
+/// Ends a wire by its inbox and the address that has all its parts, since all others were joined to
+/// it. It takes the letters that the inbox still holds. Without memory for them, the wire is
+/// dropped with its letters.
 pub fn settle<R: Wait>(
     rt: &R,
     alloc: Global,
@@ -106,10 +107,14 @@ fn drain<R: Wait>(
     pass: &mut Pass<Letter, View>,
 ) -> Result<Vec<Letter>, Memory>
     requires at { IsSeatAt (receives_on receiver.now) pass.old }
-    requires whole { ((view pass.old).reads ≡ 1) × ((view pass.old).parts ≡ (view pass.old).addresses) }
-    ensures kept { IfOk result (λ _. ((view pass.new).plan ≡ (view pass.old).plan) × ((view pass.new).sent ≡ (view pass.old).sent)) }
-    ensures taken { IfOk result (λ left. (view pass.new).taken ≡ (view pass.old).taken ++ left.items) }
-    ensures together { IfOk result (λ _. AreTogether (view pass.new).taken [] (view pass.new).sent) }
+    requires whole { ((view pass.old).reads ≡ 1)
+        × ((view pass.old).parts ≡ (view pass.old).addresses) }
+    ensures kept { IfOk result (λ _. ((view pass.new).plan ≡ (view pass.old).plan)
+        × ((view pass.new).sent ≡ (view pass.old).sent)) }
+    ensures taken { IfOk result (λ left. (view pass.new).taken
+        ≡ (view pass.old).taken ++ left.items) }
+    ensures together { IfOk result (λ _. AreTogether (view pass.new).taken []
+        (view pass.new).sent) }
 {
     let mut left = Vec::new(alloc);
     for _ in rt.forever() {

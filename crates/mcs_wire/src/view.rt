@@ -14,7 +14,8 @@ pub struct View {
     pub addresses: u32,
     /// How many of them it stands for.
     pub parts: u32,
-    /// The letters that it has sent, in order, and then those of each address that was joined into it.
+    /// The letters that it has sent, in order, and then those of each address that was joined into
+    /// it.
     pub sent: LinkedList<Letter>,
     /// The letters that it has taken, in order.
     pub taken: LinkedList<Letter>,

@@ -41,8 +41,8 @@ impl Terms for Brand {
     ghost addresses = { 0 };
 }
 
-/// The beginning of a wire: its channel gets a plan and a number of addresses, and a first address, which stands for all
-/// of them.
+/// The beginning of a wire: its channel gets a plan and a number of addresses, and a first address,
+/// which stands for all of them.
 pub struct Begin<N: Terms> {
     of: PhantomData<N>,
 }

@@ -42,8 +42,8 @@ fn supplier(plan: &Plan) -> Option<u32>
     Some(*from)
 }
 
-/// A letter to the second context, in the round of the level, that says that memory ran out; `None` if no context
-/// supplies it.
+/// A letter to the second context, in the round of the level, that says that memory ran out; `None`
+/// if no context supplies it.
 fn stop(plan: &Arc<Plan>, level: u32) -> Result<Option<Letter>, Memory>
     ensures { IfOk result (λ stop. IfSome stop (λ letter. letter.plan ≡ arc_value plan.now)) }
 {

@@ -69,7 +69,8 @@ fn send_all<R: Wait>(rt: &R, load: Load) -> Address
 
 /// Sends the letters of both loads, each in a thread of its own.
 fn send_by_two<R: Threads + Wait + Sync>(rt: &R, pair: Pair) -> Address
-    requires { AreReady pair.one.address pair.one.letters.items pair.two.address pair.two.letters.items }
+    requires { AreReady pair.one.address pair.one.letters.items pair.two.address
+        pair.two.letters.items }
     ensures { result.wire ≡ pair.one.address.wire }
 {
     let Pair { one, two } = pair;
@@ -90,19 +91,23 @@ fn send_by_two<R: Threads + Wait + Sync>(rt: &R, pair: Pair) -> Address
 
 /// Sends the letters of four loads, each in a thread of its own.
 fn send_by_four<R: Threads + Wait + Sync>(rt: &R, low: Pair, high: Pair) -> Address
-    requires low { AreReady low.one.address low.one.letters.items low.two.address low.two.letters.items }
-    requires high { AreReady high.one.address high.one.letters.items high.two.address high.two.letters.items }
+    requires low { AreReady low.one.address low.one.letters.items low.two.address
+        low.two.letters.items }
+    requires high { AreReady high.one.address high.one.letters.items high.two.address
+        high.two.letters.items }
     requires wire { high.one.address.wire ≡ low.one.address.wire }
     ensures { result.wire ≡ low.one.address.wire }
 {
     let (mut address, other) = thread::join(
         rt,
         || -> Address
-            requires { AreReady low.one.address low.one.letters.items low.two.address low.two.letters.items }
+            requires { AreReady low.one.address low.one.letters.items low.two.address
+                low.two.letters.items }
             ensures { result.wire ≡ low.one.address.wire }
         { send_by_two(rt, low) },
         || -> Address
-            requires { AreReady high.one.address high.one.letters.items high.two.address high.two.letters.items }
+            requires { AreReady high.one.address high.one.letters.items high.two.address
+                high.two.letters.items }
             ensures { result.wire ≡ high.one.address.wire }
         { send_by_two(rt, high) },
     );
@@ -124,8 +129,10 @@ fn join_few(address: &mut Address, other: Address)
 fn split_two(address: &mut Address) -> Result<Address, Memory>
     requires parts { 2 < address.old.parts }
     requires none { address.old.sent ≡ [] }
-    ensures wire { (address.new.wire ≡ address.old.wire) × IfOk result (λ two. two.wire ≡ address.old.wire) }
-    ensures parts { IfOk result (λ two. (two.parts ≡ 2) × (address.new.parts + 2 ≡ address.old.parts)) }
+    ensures wire { (address.new.wire ≡ address.old.wire)
+        × IfOk result (λ two. two.wire ≡ address.old.wire) }
+    ensures parts { IfOk result (λ two. (two.parts ≡ 2)
+        × (address.new.parts + 2 ≡ address.old.parts)) }
     ensures none { IfOk result (λ two. (two.sent ≡ []) × (address.new.sent ≡ [])) }
 {
     let mut two = address.split()?;
@@ -151,7 +158,8 @@ struct Both {
 /// The address and another one, which is split off.
 fn split_one(address: Address) -> Result<Both, Memory>
     requires parts { 2 ≤ address.parts }
-    ensures wire { IfOk result (λ both. (both.one.wire ≡ address.wire) × (both.two.wire ≡ address.wire)) }
+    ensures wire { IfOk result (λ both. (both.one.wire ≡ address.wire)
+        × (both.two.wire ≡ address.wire)) }
 {
     let mut address = address;
     match address.split() {
@@ -173,8 +181,10 @@ struct Four {
 /// Each of two addresses and another one, which is split off.
 fn split_each(one: Address, two: Address) -> Result<Four, Memory>
     requires parts { (one.parts ≡ 2) × (two.parts ≡ 2) }
-    ensures low { IfOk result (λ four. (four.low.one.wire ≡ one.wire) × (four.low.two.wire ≡ one.wire)) }
-    ensures high { IfOk result (λ four. (four.high.one.wire ≡ two.wire) × (four.high.two.wire ≡ two.wire)) }
+    ensures low { IfOk result (λ four. (four.low.one.wire ≡ one.wire)
+        × (four.low.two.wire ≡ one.wire)) }
+    ensures high { IfOk result (λ four. (four.high.one.wire ≡ two.wire)
+        × (four.high.two.wire ≡ two.wire)) }
 {
     let low = match split_one(one) {
         Ok(low) => low,
@@ -192,13 +202,15 @@ fn split_each(one: Address, two: Address) -> Result<Four, Memory>
     }
 }
 
-/// Splits an address of four parts into four. It splits off two of them, which are joined. Each of the two addresses of
-/// two parts then splits off another one.
+/// Splits an address of four parts into four. It splits off two of them, which are joined. Each of
+/// the two addresses of two parts then splits off another one.
 fn split_in_four(address: Address) -> Result<Four, Memory>
     requires parts { address.parts ≡ 4 }
     requires none { address.sent ≡ [] }
-    ensures low { IfOk result (λ four. (four.low.one.wire ≡ address.wire) × (four.low.two.wire ≡ address.wire)) }
-    ensures high { IfOk result (λ four. (four.high.one.wire ≡ address.wire) × (four.high.two.wire ≡ address.wire)) }
+    ensures low { IfOk result (λ four. (four.low.one.wire ≡ address.wire)
+        × (four.low.two.wire ≡ address.wire)) }
+    ensures high { IfOk result (λ four. (four.high.one.wire ≡ address.wire)
+        × (four.high.two.wire ≡ address.wire)) }
 {
     let mut address = address;
     match split_two(&mut address) {
@@ -219,9 +231,12 @@ struct FourEnds {
 
 /// Those of a new wire.
 fn four_ends(alloc: Global, plan: &Arc<Plan>) -> Result<FourEnds, Memory>
-    ensures plan { IfOk result (λ ends. (ends.inbox.wire.plan ≡ arc_value plan.now) × (ends.inbox.wire.addresses ≡ 4)) }
-    ensures low { IfOk result (λ ends. (ends.four.low.one.wire ≡ ends.inbox.wire) × (ends.four.low.two.wire ≡ ends.inbox.wire)) }
-    ensures high { IfOk result (λ ends. (ends.four.high.one.wire ≡ ends.inbox.wire) × (ends.four.high.two.wire ≡ ends.inbox.wire)) }
+    ensures plan { IfOk result (λ ends. (ends.inbox.wire.plan ≡ arc_value plan.now)
+        × (ends.inbox.wire.addresses ≡ 4)) }
+    ensures low { IfOk result (λ ends. (ends.four.low.one.wire ≡ ends.inbox.wire)
+        × (ends.four.low.two.wire ≡ ends.inbox.wire)) }
+    ensures high { IfOk result (λ ends. (ends.four.high.one.wire ≡ ends.inbox.wire)
+        × (ends.four.high.two.wire ≡ ends.inbox.wire)) }
 {
     let Ends { address, inbox } = wire(alloc, Arc::try_clone(plan)?, 4096, 4)?;
     match split_in_four(address) {
@@ -239,7 +254,8 @@ fn loaded(both: Both, letters: Letters) -> Pair
     requires high { AllName both.one.wire.plan letters.high.items }
     requires wire { both.two.wire ≡ both.one.wire }
     ensures wire { result.one.address.wire ≡ both.one.wire }
-    ensures ready { AreReady result.one.address result.one.letters.items result.two.address result.two.letters.items }
+    ensures ready { AreReady result.one.address result.one.letters.items result.two.address
+        result.two.letters.items }
 {
     let Both { one, two } = both;
     let Letters { low, high } = letters;
@@ -292,7 +308,8 @@ struct Counted {
     counts: Vec<u32>,
 }
 
-/// Settles the wire, and counts the levels of the letters left; `None` if the address does not have all parts.
+/// Settles the wire, and counts the levels of the letters left; `None` if the address does not have
+/// all parts.
 fn settle_all<R: Wait>(
     rt: &R,
     alloc: Global,
@@ -315,7 +332,8 @@ fn settle_all<R: Wait>(
     Ok(Some(Counted { settled, counts }))
 }
 
-/// Four threads send letters of `each` levels, two of them the same ones, while another one takes some of them.
+/// Four threads send letters of `each` levels, two of them the same ones, while another one takes
+/// some of them.
 fn four_send<R: Threads + Wait + Sync>(
     rt: &R,
     alloc: Global,
@@ -333,8 +351,10 @@ fn four_send<R: Threads + Wait + Sync>(
     let (address, taken) = thread::join(
         rt,
         || -> Address
-            requires low { AreReady low.one.address low.one.letters.items low.two.address low.two.letters.items }
-            requires high { AreReady high.one.address high.one.letters.items high.two.address high.two.letters.items }
+            requires low { AreReady low.one.address low.one.letters.items low.two.address
+                low.two.letters.items }
+            requires high { AreReady high.one.address high.one.letters.items high.two.address
+                high.two.letters.items }
             requires wire { high.one.address.wire ≡ low.one.address.wire }
             ensures { result.wire ≡ low.one.address.wire }
         { send_by_four(rt, low, high) },
@@ -355,7 +375,8 @@ fn are_all(counts: &[u32], times: u32) -> bool {
     true
 }
 
-/// Whether so many letters were sent and so many taken, and each of so many levels was counted so often.
+/// Whether so many letters were sent and so many taken, and each of so many levels was counted so
+/// often.
 fn is_counted(counted: &Counted, sent: u64, got: u64, levels: usize, times: u32) -> bool {
     let Counted { settled, counts } = counted;
     settled.sent() == sent
@@ -380,9 +401,9 @@ fn four_threads_send_and_one_takes(rt: HostRuntime) -> Result<(), Fail> {
     Ok(())
 }
 
-/// One thread sends letters of so many levels through an inbox that holds one, while another one takes all of them. Two
-/// threads are needed: if the kit can't start another one, it runs the two closures one after the other, and the first
-/// waits forever.
+/// One thread sends letters of so many levels through an inbox that holds one, while another one
+/// takes all of them. Two threads are needed: if the kit can't start another one, it runs the two
+/// closures one after the other, and the first waits forever.
 fn two_exchange<R: Threads + Wait + Sync>(
     rt: &R,
     alloc: Global,

@@ -28,8 +28,10 @@ struct Two {
 
 /// Those of a new wire.
 fn two_addresses(alloc: Global, plan: &Arc<Plan>) -> Result<Two, Memory>
-    ensures plan { IfOk result (λ two. (two.inbox.wire.plan ≡ arc_value plan.now) × (two.inbox.wire.addresses ≡ 2)) }
-    ensures wire { IfOk result (λ two. (two.address.wire ≡ two.inbox.wire) × (two.other.wire ≡ two.inbox.wire)) }
+    ensures plan { IfOk result (λ two. (two.inbox.wire.plan ≡ arc_value plan.now)
+        × (two.inbox.wire.addresses ≡ 2)) }
+    ensures wire { IfOk result (λ two. (two.address.wire ≡ two.inbox.wire)
+        × (two.other.wire ≡ two.inbox.wire)) }
     ensures parts { IfOk result (λ two. (two.address.parts ≡ 1) × (two.other.parts ≡ 1)) }
     ensures none { IfOk result (λ two. (two.address.sent ≡ []) × (two.other.sent ≡ [])) }
 {
@@ -59,7 +61,8 @@ fn send_last<R: Wait>(rt: &R, address: &mut Address, letters: &mut Vec<Letter>)
     }
 }
 
-/// Two addresses send a letter each, one of these is taken, and the wire is settled; `None` if there are no letters.
+/// Two addresses send a letter each, one of these is taken, and the wire is settled; `None` if
+/// there are no letters.
 fn send_two_take_one<R: Wait>(
     rt: &R,
     alloc: Global,
@@ -179,7 +182,8 @@ fn states_taken<R: Wait>(rt: &R, ends: Ends, letter: Letter) -> Option<usize>
     listed
 }
 
-/// How many states the letter lists once it went through a wire of the plan; `None` if it names another plan.
+/// How many states the letter lists once it went through a wire of the plan; `None` if it names
+/// another plan.
 fn states_through_wire<R: Wait>(
     rt: &R,
     alloc: Global,

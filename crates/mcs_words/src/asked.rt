@@ -1,10 +1,12 @@
 //! The job that the words ask for, once they are sorted.
 
-ghost use Rattle.std.specs.Prelude.{◌≡◌, ◌∷◌, [], ◌≤◌, ℕ, MatchOption, MatchResult, IfSome, string_bytes};
+ghost use Rattle.std.specs.Prelude.{◌≡◌, ◌∷◌, [], ◌≤◌, ℕ, MatchOption, MatchResult, IfSome};
+ghost use Rattle.std.specs.Prelude.{string_bytes};
 ghost use Rattle.std.specs.Bool.{MatchBool};
 ghost use Rattle.mcs_base.specs.Numbers.{IsNumber};
 ghost use Rattle.mcs_words.specs.Commands.{Request, IsFile, IsChosen, AsksFor, most_of, most_made};
-ghost use Rattle.mcs_words.specs.Reading.{request_of, command_of, value_list, targets_of, IsOneFile, AreTwoFiles, IsOneNumber};
+ghost use Rattle.mcs_words.specs.Reading.{request_of, command_of, value_list, targets_of};
+ghost use Rattle.mcs_words.specs.Reading.{IsOneFile, AreTwoFiles, IsOneNumber};
 ghost use Rattle.mcs_words.specs.declared.setting.Setting.TheVariants.{Budget, Workers};
 
 use crate::given::Given;
@@ -17,12 +19,13 @@ use std::alloc::Global;
 /// The greatest number of a generated system.
 const MOST_MADE: u64 = 4_294_967_295;
 
-/// The job that the given words and values ask for. `Usage` is returned exactly if they ask for none, unless `Memory`
-/// is returned in its place.
+/// The job that the given words and values ask for. `Usage` is returned exactly if they ask for
+/// none, unless `Memory` is returned in its place.
 pub(crate) fn job(alloc: Global, given: &Given) -> Result<Job, WordsFault>
     ensures { MatchResult result
         (λ job. AsksFor (command_of given.now) (request_of job))
-        (λ fault. fault ≡ WordsFault.Usage → (request : Request) → ¬ AsksFor (command_of given.now) request) }
+        (λ fault. fault ≡ WordsFault.Usage → (request : Request)
+        → ¬ AsksFor (command_of given.now) request) }
 {
     let Some(task) = task_of(given.job) else {
         return Err(WordsFault::Usage);
@@ -66,19 +69,22 @@ pub(crate) fn job(alloc: Global, given: &Given) -> Result<Job, WordsFault>
 /// The budget and the number of workers, if both are in their range.
 fn numbers(given: &Given) -> Option<(u64, u32)>
     ensures { MatchOption result
-        ((budget workers : ℕ) → IsChosen Budget (value_list given.now.budget) budget → ¬ IsChosen Workers (value_list given.now.workers) workers)
-        (λ p. IsChosen Budget (value_list given.now.budget) p.0 × IsChosen Workers (value_list given.now.workers) p.1) }
+        ((budget workers : ℕ) → IsChosen Budget (value_list given.now.budget) budget
+        → ¬ IsChosen Workers (value_list given.now.workers) workers)
+        (λ p. IsChosen Budget (value_list given.now.budget) p.0
+        × IsChosen Workers (value_list given.now.workers) p.1) }
 {
     let budget = chosen(Setting::Budget, given.budget)?;
     let workers = chosen(Setting::Workers, given.workers)?;
     Some((budget, workers as u32))
 }
 
-/// The number that this value of the option denotes, or the default if there is no value; `None` if it is not in the
-/// range.
+/// The number that this value of the option denotes, or the default if there is no value; `None` if
+/// it is not in the range.
 fn chosen(setting: Setting, value: Option<&str>) -> Option<u64>
     ensures number { MatchOption result
-        ((n : ℕ) → ¬ IsChosen setting (value_list value.entry) n) (λ n. IsChosen setting (value_list value.entry) n) }
+        ((n : ℕ) → ¬ IsChosen setting (value_list value.entry) n)
+        (λ n. IsChosen setting (value_list value.entry) n) }
     ensures most { IfSome result (λ n. n ≤ most_of setting) }
 {
     match value {
@@ -102,7 +108,8 @@ fn one_file(alloc: Global, given: &Given) -> Result<String, WordsFault>
 /// The file and the report, if both can name a file.
 fn two_files(alloc: Global, given: &Given) -> Result<(String, String), WordsFault>
     ensures { MatchResult result
-        (λ p. (targets_of given.now ≡ string_bytes p.0 ∷ string_bytes p.1 ∷ []) × IsFile (string_bytes p.0) × IsFile (string_bytes p.1))
+        (λ p. (targets_of given.now ≡ string_bytes p.0 ∷ string_bytes p.1 ∷ [])
+        × IsFile (string_bytes p.0) × IsFile (string_bytes p.1))
         (λ fault. fault ≡ WordsFault.Usage → ¬ AreTwoFiles (targets_of given.now)) }
 {
     let Some(report) = given.report else {
@@ -116,7 +123,8 @@ fn two_files(alloc: Global, given: &Given) -> Result<(String, String), WordsFaul
 /// The number, if no report follows it.
 fn one_number(given: &Given) -> Result<u64, WordsFault>
     ensures { MatchResult result
-        (λ n. (targets_of given.now ≡ given.now.file.now ∷ []) × IsNumber 0 most_made given.now.file.now n)
+        (λ n. (targets_of given.now ≡ given.now.file.now ∷ [])
+        × IsNumber 0 most_made given.now.file.now n)
         (λ fault. (fault ≡ WordsFault.Usage) × ¬ IsOneNumber (targets_of given.now)) }
 {
     if given.report.is_some() {

@@ -22,10 +22,12 @@ pub(crate) struct Given<'a> {
     pub(crate) proof: bool,
 }
 
-/// What clap reads from the words. These have to be words that it accepts, so the only fault is want of memory.
+/// What clap reads from the words. These have to be words that it accepts, so the only fault is
+/// want of memory.
 pub(crate) fn given_by<'a>(alloc: Global, words: &'a [String]) -> Result<Given<'a>, WordsFault>
     requires { IsWholeReading (texts_of words.now) }
-    ensures { MatchResult result (λ g. read (texts_of words.entry.now) Place.Open ≡ Some (command_of g)) (λ fault. fault ≡ WordsFault.Memory) }
+    ensures { MatchResult result (λ g. read (texts_of words.entry.now) Place.Open
+        ≡ Some (command_of g)) (λ fault. fault ≡ WordsFault.Memory) }
 {
     let matches = match line(alloc)?.try_get_matches_from(words) {
         Ok(matches) => matches,

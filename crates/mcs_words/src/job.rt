@@ -5,8 +5,8 @@ ghost use Rattle.mcs_words.specs.declared.job.WordsFault.TheVariants.{Memory};
 
 use std::alloc::AllocError;
 
-/// A job of the program. Names of files are not empty and not `-`. A budget (the greatest number of questions of the
-/// run) is 1 to 4,294,967,295. A number of workers (threads) is 1 to 64.
+/// A job of the program. Names of files are not empty and not `-`. A budget (the greatest number of
+/// questions of the run) is 1 to 4,294,967,295. A number of workers (threads) is 1 to 64.
 #[derive(Debug, Drop, PartialEq, Eq)]
 pub enum Job {
     /// To list the equilibria of the system in the file.
@@ -15,8 +15,8 @@ pub enum Job {
         budget: u64,
         workers: u32,
     },
-    /// To list the equilibria, minimal diagnoses and minimal explanations of the system in the file, with or without a
-    /// proof.
+    /// To list the equilibria, minimal diagnoses and minimal explanations of the system in the
+    /// file, with or without a proof.
     Solve {
         file: String,
         budget: u64,

@@ -26,7 +26,8 @@ fn plain_line<'a>(alloc: Global) -> Result<Command<'a>, AllocError>
         .arg(Arg::new(alloc, "report"))
 }
 
-/// The command with the options `--budget` and `--workers` too, each with a text as its value, and the flag `--proof`.
+/// The command with the options `--budget` and `--workers` too, each with a text as its value, and
+/// the flag `--proof`.
 pub(crate) fn line<'a>(alloc: Global) -> Result<Command<'a>, AllocError>
     ensures { IfOk result (λ c. app_of c ≡ line) }
 {

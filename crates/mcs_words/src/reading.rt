@@ -1,8 +1,10 @@
 //! From words to a job.
 
-ghost use Rattle.std.specs.Prelude.{◌≡◌, ◌+◌, ◌≤◌, ◌<◌, ◌^◌, Option, None, option_map, MatchOption, MatchResult, IfSome};
+ghost use Rattle.std.specs.Prelude.{◌≡◌, ◌+◌, ◌≤◌, ◌<◌, ◌^◌, Option, None, option_map, MatchOption};
+ghost use Rattle.std.specs.Prelude.{MatchResult, IfSome};
 ghost use Rattle.mcs_words.specs.Commands.{Command, Request, IsJobOf};
-ghost use Rattle.mcs_words.specs.Reading.{texts_of, request_of, step, open_step, kind, read, counted_command, tally_of, total_of};
+ghost use Rattle.mcs_words.specs.Reading.{texts_of, request_of, step, open_step, kind, read};
+ghost use Rattle.mcs_words.specs.Reading.{counted_command, tally_of, total_of};
 
 use crate::asked::job;
 use crate::given::given_by;
@@ -26,19 +28,22 @@ pub(crate) enum Place {
 /// The job that the words ask for. `words` are those after the program's name.
 ///
 /// - The job is `equilibria FILE`, `solve FILE`, `check FILE REPORT` or `make NUMBER`.
-/// - The options `--budget N` and `--workers N` and the flag `--proof` may be anywhere before `--`, each at most once.
-///   An option may also be written `--budget=N`. After `--` every word is plain.
+/// - The options `--budget N` and `--workers N` and the flag `--proof` may be anywhere before `--`,
+///   each at most once. An option may also be written `--budget=N`. After `--` every word is plain.
 /// - FILE and REPORT are not empty and not `-`.
-/// - NUMBER and N are one or more digits. NUMBER is 0 to 4,294,967,295. The budget is 1 to 4,294,967,295, by default
-///   100,000. The workers are 1 to 64, by default 1.
+/// - NUMBER and N are one or more digits. NUMBER is 0 to 4,294,967,295. The budget is 1 to
+///   4,294,967,295, by default 100,000. The workers are 1 to 64, by default 1.
 ///
-/// The options and the flag are allowed for each job. For `check` they change nothing; the flag changes `solve` alone.
+/// The options and the flag are allowed for each job. For `check` they change nothing; the flag
+/// changes `solve` alone.
 ///
-/// `Usage` is returned exactly if the words ask for no job, unless `Memory` is returned in its place.
+/// `Usage` is returned exactly if the words ask for no job, unless `Memory` is returned in its
+/// place.
 pub fn read_words(alloc: Global, words: &[String]) -> Result<Job, WordsFault>
     ensures { MatchResult result
         (λ job. IsJobOf (texts_of words.now) (request_of job))
-        (λ fault. fault ≡ WordsFault.Usage → (request : Request) → ¬ IsJobOf (texts_of words.now) request) }
+        (λ fault. fault ≡ WordsFault.Usage → (request : Request)
+        → ¬ IsJobOf (texts_of words.now) request) }
 {
     match tally(words) {
         None => Err(WordsFault::Usage),
@@ -78,8 +83,10 @@ fn tally(words: &[String]) -> Option<Tally>
 /// Counts the next word, and returns the position of the one after it.
 fn take(tally: Tally, place: Place, word: &str) -> Option<(Tally, Place)>
     requires { total_of tally < 2 ^ 63 }
-    ensures read { (rest : Place → Option Command) → MatchOption result (step place word.now rest ≡ None)
-        (λ p. option_map (counted_command p.0) (rest p.1) ≡ option_map (counted_command tally) (step place word.now rest)) }
+    ensures read { (rest : Place → Option Command)
+        → MatchOption result (step place word.now rest ≡ None)
+        (λ p. option_map (counted_command p.0) (rest p.1)
+        ≡ option_map (counted_command tally) (step place word.now rest)) }
     ensures few { IfSome result (λ p. total_of p.0 ≤ total_of tally + 1) }
 {
     match place {
@@ -97,8 +104,10 @@ fn take(tally: Tally, place: Place, word: &str) -> Option<(Tally, Place)>
 /// Counts the next word, which is before the first `--` and no option's value.
 fn take_open(tally: Tally, word: &str) -> Option<(Tally, Place)>
     requires { total_of tally < 2 ^ 63 }
-    ensures read { (rest : Place → Option Command) → MatchOption result (open_step (kind word.now) word.now rest ≡ None)
-        (λ p. option_map (counted_command p.0) (rest p.1) ≡ option_map (counted_command tally) (open_step (kind word.now) word.now rest)) }
+    ensures read { (rest : Place → Option Command)
+        → MatchOption result (open_step (kind word.now) word.now rest ≡ None)
+        (λ p. option_map (counted_command p.0) (rest p.1)
+        ≡ option_map (counted_command tally) (open_step (kind word.now) word.now rest)) }
     ensures few { IfSome result (λ p. total_of p.0 ≤ total_of tally + 1) }
 {
     match kind_of(word) {

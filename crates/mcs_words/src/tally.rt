@@ -1,7 +1,8 @@
 //! How many words of each kind there are.
 
 ghost use Rattle.std.specs.Prelude.{◌≡◌, ◌<◌, ◌^◌, ◌↔◌, IsTrue};
-ghost use Rattle.mcs_words.specs.Reading.{total_of, no_tally, more_plain, more_values, more_proofs, IsWholeTally};
+ghost use Rattle.mcs_words.specs.Reading.{total_of, no_tally, more_plain, more_values, more_proofs};
+ghost use Rattle.mcs_words.specs.Reading.{IsWholeTally};
 
 use crate::setting::Setting;
 
@@ -65,7 +66,8 @@ impl Tally {
         }
     }
 
-    /// Whether there are a job, a file and at most one report, and each option and the flag at most once.
+    /// Whether there are a job, a file and at most one report, and each option and the flag at most
+    /// once.
     pub(crate) fn is_whole(self) -> bool
         ensures { IsTrue result ↔ IsWholeTally self }
     {

@@ -4,7 +4,8 @@ ghost use Rattle.std.specs.Prelude.{◌+◌, ◌<◌, ◌^◌, length};
 ghost use Rattle.std.specs.List.{AllByRecursion};
 ghost use Rattle.mcs_sets.specs.Sets.{Within};
 ghost use Rattle.mcs_system.specs.Systems.{all_variables};
-ghost use Rattle.mcs_report.specs.Listing.{heading, equilibrium_line, equilibrium_lines, verdict_line, short_end_line, after_heading};
+ghost use Rattle.mcs_report.specs.Listing.{heading, equilibrium_line, equilibrium_lines};
+ghost use Rattle.mcs_report.specs.Listing.{verdict_line, short_end_line, after_heading};
 ghost use Rattle.mcs_report.specs.Repairs.{diagnosis_line, explanation_line, end_line};
 ghost use Rattle.mcs_report.specs.Solutions.{equilibria_part, diagnosis_lines, explanation_lines};
 ghost use Rattle.mcs_text.specs.Writes.{Writes};
@@ -49,8 +50,8 @@ fn print_heading<K: Sink>(alloc: Global, system: &System, sink: &mut K) -> Resul
     write_line(&line, sink)
 }
 
-/// Prints what comes after the heading: a line for each state, the verdict, and the end line with the number of states
-/// and of questions.
+/// Prints what comes after the heading: a line for each state, the verdict, and the end line with
+/// the number of states and of questions.
 pub(crate) fn print_listing<K: Sink>(
     alloc: Global,
     system: &System,
@@ -59,7 +60,8 @@ pub(crate) fn print_listing<K: Sink>(
     sink: &mut K,
 ) -> Result<(), Unwritten>
     requires { AllByRecursion (λ σ. Within σ (all_variables system.now)) states.now }
-    ensures { Writes (after_heading system.now states.now need) (K.device sink.old) (K.device sink.new) result }
+    ensures { Writes (after_heading system.now states.now need) (K.device sink.old)
+        (K.device sink.new) result }
 {
     print_states(alloc, system, states, sink)?;
     print_verdict(alloc, !states.is_empty(), sink)?;
@@ -75,7 +77,8 @@ pub(crate) fn print_states_part<K: Sink>(
     sink: &mut K,
 ) -> Result<(), Unwritten>
     requires { AllByRecursion (λ σ. Within σ (all_variables system.now)) states.now }
-    ensures { Writes (states_part extent system.now states.now) (K.device sink.old) (K.device sink.new) result }
+    ensures { Writes (states_part extent system.now states.now) (K.device sink.old)
+        (K.device sink.new) result }
 {
     match extent {
         Extent::Whole => print_equilibria_part(alloc, system, states, sink),
@@ -91,7 +94,8 @@ fn print_equilibria_part<K: Sink>(
     sink: &mut K,
 ) -> Result<(), Unwritten>
     requires { AllByRecursion (λ σ. Within σ (all_variables system.now)) states.now }
-    ensures { Writes (equilibria_part system.now states.now) (K.device sink.old) (K.device sink.new) result }
+    ensures { Writes (equilibria_part system.now states.now) (K.device sink.old)
+        (K.device sink.new) result }
 {
     print_states(alloc, system, states, sink)?;
     print_verdict(alloc, !states.is_empty(), sink)
@@ -105,7 +109,8 @@ fn print_states<K: Sink>(
     sink: &mut K,
 ) -> Result<(), Unwritten>
     requires { AllByRecursion (λ σ. Within σ (all_variables system.now)) states.now }
-    ensures { Writes (equilibrium_lines system.now 1 states.now) (K.device sink.old) (K.device sink.new) result }
+    ensures { Writes (equilibrium_lines system.now 1 states.now) (K.device sink.old)
+        (K.device sink.new) result }
 {
     for (k, state) in states.iter().enumerate() {
         print_state(alloc, system, k as u64 + 1, *state, sink)?;
@@ -122,7 +127,8 @@ fn print_state<K: Sink>(
     sink: &mut K,
 ) -> Result<(), Unwritten>
     requires { Within state (all_variables system.now) }
-    ensures { Writes (equilibrium_line system.now number state) (K.device sink.old) (K.device sink.new) result }
+    ensures { Writes (equilibrium_line system.now number state) (K.device sink.old)
+        (K.device sink.new) result }
 {
     let mut line = Text::new(alloc);
     equilibrium_line(system, number, state, &mut line)?;
@@ -138,21 +144,24 @@ fn print_verdict<K: Sink>(alloc: Global, consistent: bool, sink: &mut K) -> Resu
     write_line(&line, sink)
 }
 
-/// Prints the end line of `equilibria`: how many equilibria there are, and how many questions were asked.
+/// Prints the end line of `equilibria`: how many equilibria there are, and how many questions were
+/// asked.
 fn print_short_end<K: Sink>(
     alloc: Global,
     equilibria: u64,
     need: u64,
     sink: &mut K,
 ) -> Result<(), Unwritten>
-    ensures { Writes (short_end_line equilibria need) (K.device sink.old) (K.device sink.new) result }
+    ensures { Writes (short_end_line equilibria need) (K.device sink.old)
+        (K.device sink.new) result }
 {
     let mut line = Text::new(alloc);
     short_end_line(equilibria, need, &mut line)?;
     write_line(&line, sink)
 }
 
-/// Prints the part of some diagnoses, as `extent` has it: a line for each, numbered from `first` on, or nothing.
+/// Prints the part of some diagnoses, as `extent` has it: a line for each, numbered from `first`
+/// on, or nothing.
 pub(crate) fn print_diagnoses_part<K: Sink>(
     alloc: Global,
     extent: Extent,
@@ -163,7 +172,8 @@ pub(crate) fn print_diagnoses_part<K: Sink>(
 ) -> Result<(), Unwritten>
     requires few { first + length diagnoses.now < 2 ^ 64 }
     requires of_system { AllByRecursion (IsOfSystem system.now) diagnoses.now }
-    ensures { Writes (diagnoses_part extent system.now first diagnoses.now) (K.device sink.old) (K.device sink.new) result }
+    ensures { Writes (diagnoses_part extent system.now first diagnoses.now) (K.device sink.old)
+        (K.device sink.new) result }
 {
     match extent {
         Extent::Whole => print_diagnoses(alloc, system, first, diagnoses, sink),
@@ -181,7 +191,8 @@ fn print_diagnoses<K: Sink>(
 ) -> Result<(), Unwritten>
     requires few { first + length diagnoses.now < 2 ^ 64 }
     requires of_system { AllByRecursion (IsOfSystem system.now) diagnoses.now }
-    ensures { Writes (diagnosis_lines system.now first diagnoses.now) (K.device sink.old) (K.device sink.new) result }
+    ensures { Writes (diagnosis_lines system.now first diagnoses.now) (K.device sink.old)
+        (K.device sink.new) result }
 {
     for (k, diagnosis) in diagnoses.iter().enumerate() {
         print_diagnosis(alloc, system, first + k as u64, diagnosis, sink)?;
@@ -198,15 +209,16 @@ fn print_diagnosis<K: Sink>(
     sink: &mut K,
 ) -> Result<(), Unwritten>
     requires { IsOfSystem system.now diagnosis.now }
-    ensures { Writes (diagnosis_line system.now number diagnosis.now) (K.device sink.old) (K.device sink.new) result }
+    ensures { Writes (diagnosis_line system.now number diagnosis.now) (K.device sink.old)
+        (K.device sink.new) result }
 {
     let mut line = Text::new(alloc);
     diagnosis_line(system, number, diagnosis, &mut line)?;
     write_line(&line, sink)
 }
 
-/// Prints what comes after the diagnoses: a line for each explanation, or the verdict, and then the end line. `pairs`
-/// are the pairs of the diagnoses.
+/// Prints what comes after the diagnoses: a line for each explanation, or the verdict, and then the
+/// end line. `pairs` are the pairs of the diagnoses.
 pub(crate) fn print_rest<K: Sink>(
     alloc: Global,
     extent: Extent,
@@ -218,14 +230,16 @@ pub(crate) fn print_rest<K: Sink>(
     sink: &mut K,
 ) -> Result<(), Unwritten>
     requires { AllByRecursion (IsCauseOf system.now pairs.now) explanations.now }
-    ensures { Writes (rest_part extent system.now equilibria pairs.now explanations.now need) (K.device sink.old) (K.device sink.new) result }
+    ensures { Writes (rest_part extent system.now equilibria pairs.now explanations.now need)
+        (K.device sink.old) (K.device sink.new) result }
 {
     print_explanations_part(alloc, extent, system, equilibria, pairs, explanations, sink)?;
     let (diagnoses, causes) = (pairs.len() as u64, explanations.len() as u64);
     print_end(alloc, equilibria, diagnoses, causes, need, sink)
 }
 
-/// Prints the part of the explanations: a line for each, or, for `Counts`, the verdict in their place.
+/// Prints the part of the explanations: a line for each, or, for `Counts`, the verdict in their
+/// place.
 fn print_explanations_part<K: Sink>(
     alloc: Global,
     extent: Extent,
@@ -236,7 +250,8 @@ fn print_explanations_part<K: Sink>(
     sink: &mut K,
 ) -> Result<(), Unwritten>
     requires { AllByRecursion (IsCauseOf system.now pairs.now) explanations.now }
-    ensures { Writes (explanations_part extent system.now equilibria pairs.now explanations.now) (K.device sink.old) (K.device sink.new) result }
+    ensures { Writes (explanations_part extent system.now equilibria pairs.now explanations.now)
+        (K.device sink.old) (K.device sink.new) result }
 {
     match extent {
         Extent::Whole => print_explanations(alloc, system, pairs, explanations, sink),
@@ -244,8 +259,8 @@ fn print_explanations_part<K: Sink>(
     }
 }
 
-/// Prints the end line of `solve`: how many equilibria, diagnoses and explanations there are, and how many questions
-/// were asked.
+/// Prints the end line of `solve`: how many equilibria, diagnoses and explanations there are, and
+/// how many questions were asked.
 fn print_end<K: Sink>(
     alloc: Global,
     equilibria: u64,
@@ -254,7 +269,8 @@ fn print_end<K: Sink>(
     need: u64,
     sink: &mut K,
 ) -> Result<(), Unwritten>
-    ensures { Writes (end_line equilibria diagnoses explanations need) (K.device sink.old) (K.device sink.new) result }
+    ensures { Writes (end_line equilibria diagnoses explanations need) (K.device sink.old)
+        (K.device sink.new) result }
 {
     let mut line = Text::new(alloc);
     end_line(equilibria, diagnoses, explanations, need, &mut line)?;
@@ -270,7 +286,8 @@ fn print_explanations<K: Sink>(
     sink: &mut K,
 ) -> Result<(), Unwritten>
     requires { AllByRecursion (IsCauseOf system.now pairs.now) explanations.now }
-    ensures { Writes (explanation_lines system.now 1 pairs.now explanations.now) (K.device sink.old) (K.device sink.new) result }
+    ensures { Writes (explanation_lines system.now 1 pairs.now explanations.now)
+        (K.device sink.old) (K.device sink.new) result }
 {
     for (k, explanation) in explanations.iter().enumerate() {
         print_explanation(alloc, system, k as u64 + 1, pairs, *explanation, sink)?;
@@ -288,7 +305,8 @@ fn print_explanation<K: Sink>(
     sink: &mut K,
 ) -> Result<(), Unwritten>
     requires { IsCauseOf system.now pairs.now explanation }
-    ensures { Writes (explanation_line system.now number pairs.now explanation) (K.device sink.old) (K.device sink.new) result }
+    ensures { Writes (explanation_line system.now number pairs.now explanation) (K.device sink.old)
+        (K.device sink.new) result }
 {
     let mut line = Text::new(alloc);
     explanation_line(system, number, pairs, explanation, &mut line)?;

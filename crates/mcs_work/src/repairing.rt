@@ -39,7 +39,8 @@ pub(crate) fn solve<E: Evaluator, K: Sink>(
     requires same { (E.stands evaluator).system ≡ arc_value system }
     requires fresh { (E.stands evaluator).done ≡ None }
     requires going { (E.stands evaluator).halted ≡ false }
-    ensures { Works (task_of extent) [] (E.stands evaluator) (E.stands result.1) (K.device sink.old) (K.device sink.new) result.0 }
+    ensures { Works (task_of extent) [] (E.stands evaluator) (E.stands result.1)
+        (K.device sink.old) (K.device sink.new) result.0 }
 {
     let mut evaluator = evaluator;
     match print_equilibria(alloc, extent, &mut evaluator, &system, sink) {
@@ -48,7 +49,8 @@ pub(crate) fn solve<E: Evaluator, K: Sink>(
     }
 }
 
-/// Finds the equilibria, and prints the part up to the verdict. Returns how many equilibria there are.
+/// Finds the equilibria, and prints the part up to the verdict. Returns how many equilibria there
+/// are.
 fn print_equilibria<E: Evaluator, K: Sink>(
     alloc: Global,
     extent: Extent,
@@ -64,9 +66,12 @@ fn print_equilibria<E: Evaluator, K: Sink>(
     ensures notes { (K.device sink.new).notes ≡ (K.device sink.old).notes }
     ensures rest { KeepsRest (E.stands evaluator.old) (E.stands evaluator.new) }
     ensures under_way { OnOk result (IsUnderWay (E.stands evaluator.new) 0 []) }
-    ensures written { IfOk result (λ count. (states : List ℕ) × AreEquilibria system.now states × (length states ≡ count)
-        × ((K.device sink.new).written ≡ appended (K.device sink.old).written (front_part extent system.now states []))) }
-    ensures stop { IfErr result (HasStopped (task_of extent) [] (E.stands evaluator.old) (E.stands evaluator.new) (K.device sink.old) (K.device sink.new)) }
+    ensures written { IfOk result (λ count. (states : List ℕ) × AreEquilibria system.now states
+        × (length states ≡ count)
+        × ((K.device sink.new).written
+        ≡ appended (K.device sink.old).written (front_part extent system.now states []))) }
+    ensures stop { IfErr result (HasStopped (task_of extent) [] (E.stands evaluator.old)
+        (E.stands evaluator.new) (K.device sink.old) (K.device sink.new)) }
 {
     let states = find_states(alloc, evaluator, extent.task(), system, sink)?;
     print_states_part(alloc, extent, system, &states, sink)?;
@@ -85,7 +90,8 @@ fn repair<E: Evaluator, K: Sink>(
     requires same { (E.stands evaluator).system ≡ arc_value system }
     requires under_way { IsUnderWay (E.stands evaluator) 0 [] }
     ensures { (σs : List ℕ) → AreEquilibria (arc_value system) σs → length σs ≡ states
-        → Works (task_of extent) (front_part extent (arc_value system) σs []) (E.stands evaluator) (E.stands result.1) (K.device sink.old) (K.device sink.new) result.0 }
+        → Works (task_of extent) (front_part extent (arc_value system) σs []) (E.stands evaluator)
+        (E.stands result.1) (K.device sink.old) (K.device sink.new) result.0 }
 {
     let own = match system.clone() {
         Ok(own) => own,
@@ -109,7 +115,9 @@ fn print_repairs<E: Evaluator, K: Sink>(
     requires under_way { IsUnderWay (E.stands levels.old.evaluator) levels.old.level [] }
     requires first { levels.old.level ≡ 0 }
     ensures { (σs : List ℕ) → AreEquilibria system.now σs → length σs ≡ states
-        → Works (task_of extent) (front_part extent system.now σs []) (E.stands levels.old.evaluator) (E.stands levels.new.evaluator) (K.device sink.old) (K.device sink.new) result }
+        → Works (task_of extent) (front_part extent system.now σs [])
+        (E.stands levels.old.evaluator) (E.stands levels.new.evaluator) (K.device sink.old)
+        (K.device sink.new) result }
 {
     let found = print_levels(alloc, extent, levels, system, sink)?;
     let asked = levels.evaluator().asked();
@@ -141,11 +149,15 @@ fn print_levels<E: Evaluator, K: Sink>(
     ensures quiet { OnOk result ((K.device sink.new).faults ≡ (K.device sink.old).faults) }
     ensures notes { (K.device sink.new).notes ≡ (K.device sink.old).notes }
     ensures rest { KeepsRest (E.stands levels.old.evaluator) (E.stands levels.new.evaluator) }
-    ensures under_way { IfOk result (λ found. IsUnderWay (E.stands levels.new.evaluator) levels.new.level found.items) }
+    ensures under_way { IfOk result (λ found. IsUnderWay
+        (E.stands levels.new.evaluator) levels.new.level found.items) }
     ensures past { OnOk result (IsPast system.now levels.new.level) }
-    ensures written { IfOk result (λ found. (K.device sink.new).written ≡ appended (K.device sink.old).written (diagnoses_part extent system.now 1 found.items)) }
+    ensures written { IfOk result (λ found. (K.device sink.new).written
+        ≡ appended (K.device sink.old).written (diagnoses_part extent system.now 1 found.items)) }
     ensures stop { (σs : List ℕ) → AreEquilibria system.now σs
-        → IfErr result (HasStopped (task_of extent) (front_part extent system.now σs []) (E.stands levels.old.evaluator) (E.stands levels.new.evaluator) (K.device sink.old) (K.device sink.new)) }
+        → IfErr result (HasStopped (task_of extent) (front_part extent system.now σs [])
+        (E.stands levels.old.evaluator) (E.stands levels.new.evaluator) (K.device sink.old)
+        (K.device sink.new)) }
 {
     let mut found = Vec::new(alloc);
     loop {
@@ -155,8 +167,8 @@ fn print_levels<E: Evaluator, K: Sink>(
     }
 }
 
-/// Finds the diagnoses of the next level, prints their part, and appends them to `found`, which has those of the
-/// earlier levels. Returns whether there is such a level.
+/// Finds the diagnoses of the next level, prints their part, and appends them to `found`, which has
+/// those of the earlier levels. Returns whether there is such a level.
 fn print_level<E: Evaluator, K: Sink>(
     alloc: Global,
     extent: Extent,
@@ -166,15 +178,20 @@ fn print_level<E: Evaluator, K: Sink>(
     sink: &mut K,
 ) -> Result<bool, WorkStop>
     requires same { (E.stands levels.old.evaluator).system ≡ system.now }
-    requires under_way { IsUnderWay (E.stands levels.old.evaluator) levels.old.level found.old.items }
+    requires under_way { IsUnderWay (E.stands levels.old.evaluator) levels.old.level
+        found.old.items }
     ensures later { (K.device sink.old).faults ≤ (K.device sink.new).faults }
     ensures quiet { OnOk result ((K.device sink.new).faults ≡ (K.device sink.old).faults) }
     ensures notes { (K.device sink.new).notes ≡ (K.device sink.old).notes }
     ensures rest { KeepsRest (E.stands levels.old.evaluator) (E.stands levels.new.evaluator) }
-    ensures under_way { OnOk result (IsUnderWay (E.stands levels.new.evaluator) levels.new.level found.new.items) }
-    ensures gone { IfOk result (HasGone extent system.now levels.old.level levels.new.level found.old.items found.new.items (K.device sink.old).written (K.device sink.new).written) }
+    ensures under_way { OnOk result (IsUnderWay (E.stands levels.new.evaluator) levels.new.level
+        found.new.items) }
+    ensures gone { IfOk result (HasGone extent system.now levels.old.level levels.new.level
+        found.old.items found.new.items (K.device sink.old).written (K.device sink.new).written) }
     ensures stop { (σs : List ℕ) → AreEquilibria system.now σs
-        → IfErr result (HasStopped (task_of extent) (front_part extent system.now σs found.old.items) (E.stands levels.old.evaluator) (E.stands levels.new.evaluator) (K.device sink.old) (K.device sink.new)) }
+        → IfErr result (HasStopped (task_of extent)
+        (front_part extent system.now σs found.old.items) (E.stands levels.old.evaluator)
+        (E.stands levels.new.evaluator) (K.device sink.old) (K.device sink.new)) }
 {
     match levels.next(alloc)? {
         Level::Over => Ok(false),
@@ -189,7 +206,8 @@ fn print_level<E: Evaluator, K: Sink>(
 /// The pairs of the diagnoses, and the minimal sets of marks that meet each of these pairs.
 fn explain(alloc: Global, found: &[Diagnosis]) -> Result<(Vec<Marks>, Vec<Marks>), Memory>
     ensures pairs { IfOk result (λ r. r.0.items ≡ pairs_of found.now) }
-    ensures listed { IfOk result (λ r. IsListing (IsMinimal (IsTransversalOf (pairs_of found.now))) PairBefore r.1.items) }
+    ensures listed { IfOk result (λ r. IsListing (IsMinimal (IsTransversalOf (pairs_of found.now)))
+        PairBefore r.1.items) }
 {
     let pairs: Vec<Marks> = found
         .iter()

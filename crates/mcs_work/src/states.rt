@@ -17,8 +17,9 @@ use mcs_states::Evaluator;
 use mcs_system::System;
 use std::alloc::Global;
 
-/// Prints what comes before the first question, and then finds the projected equilibria of the system, in the order of
-/// states. The evaluator has to be one of this system that has done no level yet.
+/// Prints what comes before the first question, and then finds the projected equilibria of the
+/// system, in the order of states. The evaluator has to be one of this system that has done no
+/// level yet.
 pub(crate) fn find_states<E: Evaluator, K: Sink>(
     alloc: Global,
     evaluator: &mut E,
@@ -35,15 +36,18 @@ pub(crate) fn find_states<E: Evaluator, K: Sink>(
     ensures rest { KeepsRest (E.stands evaluator.old) (E.stands evaluator.new) }
     ensures found { IfOk result (λ states. AreEquilibria system.now states.items) }
     ensures done { OnOk result (HasDone (E.stands evaluator.old) (E.stands evaluator.new) 0) }
-    ensures written { OnOk result ((K.device sink.new).written ≡ appended (K.device sink.old).written (opening task system.now)) }
-    ensures stop { IfErr result (HasStopped task [] (E.stands evaluator.old) (E.stands evaluator.new) (K.device sink.old) (K.device sink.new)) }
+    ensures written { OnOk result ((K.device sink.new).written
+        ≡ appended (K.device sink.old).written (opening task system.now)) }
+    ensures stop { IfErr result (HasStopped task [] (E.stands evaluator.old)
+        (E.stands evaluator.new) (K.device sink.old) (K.device sink.new)) }
 {
     print_opening(alloc, task, system, sink)?;
     let states = list_states(alloc, evaluator, Pair::new(Marks::empty()))?;
     Ok(states)
 }
 
-/// Prints the listing of the projected equilibria of the system, with the number of questions asked.
+/// Prints the listing of the projected equilibria of the system, with the number of questions
+/// asked.
 pub(crate) fn list_equilibria<E: Evaluator, K: Sink>(
     alloc: Global,
     evaluator: &mut E,
@@ -53,7 +57,8 @@ pub(crate) fn list_equilibria<E: Evaluator, K: Sink>(
     requires same { (E.stands evaluator.old).system ≡ system.now }
     requires fresh { (E.stands evaluator.old).done ≡ None }
     requires going { (E.stands evaluator.old).halted ≡ false }
-    ensures { Works tasks.Equilibria [] (E.stands evaluator.old) (E.stands evaluator.new) (K.device sink.old) (K.device sink.new) result }
+    ensures { Works tasks.Equilibria [] (E.stands evaluator.old) (E.stands evaluator.new)
+        (K.device sink.old) (K.device sink.new) result }
 {
     let states = find_states(alloc, evaluator, Task::Equilibria, system, sink)?;
     print_listing(alloc, system, &states, evaluator.asked(), sink)?;

@@ -16,7 +16,8 @@ pub enum Task {
     Equilibria,
     /// Its projected equilibria, its minimal diagnoses and its minimal explanations.
     Solve,
-    /// Whether it is consistent, and how many projected equilibria, minimal diagnoses and minimal explanations it has.
+    /// Whether it is consistent, and how many projected equilibria, minimal diagnoses and minimal
+    /// explanations it has.
     Make,
 }
 

@@ -14,20 +14,22 @@ use mcs_system::System;
 use std::alloc::Global;
 use std::sync::Arc;
 
-/// Does the task: prints its listing of the system, each line in one piece, as soon as it is known. The heading comes
-/// before the first question. For `Solve` the equilibria and the verdict come before diagnoses are searched for, and
-/// the diagnoses of a level before the next level is asked. For `Make` nothing is printed before all is known, and then
-/// the verdict and the end line alone.
+/// Does the task: prints its listing of the system, each line in one piece, as soon as it is known.
+/// The heading comes before the first question. For `Solve` the equilibria and the verdict come
+/// before diagnoses are searched for, and the diagnoses of a level before the next level is asked.
+/// For `Make` nothing is printed before all is known, and then the verdict and the end line alone.
 ///
-/// The evaluator has to be one of this system that has done no level yet. It is handed back, and shows what was done.
-/// If the whole text was written, its greatest level done is the last one of the task. This is 0 for equilibria and for
-/// a consistent system, and otherwise the number of rules. Its journals then have exactly the questions of that level.
+/// The evaluator has to be one of this system that has done no level yet. It is handed back, and
+/// shows what was done. If the whole text was written, its greatest level done is the last one of
+/// the task. This is 0 for equilibria and for a consistent system, and otherwise the number of
+/// rules. Its journals then have exactly the questions of that level.
 ///
-/// `Write` is returned only if the sink's count of faults rose; unless it is returned, that count is as before. `Spent`
-/// is returned with the least level of the task that has more questions than the budget; what is printed before this
-/// level was then written. `Missing` is returned with a question, of a level of the task, for which an oracle has no
-/// answer. Neither is returned without its cause; if one has its cause, the work is not done. After each stop a prefix
-/// of the text was written.
+/// `Write` is returned only if the sink's count of faults rose; unless it is returned, that count
+/// is as before. `Spent` is returned with the least level of the task that has more questions than
+/// the budget; what is printed before this level was then written. `Missing` is returned with a
+/// question, of a level of the task, for which an oracle has no answer. Neither is returned without
+/// its cause; if one has its cause, the work is not done. After each stop a prefix of the text was
+/// written.
 pub fn work<E: Evaluator, K: Sink>(
     alloc: Global,
     evaluator: E,
@@ -38,7 +40,8 @@ pub fn work<E: Evaluator, K: Sink>(
     requires same { (E.stands evaluator).system ≡ arc_value system }
     requires fresh { (E.stands evaluator).done ≡ None }
     requires going { (E.stands evaluator).halted ≡ false }
-    ensures { Works task [] (E.stands evaluator) (E.stands result.1) (K.device sink.old) (K.device sink.new) result.0 }
+    ensures { Works task [] (E.stands evaluator) (E.stands result.1) (K.device sink.old)
+        (K.device sink.new) result.0 }
 {
     match task {
         Task::Equilibria => {

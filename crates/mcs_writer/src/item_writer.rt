@@ -4,7 +4,8 @@ ghost use Rattle.std.specs.Prelude.{◌≡◌, ◌++◌, true, not, nat_eq, leng
 ghost use Rattle.mcs_system.specs.Seen.{formula_of, default_of, item_of, rule_of};
 ghost use Rattle.mcs_system.specs.Texts.{primary, operator_sign};
 ghost use Rattle.mcs_text.specs.Separated.{separated};
-ghost use Rattle.mcs_writer.specs.Canonical.{formula_text, default_text, theory_item_text, joined_by, rule_sign, program_rule_text};
+ghost use Rattle.mcs_writer.specs.Canonical.{formula_text, default_text, theory_item_text};
+ghost use Rattle.mcs_writer.specs.Canonical.{joined_by, rule_sign, program_rule_text};
 
 use mcs_base::{Memory, Text};
 use mcs_system::{Default, Formula, Name, ProgRule, TheoryItem};
@@ -23,7 +24,8 @@ fn sign(f: &Formula) -> &'static [u8]
     }
 }
 
-/// Appends a formula as a primary, as beliefs are printed: in parentheses if its connective is binary.
+/// Appends a formula as a primary, as beliefs are printed: in parentheses if its connective is
+/// binary.
 pub(crate) fn push_primary(text: &mut Text, f: &Formula) -> Result<(), Memory>
     ensures { OnOk result (text.new ≡ text.old ++ primary (formula_of f.now)) }
 {
@@ -61,7 +63,8 @@ pub(crate) fn push_formula(text: &mut Text, f: &Formula) -> Result<(), Memory>
 
 /// Appends the justifications of a default, separated.
 fn push_justifications(text: &mut Text, justs: &[Formula]) -> Result<(), Memory>
-    ensures { OnOk result (text.new ≡ text.old ++ separated (map formula_text (map formula_of justs.now))) }
+    ensures { OnOk result (text.new
+        ≡ text.old ++ separated (map formula_text (map formula_of justs.now))) }
 {
     let mut is_first = true;
     for just in justs {
@@ -106,10 +109,11 @@ fn push_head(text: &mut Text, head: &[Name]) -> Result<(), Memory>
     Ok(())
 }
 
-/// Appends a literal for each of these atoms, with the word before it. `is_first` says whether they are the first of
-/// the body or follow others.
+/// Appends a literal for each of these atoms, with the word before it. `is_first` says whether they
+/// are the first of the body or follow others.
 fn push_literals(text: &mut Text, is_first: bool, word: &[u8], atoms: &[Name]) -> Result<(), Memory>
-    ensures { OnOk result (text.new ≡ text.old ++ joined_by (codes ", ") is_first (map (λ a. word.now ++ a) atoms.now)) }
+    ensures { OnOk result (text.new
+        ≡ text.old ++ joined_by (codes ", ") is_first (map (λ a. word.now ++ a) atoms.now)) }
 {
     let mut is_first = is_first;
     for atom in atoms {
@@ -130,7 +134,8 @@ fn has_body(rule: &ProgRule) -> bool
 
 /// The sign `:-` of a rule with its spaces; empty if the rule has a head and no body.
 fn rule_sign(rule: &ProgRule) -> &'static [u8]
-    ensures { result.now ≡ rule_sign rule.now.head.items (rule.now.pos.items ++ rule.now.neg.items) }
+    ensures { result.now
+        ≡ rule_sign rule.now.head.items (rule.now.pos.items ++ rule.now.neg.items) }
 {
     match (rule.head.is_empty(), has_body(rule)) {
         (true, true) => b":- ",

@@ -4,9 +4,12 @@ ghost use Rattle.std.specs.Prelude.{◌≡◌, ◌<◌, ◌++◌, not, nat_eq, l
 ghost use Rattle.std.specs.List.{AllByRecursion, flat_map};
 ghost use Rattle.mcs_system.specs.Faults.{reads_of};
 ghost use Rattle.mcs_system.specs.Plain as plain;
-ghost use Rattle.mcs_system.specs.Seen.{formula_of, item_of, rule_of, kb_of, context_of, read_of, bridge_of};
+ghost use Rattle.mcs_system.specs.Seen.{formula_of, item_of, rule_of, kb_of, context_of, read_of};
+ghost use Rattle.mcs_system.specs.Seen.{bridge_of};
 ghost use Rattle.mcs_system.specs.Texts.{belief_text};
-ghost use Rattle.mcs_writer.specs.Canonical.{formula_text, theory_item_text, joined_by, program_rule_text, kind_word, item_line, items_text, context_text, if_word, bridge_text, canonical_text};
+ghost use Rattle.mcs_writer.specs.Canonical.{formula_text, theory_item_text, joined_by};
+ghost use Rattle.mcs_writer.specs.Canonical.{program_rule_text, kind_word, item_line, items_text};
+ghost use Rattle.mcs_writer.specs.Canonical.{context_text, if_word, bridge_text, canonical_text};
 
 use crate::item_writer::{push_formula, push_primary, push_program_rule, push_theory_item};
 use mcs_base::{Memory, Text};
@@ -26,7 +29,8 @@ fn kind_word(kb: &Kb) -> &'static [u8]
 
 /// Appends formulas, one line for each.
 fn push_formulas(text: &mut Text, formulas: &[Formula]) -> Result<(), Memory>
-    ensures { OnOk result (text.new ≡ text.old ++ flat_map item_line (map formula_text (map formula_of formulas.now))) }
+    ensures { OnOk result (text.new
+        ≡ text.old ++ flat_map item_line (map formula_text (map formula_of formulas.now))) }
 {
     for formula in formulas {
         text.push(b"  ")?;
@@ -38,7 +42,8 @@ fn push_formulas(text: &mut Text, formulas: &[Formula]) -> Result<(), Memory>
 
 /// Appends items of a default theory, one line for each.
 fn push_theory(text: &mut Text, items: &[TheoryItem]) -> Result<(), Memory>
-    ensures { OnOk result (text.new ≡ text.old ++ flat_map item_line (map theory_item_text (map item_of items.now))) }
+    ensures { OnOk result (text.new
+        ≡ text.old ++ flat_map item_line (map theory_item_text (map item_of items.now))) }
 {
     for item in items {
         text.push(b"  ")?;
@@ -50,7 +55,8 @@ fn push_theory(text: &mut Text, items: &[TheoryItem]) -> Result<(), Memory>
 
 /// Appends rules of a program, one line for each.
 fn push_program(text: &mut Text, rules: &[ProgRule]) -> Result<(), Memory>
-    ensures { OnOk result (text.new ≡ text.old ++ flat_map item_line (map program_rule_text (map rule_of rules.now))) }
+    ensures { OnOk result (text.new
+        ≡ text.old ++ flat_map item_line (map program_rule_text (map rule_of rules.now))) }
 {
     for rule in rules {
         text.push(b"  ")?;
@@ -92,15 +98,16 @@ fn push_belief(
     belief: &Formula,
 ) -> Result<(), Memory>
     requires { context < length system.now.contexts }
-    ensures { OnOk result (text.new ≡ text.old ++ belief_text system.now (record { context = context; belief = formula_of belief.now })) }
+    ensures { OnOk result (text.new ≡ text.old ++ belief_text system.now
+        (record { context = context; belief = formula_of belief.now })) }
 {
     text.push(system.contexts()[context as usize].name.bytes())?;
     text.push(b":")?;
     push_primary(text, belief)
 }
 
-/// Appends a belief that a bridge rule reads: the context's name, a colon, the belief. The context has to be one of the
-/// system's. Without memory the text stays as it was.
+/// Appends a belief that a bridge rule reads: the context's name, a colon, the belief. The context
+/// has to be one of the system's. Without memory the text stays as it was.
 pub fn push_read(text: &mut Text, system: &System, read: &Read) -> Result<(), Memory>
     requires { read.now.context < length system.now.contexts }
     ensures ok { OnOk result (text.new ≡ text.old ++ belief_text system.now (read_of read.now)) }
@@ -111,8 +118,8 @@ pub fn push_read(text: &mut Text, system: &System, read: &Read) -> Result<(), Me
     text.push(own.bytes())
 }
 
-/// Appends the reads of a bridge rule, with the word before each. `is_first` says whether they are the first of the
-/// rule or follow others.
+/// Appends the reads of a bridge rule, with the word before each. `is_first` says whether they are
+/// the first of the rule or follow others.
 fn push_reads(
     text: &mut Text,
     system: &System,
@@ -120,8 +127,10 @@ fn push_reads(
     word: &[u8],
     reads: &[Read],
 ) -> Result<(), Memory>
-    requires { AllByRecursion (λ (r : plain.Read). r.context < length system.now.contexts) (map read_of reads.now) }
-    ensures { OnOk result (text.new ≡ text.old ++ joined_by (codes ", ") is_first (map (λ r. word.now ++ belief_text system.now r) (map read_of reads.now))) }
+    requires { AllByRecursion (λ (r : plain.Read). r.context < length system.now.contexts)
+        (map read_of reads.now) }
+    ensures { OnOk result (text.new ≡ text.old ++ joined_by (codes ", ") is_first
+        (map (λ r. word.now ++ belief_text system.now r) (map read_of reads.now))) }
 {
     let mut is_first = is_first;
     for read in reads {
@@ -150,7 +159,8 @@ fn if_word(bridge: &Bridge) -> &'static [u8]
 /// Appends a bridge rule: its head, then its reads with the positive ones first.
 fn push_bridge(text: &mut Text, system: &System, bridge: &Bridge) -> Result<(), Memory>
     requires target { bridge.now.target < length system.now.contexts }
-    requires reads { AllByRecursion (λ (r : plain.Read). r.context < length system.now.contexts) (reads_of (bridge_of bridge.now)) }
+    requires reads { AllByRecursion (λ (r : plain.Read). r.context < length system.now.contexts)
+        (reads_of (bridge_of bridge.now)) }
     ensures { OnOk result (text.new ≡ text.old ++ bridge_text system.now (bridge_of bridge.now)) }
 {
     text.push(b"bridge ")?;
@@ -175,7 +185,8 @@ fn push_contexts(text: &mut Text, system: &System) -> Result<(), Memory>
 
 /// Appends the bridge rules of a system.
 fn push_bridges(text: &mut Text, system: &System) -> Result<(), Memory>
-    ensures { OnOk result (text.new ≡ text.old ++ flat_map (bridge_text system.now) system.now.bridges) }
+    ensures { OnOk result (text.new
+        ≡ text.old ++ flat_map (bridge_text system.now) system.now.bridges) }
 {
     for bridge in system.bridges() {
         push_bridge(text, system, bridge)?;
@@ -183,8 +194,8 @@ fn push_bridges(text: &mut Text, system: &System) -> Result<(), Memory>
     Ok(())
 }
 
-/// Appends the canonical text of a system. It does not show the marks of the rules. If there is no memory for all of
-/// it, `out` stays as it was.
+/// Appends the canonical text of a system. It does not show the marks of the rules. If there is no
+/// memory for all of it, `out` stays as it was.
 pub fn push_system(out: &mut Text, system: &System) -> Result<(), Memory>
     ensures text { OnOk result (out.new ≡ out.old ++ canonical_text system.now) }
     ensures unchanged { OnErr result (out.new ≡ out.old) }
