@@ -148,7 +148,7 @@ impl Oracle for LocalSolver {
 impl Fork for LocalSolver {
     fn fork(&mut self, alloc: Global) -> Result<LocalSolver, Memory> {
         let system = Arc::try_clone(&self.system)?;
-        let found = mem::replace(&mut self.spare, Vec::new(alloc));
+        let found = self.spare.split_off(self.spare.len() / 2)?;
         Ok(LocalSolver::taking(alloc, system, self.context, self.keep, found))
     }
 
