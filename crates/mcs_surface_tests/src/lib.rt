@@ -1,19 +1,28 @@
 //! Tests of mcs_words and mcs_top, over the libraries alone: words that ask for a job, and runs
-//! over devices in memory, from the text of a system to its listing.
+//! over devices in memory, from the text of a system to its listing, also over devices that break,
+//! texts that are cut, and reports that are changed.
 #![tactic(auto)]
 
 #[cfg(test)]
 mod bounds;
 #[cfg(test)]
+mod breaking;
+#[cfg(test)]
 mod budgets;
 #[cfg(test)]
 mod crowd;
+#[cfg(test)]
+mod cuts;
+#[cfg(test)]
+mod devices;
 #[cfg(test)]
 mod equilibria;
 #[cfg(test)]
 mod gates;
 #[cfg(test)]
 mod kinds;
+#[cfg(test)]
+mod lengths;
 #[cfg(test)]
 mod made;
 #[cfg(test)]
@@ -23,6 +32,8 @@ mod programs;
 #[cfg(test)]
 mod refusals;
 #[cfg(test)]
+mod reports;
+#[cfg(test)]
 mod runs;
 #[cfg(test)]
 mod solutions;
@@ -30,6 +41,8 @@ mod solutions;
 mod statuses;
 #[cfg(test)]
 mod usage;
+#[cfg(test)]
+mod wards;
 #[cfg(test)]
 mod words;
 #[cfg(test)]

@@ -39,7 +39,7 @@ pub fn words_of(alloc: Global, line: &str) -> Result<Vec<String>, Memory> {
 }
 
 /// A file of this name.
-fn file_of(alloc: Global, name: &str, bytes: &[u8]) -> Result<(String, Vec<u8>), Memory> {
+pub fn file_of(alloc: Global, name: &str, bytes: &[u8]) -> Result<(String, Vec<u8>), Memory> {
     let bytes = Vec::from_slice(alloc, bytes)?;
     Ok((String::from_str(alloc, name)?, bytes))
 }

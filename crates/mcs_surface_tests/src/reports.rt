@@ -1,6 +1,7 @@
 //! Reports and what is found of them, in runs of `check` and of `solve` with its proof.
 
-use crate::runs::{End, SOUND, ends_over, lines, sink_of, status_of};
+use crate::breaking::{SOUND, ends_over, lines, sink_of, status_of};
+use crate::runs::End;
 use mcs_base::{Memory, Text};
 use std::alloc::Global;
 use std::sync::Wait;
@@ -15,6 +16,17 @@ const VALID: End<'static> = (0, b"valid\n", "");
 type Change = (usize, usize, &'static str, Option<(usize, &'static str)>);
 
 const UNCHANGED: Change = (1, 0, "", None);
+
+/// What is written of a report with this fault, or of a valid one.
+fn found(alloc: Global, fault: Option<(usize, &str)>) -> Result<String, Memory> {
+    match fault {
+        None => Ok(String::from_str(alloc, "valid\n")?),
+        Some((line, test)) => {
+            let found: String = format!(in alloc; "not valid: line {line}: {test}\n")?;
+            Ok(found)
+        }
+    }
+}
 
 /// The text of a system, a valid report on it, the number of the last line of the listing in the
 /// report, and changes.
@@ -68,15 +80,12 @@ impl Case {
         (first, last, with, fault): Change,
     ) -> Result<bool, Memory> {
         let report = self.changed(alloc, first, last, with)?;
+        let found = found(alloc, fault)?;
+        let end = (u8::from(fault.is_some()), found.as_bytes(), "");
         let (words, text) = ("check f r", self.system.as_bytes());
-        match fault {
-            None => ends_over(rt, alloc, words, text, report.bytes(), SOUND, VALID),
-            Some((line, test)) => {
-                let found: String = format!(in alloc; "not valid: line {line}: {test}\n")?;
-                let end = (1, found.as_str().as_bytes(), "");
-                ends_over(rt, alloc, words, text, report.bytes(), SOUND, end)
-            }
-        }
+        let is_told = ends_over(rt, alloc, words, text, report.bytes(), SOUND, end);
+        drop((found, report));
+        is_told
     }
 
     /// Whether this is so of each change.
@@ -182,7 +191,7 @@ const THEORY_CHANGES: [Change; 5] = [
     (8, 8, "applied 2\n", Some((8, "grammar"))),
 ];
 
-const CASES: [Case; 3] = [
+static CASES: [Case; 3] = [
     Case {
         system: CONTRADICTION,
         report: CONTRADICTION_REPORT,
@@ -228,7 +237,7 @@ fn is_proved<R: Threads + Wait + Sync>(
 
 /// Systems of all kinds, consistent and not: choices, a set of defaults of each verdict, an
 /// unsatisfiable context.
-const SYSTEMS: [&str; 7] = [
+static SYSTEMS: [&str; 7] = [
     "",
     CONTRADICTION,
     TOLD,
@@ -238,7 +247,7 @@ const SYSTEMS: [&str; 7] = [
     "context c1 program {}\ncontext c2 program {}\nbridge r1: c1:a if not c1:a.\nbridge r2: c2:b if not c2:b.\n",
 ];
 
-const PROVE: [&str; 2] = ["solve f --proof --workers 1", "solve f --proof --workers 2"];
+static PROVE: [&str; 2] = ["solve f --proof --workers 1", "solve f --proof --workers 2"];
 
 #[test]
 fn what_is_solved_with_its_proof_is_valid(rt: HostRuntime) {

@@ -1,6 +1,6 @@
 //! Texts that are cut at each byte.
 
-use crate::runs::{SOUND, ends};
+use crate::breaking::{SOUND, ends};
 use mcs_base::Memory;
 use std::alloc::Global;
 use std::sync::Wait;
@@ -30,7 +30,7 @@ enum Outcome {
 /// its end is a fault. A fault before the end is of the name that is left of a word, where no name
 /// may stand; of the `:` that is left of a `:-`; and of the name of a context that is cut, or of
 /// what is left of a `not`, where no context has the name.
-const CUTS: [(usize, usize, Outcome); 20] = [
+static CUTS: [(usize, usize, Outcome); 20] = [
     (
         0,
         0,
@@ -93,20 +93,35 @@ fn told(length: usize) -> Outcome {
     Outcome::Fault(1, length)
 }
 
+/// The status of a run that is told this, and what is written.
+fn written_of(outcome: Outcome) -> (u8, &'static str) {
+    match outcome {
+        Outcome::Listed(listing) => (0, listing),
+        Outcome::Fault(_, _) => (3, ""),
+    }
+}
+
+/// What is noted in such a run.
+fn noted_of(alloc: Global, outcome: Outcome) -> Result<String, Memory> {
+    match outcome {
+        Outcome::Listed(_) => Ok(String::new(alloc)),
+        Outcome::Fault(number, offset) => {
+            let noted: String = format!(in alloc; "mcs: refused: F{number} at {offset}\n")?;
+            Ok(noted)
+        }
+    }
+}
+
 /// Whether the equilibria of the text that is cut to this length end as told.
 fn is_told<R: Threads + Wait + Sync>(rt: &R, alloc: Global, length: usize) -> Result<bool, Memory> {
     let front = TEXT.as_bytes().get(..length).unwrap_or(b"");
-    let (job, files) = ("equilibria f", [("f", front)]);
-    match told(length) {
-        Outcome::Listed(listing) => {
-            let end = (0, listing.as_bytes(), "");
-            ends(rt, alloc, job, &files, SOUND, end)
-        }
-        Outcome::Fault(number, offset) => {
-            let noted: String = format!(in alloc; "mcs: refused: F{number} at {offset}\n")?;
-            ends(rt, alloc, job, &files, SOUND, (3, b"", noted.as_str()))
-        }
-    }
+    let outcome = told(length);
+    let noted = noted_of(alloc, outcome)?;
+    let (status, written) = written_of(outcome);
+    let end = (status, written.as_bytes(), noted.as_str());
+    let is_told = ends(rt, alloc, "equilibria f", &[("f", front)], SOUND, end);
+    drop(noted);
+    is_told
 }
 
 #[test]

@@ -1,7 +1,8 @@
 //! Files at the greatest length.
 
+use crate::breaking::{SOUND, ends};
 use crate::devices::EMPTY_LISTING;
-use crate::runs::{End, SOUND, ends};
+use crate::runs::End;
 use mcs_base::Memory;
 use std::alloc::Global;
 use std::sync::Wait;
@@ -15,11 +16,13 @@ fn spaces_end<R: Threads + Wait + Sync>(
     end: End<'_>,
 ) -> Result<bool, Memory> {
     let spaces = vec![in alloc; b' '; count]?;
-    ends(rt, alloc, "solve f", &[("f", &spaces)], SOUND, end)
+    let are_told = ends(rt, alloc, "solve f", &[("f", &spaces)], SOUND, end);
+    drop(spaces);
+    are_told
 }
 
 /// How many spaces there are, and how the run ends.
-const SPACES: [(usize, u8, &str, &str); 2] = [
+static SPACES: [(usize, u8, &str, &str); 2] = [
     (1_048_576, 0, EMPTY_LISTING, ""),
     (1_048_577, 3, "", "mcs: refused: file longer than 1048576\n"),
 ];

@@ -1,7 +1,8 @@
 //! Devices that fail.
 
+use crate::breaking::{Devices, ends, ends_over, lines};
 use crate::reports::{CONTRADICTION, TOLD, TOLD_REPORT};
-use crate::runs::{Devices, End, ends, ends_over, lines};
+use crate::runs::End;
 use crate::wards::{WARDS, WARDS_LISTING};
 use mcs_base::Memory;
 use std::alloc::Global;
@@ -50,7 +51,7 @@ struct Job {
     noted: &'static str,
 }
 
-const JOBS: [Job; 11] = [
+static JOBS: [Job; 11] = [
     // A file of 5047 bytes is opened; 4096 bytes of it are read, then what is left, and then
     // nothing. One that is shorter is read at once, and an empty one has nothing to read.
     Job {
@@ -224,6 +225,13 @@ impl Job {
         }
     }
 
+    /// The bytes of the file `f`.
+    fn file(&self, alloc: Global) -> Result<Vec<u8>, Memory> {
+        let mut bytes = vec![in alloc; b'\n'; self.line_feeds]?;
+        bytes.extend_from_slice(self.text.as_bytes())?;
+        Ok(bytes)
+    }
+
     /// Whether the run ends so where a call or a write fails: the call with this number, up to one
     /// past the last, and then the writes.
     fn is_told<R: Threads + Wait + Sync>(
@@ -239,11 +247,13 @@ impl Job {
             failing_write: past as u64,
             most: self.most,
         };
-        let mut text = vec![in alloc; b'\n'; self.line_feeds]?;
-        text.extend_from_slice(self.text.as_bytes())?;
-        let (report, end) = (self.report.as_bytes(), self.end(call, past));
+        let end = self.end(call, past);
         if self.has_files {
-            ends_over(rt, alloc, self.words, &text, report, devices, end)
+            let text = self.file(alloc)?;
+            let report = self.report.as_bytes();
+            let is_told = ends_over(rt, alloc, self.words, &text, report, devices, end);
+            drop(text);
+            is_told
         } else {
             ends(rt, alloc, self.words, &[], devices, end)
         }

@@ -1,5 +1,6 @@
-//! Runs over devices in memory.
+//! Runs over devices in memory that may break.
 
+use crate::runs::{End, file_of, words_of};
 use mcs_base::Memory;
 use mcs_ports::{IdleGate, MemoryShelf, MemorySink};
 use mcs_top::run;
@@ -43,21 +44,6 @@ pub fn lines(text: &str, count: usize) -> &[u8] {
     text.as_bytes()
 }
 
-/// The words of the line, between two of which stands one space.
-fn words_of(alloc: Global, line: &str) -> Result<Vec<String>, Memory> {
-    let mut words = Vec::new(alloc);
-    for word in line.split(' ') {
-        words.push(String::from_str(alloc, word)?)?;
-    }
-    Ok(words)
-}
-
-/// A file of this name.
-fn file_of(alloc: Global, name: &str, bytes: &[u8]) -> Result<(String, Vec<u8>), Memory> {
-    let bytes = Vec::from_slice(alloc, bytes)?;
-    Ok((String::from_str(alloc, name)?, bytes))
-}
-
 /// A shelf with these files, on which one call fails.
 fn shelf_of(alloc: Global, files: Files<'_>, failing: u64) -> Result<MemoryShelf, Memory> {
     let mut kept = Vec::new(alloc);
@@ -88,9 +74,6 @@ pub fn status_of<R: Threads + Wait + Sync>(
     drop(trail);
     Ok(status.number())
 }
-
-/// How a run ends: the status, what is written, and what is noted.
-pub type End<'a> = (u8, &'a [u8], &'a str);
 
 /// Whether the words end so over these files.
 pub fn ends<R: Threads + Wait + Sync>(
