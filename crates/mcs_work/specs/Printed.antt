@@ -1,4 +1,4 @@
--- What is printed is of the system.
+-- The lines that are printed, and that what is printed is of the system.
 use Rattle.std.specs.Prelude.{ℕ, List}
 use Rattle.mcs_sets.specs.Sets.{Within}
 use Rattle.mcs_system.specs.Plain.{System}
@@ -6,6 +6,10 @@ use Rattle.mcs_system.specs.Repairs.{all_marks}
 use Rattle.mcs_system.specs.Systems.{all_rules, all_variables}
 use Rattle.mcs_diagnosis.specs.declared.diagnosis.Diagnosis as code
 use Rattle.mcs_transversal.specs.Transversals.{IsCritical}
+use Rattle.mcs_report.specs.Listing.{heading, equilibrium_line, verdict_line, short_end_line}
+use Rattle.mcs_report.specs.Repairs.{diagnosis_line, explanation_line, end_line}
+use Rattle.mcs_work.specs.declared.line.Line.{Line}
+use Rattle.mcs_work.specs.declared.line.Line.TheVariants.{Heading, Equilibrium, Verdict, ShortEnd, Diagnosis, Explanation, End}
 
 -- the marks, the variables and the rules of a diagnosis
 pub record IsOfSystem (m : System) (d : code.Diagnosis) : Type 0 where
@@ -17,3 +21,23 @@ pub record IsOfSystem (m : System) (d : code.Diagnosis) : Type 0 where
 pub record IsCauseOf (m : System) (pairs : List ℕ) (t : ℕ) : Type 0 where
   pub marks : Within t (all_marks m)
   pub critical : IsCritical pairs t
+
+-- what a line tells is of the system
+abbrev pub IsLineOf : System → Line → Type 0
+IsLineOf m Heading = Unit {0}
+IsLineOf m (Equilibrium k σ) = Within σ (all_variables m)
+IsLineOf m (Verdict consistent) = Unit {0}
+IsLineOf m (ShortEnd equilibria need) = Unit {0}
+IsLineOf m (Diagnosis k d) = IsOfSystem m d.now
+IsLineOf m (Explanation k pairs t) = IsCauseOf m pairs.now t
+IsLineOf m (End equilibria diagnoses explanations need) = Unit {0}
+
+-- its text, with its line feed
+abbrev pub line_text : System → Line → List ℕ
+line_text m Heading = heading m
+line_text m (Equilibrium k σ) = equilibrium_line m k σ
+line_text m (Verdict consistent) = verdict_line consistent
+line_text m (ShortEnd equilibria need) = short_end_line equilibria need
+line_text m (Diagnosis k d) = diagnosis_line m k d.now
+line_text m (Explanation k pairs t) = explanation_line m k pairs.now t
+line_text m (End equilibria diagnoses explanations need) = end_line equilibria diagnoses explanations need

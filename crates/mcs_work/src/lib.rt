@@ -2,6 +2,7 @@
 #![tactic(auto)]
 
 mod extent;
+mod line;
 mod printing;
 mod repairing;
 mod states;

@@ -8,15 +8,15 @@ use Rattle.mcs_text.proofs.WriteLaws.{goes_on, goes_cut, writes_nothing}
 use Rattle.mcs_work.specs.Printed.{IsOfSystem}
 use Rattle.mcs_work.proofs.printing.print_diagnoses.Goals as goal
 
-pub print_diagnosis-requires : goal.print_diagnosis-requires
-print_diagnosis-requires g c =
+pub print_line-requires : goal.print_line-requires
+print_line-requires g c =
     let parts = subst (AllByRecursion (IsOfSystem c.args.system.now)) (drop_more c.args.diagnoses.now c.loop-k.k c.index-diagnoses-k.result c.loop-k-test.true) c.loop-k.invariant.within in
     subst (IsOfSystem c.args.system.now) (sym c.index-diagnoses-k.is) parts.0
 
-pub returns-in_err-print_diagnosis : goal.returns-in_err-print_diagnosis
-returns-in_err-print_diagnosis g c = goes_cut _ _ _ _ _ _ _ _ _ c.loop-k.invariant.goes
+pub returns-in_err-print_line : goal.returns-in_err-print_line
+returns-in_err-print_line g c = goes_cut _ _ _ _ _ _ _ _ _ c.loop-k.invariant.goes
     (diagnosis_lines-more c.args.system.now (c.args.first + c.loop-k.k) c.args.diagnoses.now c.loop-k.k c.index-diagnoses-k.result c.loop-k-test.true c.index-diagnoses-k.is)
-    c.from_residual.ensures.1 c.in_err-print_diagnosis.ensures
+    c.from_residual.ensures.1 c.in_err-print_line.ensures
 
 pub loop-k-preserved : goal.loop-k-preserved
 loop-k-preserved g c =
@@ -25,7 +25,7 @@ loop-k-preserved g c =
       goes = goes_on _ _ _ _ _ _ _ _ c.loop-k.invariant.goes
           (diagnosis_lines-more c.args.system.now (c.args.first + c.loop-k.k) c.args.diagnoses.now c.loop-k.k c.index-diagnoses-k.result c.loop-k-test.true c.index-diagnoses-k.is
           ∙ ap (λ n. diagnosis_line c.args.system.now (c.args.first + c.loop-k.k) c.index-diagnoses-k.result ++ diagnosis_lines c.args.system.now n (drop (c.loop-k.k + 1) c.args.diagnoses.now)) next)
-          c.in_ok-print_diagnosis.ensures;
+          c.in_ok-print_line.ensures;
       within = (subst (AllByRecursion (IsOfSystem c.args.system.now)) (drop_more c.args.diagnoses.now c.loop-k.k c.index-diagnoses-k.result c.loop-k-test.true) c.loop-k.invariant.within).1;
     }
 

@@ -8,6 +8,6 @@ returns-in_err-print_states g c = writes_cut _ _ _ _ _ _ c.from_residual.ensures
 
 pub returns : goal.returns
 returns g c =
-    let told = c.is_empty.ensures in
-    let some : nat_lt 0 (length c.args.states.now) ≡ not c.is_empty.result = grind (arith, nat_tests) in
-    rw some (writes_then _ _ _ _ _ _ _ c.in_ok-print_states.ensures c.print_verdict.ensures)
+    let told = c.is_empty-consistent.ensures in
+    let some : nat_lt 0 (length c.args.states.now) ≡ not c.is_empty-consistent.result = grind (arith, nat_tests) in
+    rw some (writes_then _ _ _ _ _ _ _ c.in_ok-print_states.ensures c.print_line.ensures)

@@ -6,21 +6,21 @@ use Rattle.mcs_text.proofs.WriteLaws.{goes_on, goes_cut, writes_nothing}
 use Rattle.mcs_work.specs.Printed.{IsCauseOf}
 use Rattle.mcs_work.proofs.printing.print_explanations.Goals as goal
 
-pub print_explanation-requires : goal.print_explanation-requires
-print_explanation-requires g c =
+pub print_line-requires : goal.print_line-requires
+print_line-requires g c =
     let parts = subst (AllByRecursion (IsCauseOf c.args.system.now c.args.pairs.now)) (drop_more c.args.explanations.now c.loop-k.k c.index-explanations-k.result c.loop-k-test.true) c.loop-k.invariant.within in
     subst (IsCauseOf c.args.system.now c.args.pairs.now) (sym c.index-explanations-k.is) parts.0
 
-pub returns-in_err-print_explanation : goal.returns-in_err-print_explanation
-returns-in_err-print_explanation g c = goes_cut _ _ _ _ _ _ _ _ _ c.loop-k.invariant.goes
+pub returns-in_err-print_line : goal.returns-in_err-print_line
+returns-in_err-print_line g c = goes_cut _ _ _ _ _ _ _ _ _ c.loop-k.invariant.goes
     (explanation_lines-more c.args.system.now (c.loop-k.k + 1) c.args.pairs.now c.args.explanations.now c.loop-k.k c.index-explanations-k.result c.loop-k-test.true c.index-explanations-k.is)
-    c.from_residual.ensures.1 c.in_err-print_explanation.ensures
+    c.from_residual.ensures.1 c.in_err-print_line.ensures
 
 pub loop-k-preserved : goal.loop-k-preserved
 loop-k-preserved g c = record {
   goes = goes_on _ _ _ _ _ _ _ _ c.loop-k.invariant.goes
       (explanation_lines-more c.args.system.now (c.loop-k.k + 1) c.args.pairs.now c.args.explanations.now c.loop-k.k c.index-explanations-k.result c.loop-k-test.true c.index-explanations-k.is)
-      c.in_ok-print_explanation.ensures;
+      c.in_ok-print_line.ensures;
   within = (subst (AllByRecursion (IsCauseOf c.args.system.now c.args.pairs.now)) (drop_more c.args.explanations.now c.loop-k.k c.index-explanations-k.result c.loop-k-test.true) c.loop-k.invariant.within).1;
 }
 

@@ -1,0 +1,96 @@
+//! The lines of a listing, and how one is printed.
+
+ghost use Rattle.std.specs.Prelude.{◌≡◌, ◌++◌, OnOk};
+ghost use Rattle.mcs_text.specs.Writes.{Writes};
+ghost use Rattle.mcs_work.specs.Printed.{line_text, IsLineOf};
+
+use mcs_base::{Marks, Memory, Text, Vars};
+use mcs_diagnosis::Diagnosis;
+use mcs_ports::Sink;
+use mcs_report::{
+    diagnosis_line, end_line, equilibrium_line, explanation_line, heading, short_end_line,
+    verdict_line,
+};
+use mcs_system::System;
+use mcs_text::{Unwritten, write_line};
+use std::alloc::Global;
+
+/// A line of a listing.
+#[derive(Clone, Copy)]
+pub(crate) enum Line<'a> {
+    /// How many contexts, rules and variables the system has.
+    Heading,
+    /// An equilibrium, with its number.
+    Equilibrium {
+        number: u64,
+        state: Vars,
+    },
+    /// Whether there is an equilibrium.
+    Verdict {
+        consistent: bool,
+    },
+    /// How many equilibria there are, and how many questions were asked.
+    ShortEnd {
+        equilibria: u64,
+        need: u64,
+    },
+    /// A diagnosis, with its number.
+    Diagnosis {
+        number: u64,
+        diagnosis: &'a Diagnosis,
+    },
+    /// An explanation, with its number, by the pairs of the diagnoses.
+    Explanation {
+        number: u64,
+        pairs: &'a [Marks],
+        explanation: Marks,
+    },
+    /// How many equilibria, diagnoses and explanations there are, and how many questions were
+    /// asked.
+    End {
+        equilibria: u64,
+        diagnoses: u64,
+        explanations: u64,
+        need: u64,
+    },
+}
+
+/// Appends the line.
+fn push_line(system: &System, line: &Line<'_>, text: &mut Text) -> Result<(), Memory>
+    requires { IsLineOf system.now line.now }
+    ensures { OnOk result (text.new ≡ text.old ++ line_text system.now line.now) }
+{
+    match *line {
+        Line::Heading => heading(system, text),
+        Line::Equilibrium { number, state } => equilibrium_line(system, number, state, text),
+        Line::Verdict { consistent } => verdict_line(consistent, text),
+        Line::ShortEnd { equilibria, need } => short_end_line(equilibria, need, text),
+        Line::Diagnosis { number, diagnosis } => diagnosis_line(system, number, diagnosis, text),
+        Line::Explanation {
+            number,
+            pairs,
+            explanation,
+        } => explanation_line(system, number, pairs, explanation, text),
+        Line::End {
+            equilibria,
+            diagnoses,
+            explanations,
+            need,
+        } => end_line(equilibria, diagnoses, explanations, need, text),
+    }
+}
+
+/// Prints the line, in one piece.
+pub(crate) fn print_line<K: Sink>(
+    alloc: Global,
+    system: &System,
+    line: &Line<'_>,
+    sink: &mut K,
+) -> Result<(), Unwritten>
+    requires { IsLineOf system.now line.now }
+    ensures { Writes (line_text system.now line.now) (K.device sink.old) (K.device sink.new) result }
+{
+    let mut text = Text::new(alloc);
+    push_line(system, line, &mut text)?;
+    write_line(&text, sink)
+}
