@@ -10,7 +10,8 @@ use Rattle.mcs_trace.specs.Clauses.{IsClause, IsLiteral}
 use Rattle.mcs_trace.specs.Traces.{numbered_clause}
 use Rattle.mcs_engine.specs.declared.trail.Entry.{Entry}
 use Rattle.mcs_engine.specs.declared.trail.Trail.{Trail}
-use Rattle.mcs_engine.specs.Trails.{AreCovered, AreExplained, ArePlaced, GrowsOnLevel, IsOn, IsClauseSatisfied, IsTrail}
+use Rattle.mcs_engine.specs.Extending.{IsTrail}
+use Rattle.mcs_engine.specs.Trails.{AreCovered, AreExplained, GrowsOnLevel, IsClauseOver, IsLiteralOver, IsOn, IsClauseSatisfied}
 use Rattle.mcs_engine.specs.Watching.{AreSettled, IsLong}
 use Rattle.mcs_engine.proofs.TrailLemmas.{IsForced, entry_at, entry-new, entry-old, explained-push, on-more}
 
@@ -39,26 +40,22 @@ entry-grown level es es' i (more, e, all) less = ap (λ (xs : List Entry). entry
 pub neg_literal : (l : ℤ) → IsLiteral l → IsLiteral (neg_ℤ l)
 neg_literal l is = subst (λ (n : ℕ). (0 < n) × (n < 2 ^ 63)) (sym (unsigned_abs-neg_ℤ l)) is
 
-pub clause_at : (known : List (List ℤ)) (t : Trail) (i : ℕ) (c : List ℤ) → IsTrail known t → slice_get known i ≡ Some c → IsClause c
-clause_at known t i c trail is = all_get IsClause known i c trail.clauses is
+pub over_at : (known : List (List ℤ)) (t : Trail) (i : ℕ) (c : List ℤ) → IsTrail known t → slice_get known i ≡ Some c → IsClauseOver t.positions.items c
+over_at known t i c trail is = (all_get IsClause known i c trail.clauses is, all_get (AreCovered t.positions.items) known i c trail.covered is)
 
-pub covered_at : (known : List (List ℤ)) (t : Trail) (i : ℕ) (c : List ℤ) → IsTrail known t → slice_get known i ≡ Some c → AreCovered t.positions.items c
-covered_at known t i c trail is = all_get (AreCovered t.positions.items) known i c trail.covered is
-
-pub literal_of : (known : List (List ℤ)) (t : Trail) (i : ℕ) (c : List ℤ) (l : ℤ) → IsTrail known t → slice_get known i ≡ Some c → IsAmong l c → IsLiteral l
-literal_of known t i c l trail is among = all_among IsLiteral c l (clause_at known t i c trail is).0 among
-
-pub within_of : (known : List (List ℤ)) (t : Trail) (i : ℕ) (c : List ℤ) (l : ℤ) → IsTrail known t → slice_get known i ≡ Some c → IsAmong l c → unsigned_abs l < length t.positions.items
-within_of known t i c l trail is among = all_among (λ (k : ℤ). unsigned_abs k < length t.positions.items) c l (covered_at known t i c trail is) among
+pub over_of : (known : List (List ℤ)) (t : Trail) (i : ℕ) (c : List ℤ) (l : ℤ) → IsTrail known t → slice_get known i ≡ Some c → IsAmong l c → IsLiteralOver t.positions.items l
+over_of known t i c l trail is among =
+    let over = over_at known t i c trail is in
+    (all_among IsLiteral c l over.0.0 among, all_among (λ (k : ℤ). unsigned_abs k < length t.positions.items) c l over.1 among)
 
 -- ---- trails
-module _ (known : List (List ℤ)) (old new : Trail) (trail : IsTrail known old) (placed : ArePlaced new.entries.items new.positions.items) (sized : length new.positions.items ≡ length old.positions.items) where
+module _ (known : List (List ℤ)) (old new : Trail) (trail : IsTrail known old) (sized : length new.positions.items ≡ length old.positions.items) where
   covered : AllByRecursion (AreCovered new.positions.items) known
   covered = subst (λ (n : ℕ). AllByRecursion (λ (c : List ℤ). AllByRecursion (λ (l : ℤ). unsigned_abs l < n) c) known) (sym sized) trail.covered
 
   -- no literal was made true
   pub trail-same : new.entries.items ≡ old.entries.items → IsTrail known new
-  trail-same same = record { clauses = trail.clauses; covered = covered; placed = placed; explained = subst (AreExplained known) (sym same) trail.explained }
+  trail-same same = record { clauses = trail.clauses; covered = covered; explained = subst (AreExplained known) (sym same) trail.explained }
 
   -- a literal was made true by a clause whose other literals are false
   pub trail-push : (i : ℕ) (c : List ℤ) (l k : ℤ) (level : ℕ) → slice_get known i ≡ Some c → IsAmong l c → ((m : ℤ) → IsAmong m c → (m ≡ l) ⊎ IsOn old.entries.items (neg_ℤ m)) → k ≡ l
@@ -73,7 +70,7 @@ module _ (known : List (List ℤ)) (old new : Trail) (trail : IsTrail known old)
         subst (λ (m : ℤ). IsAmong m c) (sym same) among,
         λ m among'. elim (others m among') [ inl e' ↦ inl (e' ∙ sym same) | inr off ↦ inr off ],
       ) in
-      record { clauses = trail.clauses; covered = covered; placed = placed; explained = subst (AreExplained known) (sym e) (explained-push known old.entries.items x trail.explained (inr forced)) }
+      record { clauses = trail.clauses; covered = covered; explained = subst (AreExplained known) (sym e) (explained-push known old.entries.items x trail.explained (inr forced)) }
 
 -- the literal that was made true last
 pub on-pushed : (es es' : List Entry) (e : Entry) → es' ≡ es ++ e ∷ [] → IsOn es' e.literal

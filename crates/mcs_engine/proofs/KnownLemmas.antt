@@ -1,9 +1,12 @@
 -- Numbered clauses and chains, one more at the end.
-use Rattle.std.proofs.Common.{◌≡◌, ℕ, ◌-◌, zero, suc, ◌<◌, List, [], ◌∷◌, ◌++◌, refl, sym, ap, ◌∙◌, subst, arith, ℤ, length, Some, slice_get}
+use Rattle.std.proofs.Common.{◌≡◌, ℕ, ◌+◌, ◌-◌, zero, suc, ◌<◌, List, [], ◌∷◌, ◌++◌, refl, sym, ap, ◌∙◌, subst, arith, ℤ, length, Some, slice_get}
+use Rattle.std.specs.List.{AllByRecursion}
 use Rattle.std.proofs.lemmas.Option.{slice_get_within}
 use Rattle.mcs_base.proofs.Lists.{slice_get_kept}
+use Rattle.mcs_trace.specs.Clauses.{IsClause}
 use Rattle.mcs_trace.specs.Resolution.{IsResolvent}
 use Rattle.mcs_trace.specs.Traces.{numbered_clause, ResolvesTo, IsChainResolvent}
+use Rattle.mcs_trace.proofs.StepLemmas.{told_steps}
 
 -- ---- numbered clauses
 pub numbered-more : (known more : List (List ℤ)) (n : ℕ) (c : List ℤ) → numbered_clause known n ≡ Some c → numbered_clause (known ++ more) n ≡ Some c
@@ -33,3 +36,6 @@ resolves-push known a (k ∷ ns) c d m n (x, is, (b, r', rest)) e r = (x, is, (b
 pub chain-push : (known : List (List ℤ)) (ns : List ℕ) (c d m : List ℤ) (n : ℕ) → IsChainResolvent known ns c → numbered_clause known n ≡ Some d → IsResolvent c d m → IsChainResolvent known (ns ++ n ∷ []) m
 chain-push known [] c d m n h e r = absurd h
 chain-push known (k ∷ ns) c d m n (first, is, rest) e r = (first, is, resolves-push known first ns c d m n rest e r)
+
+pub chain-clause : (known : List (List ℤ)) (ns : List ℕ) (c : List ℤ) → AllByRecursion IsClause known → IsChainResolvent known ns c → IsClause c
+chain-clause known ns c all right = (told_steps known (length known + 1) (record { clause = c; chain = ns } ∷ []) all (omega arith) (right, tt)).0.clause

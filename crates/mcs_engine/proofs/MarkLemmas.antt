@@ -17,7 +17,7 @@ use Rattle.mcs_trace.proofs.ResolventLemmas.{IsResolvent-clause}
 use Rattle.mcs_engine.specs.declared.latest.Latest.{Latest}
 use Rattle.mcs_engine.specs.declared.trail.Entry.{Entry}
 use Rattle.mcs_engine.specs.Learning.{IsLate, IsLatest, IsSingle}
-use Rattle.mcs_engine.specs.Marking.{AreUnmarked, IsVariableMarked, IsMarkedChain, IsMarkedWithin, IsMarking, IsMetAt, IsOfMarks, IsSingleMark, IsTakenOff}
+use Rattle.mcs_engine.specs.Marking.{AreUnmarked, IsVariableMarked, IsMarkedChain, IsMarkedWithin, IsMarking, IsMetAt, IsOfMarks, IsSingleMark, IsTakenOff, MarksAlso}
 use Rattle.mcs_engine.specs.Trails.{ArePlaced, IsFalse, IsOnBelow, IsReason, literal_at}
 use Rattle.mcs_engine.proofs.LatestLemmas.{some-latest}
 use Rattle.mcs_engine.proofs.KnownLemmas.{chain-push}
@@ -120,6 +120,11 @@ marked-cases marks p = at (get_or marks p false)
 
 pub unmarked-is : (marks : List Bool) (p : ℕ) → get_or marks p false ≡ false → ¬ IsVariableMarked marks p
 unmarked-is marks p e marked = true≢false (sym marked ∙ e)
+
+pub marked-within : (marks : List Bool) (p : ℕ) → IsVariableMarked marks p → p < length marks
+marked-within [] p marked = absurd (true≢false (sym marked))
+marked-within (b ∷ marks) zero marked = omega arith
+marked-within (b ∷ marks) (suc p) marked = let less = marked-within marks p marked in omega arith
 
 -- the variable of the place is marked
 pub marked-one : (es : List Entry) (ps : List ℕ) (marks : List Bool) (q n : ℕ) → ArePlaced es ps → length marks ≡ length es → q < length es → unsigned_abs (literal_at es q) ≡ n
@@ -224,13 +229,13 @@ module _ (es : List Entry) (ps : List ℕ) (p : ℕ) (reason : List ℤ) (placed
 -- what the reason's marks, and the place that is taken off, come to
 pub marked-resolved : (known : List (List ℤ)) (es : List Entry) (ps : List ℕ) (chain : List ℕ) (old all : List Bool) (p n : ℕ) (reason : List ℤ)
     → AllByRecursion IsClause known → ArePlaced es ps → p < length es → numbered_clause known n ≡ Some reason → IsReason es p reason → IsVariableMarked old p → IsMarkedChain known es chain old
-    → length all ≡ length old → ((q : ℕ) → q < length es → IsVariableMarked all q ↔ (IsVariableMarked old q ⊎ IsMetAt es reason q))
+    → MarksAlso es (IsMetAt es reason) old all
     → IsMarkedChain known es (chain ++ n ∷ []) (set all p false)
-marked-resolved known es ps chain old all p n reason clauses placed here at is on m sized exactly =
+marked-resolved known es ps chain old all p n reason clauses placed here at is on m also =
     let c : List ℤ = m.clause in
     let has : IsAmong (neg_ℤ (literal_at es p)) c = (m.marking.exactly p here).0 on in
     let (d, r) = resolvent-there c reason (neg_ℤ (literal_at es p)) m.marking.clause is.clause (clash-at es ps p reason placed here is c m.marking.all_false has) in
-    let size : length all ≡ length es = sized ∙ m.marking.sized in
+    let size : length all ≡ length es = also.sized ∙ m.marking.sized in
     record {
       clause = d;
       right = chain-push known chain c reason d n m.right at r;
@@ -241,51 +246,46 @@ marked-resolved known es ps chain old all p n reason clauses placed here at is o
         exactly = λ q less.
             let off = unmarked-at all p q (omega arith) in
             let there = resolvent-has es ps p reason placed here is c m.marking.all_false has d r q less in (
-              λ marked. let h = off.0 marked in there.1 (h.0, elim ((exactly q less).0 h.1) [ inl was ↦ inl ((m.marking.exactly q less).0 was) | inr met ↦ inr met ]),
-              λ among. let h = there.0 among in off.1 (h.0, elim h.1 [ inl was ↦ (exactly q less).1 (inl ((m.marking.exactly q less).1 was)) | inr met ↦ (exactly q less).1 (inr met) ]),
+              λ marked. let h = off.0 marked in there.1 (h.0, elim ((also.exactly q less).0 h.1) [ inl was ↦ inl ((m.marking.exactly q less).0 was) | inr met ↦ inr met ]),
+              λ among. let h = there.0 among in off.1 (h.0, elim h.1 [ inl was ↦ (also.exactly q less).1 (inl ((m.marking.exactly q less).1 was)) | inr met ↦ (also.exactly q less).1 (inr met) ]),
             );
       };
     }
 
 pub marks-taken_off : (es : List Entry) (ps : List ℕ) (old all : List Bool) (p : ℕ) (reason : List ℤ)
-    → ArePlaced es ps → p < length es → IsReason es p reason → length old ≡ length es → length all ≡ length old → ((q : ℕ) → q < length es → IsVariableMarked all q ↔ (IsVariableMarked old q ⊎ IsMetAt es reason q))
+    → ArePlaced es ps → p < length es → IsReason es p reason → length old ≡ length es → MarksAlso es (IsMetAt es reason) old all
     → IsTakenOff old (set all p false) p
-marks-taken_off es ps old all p reason placed here is size sized exactly = record {
+marks-taken_off es ps old all p reason placed here is size also = let sized = also.sized in record {
   sized = length-set all p false ∙ sized;
   kept = λ q other marked. elim (cases_lt q (length es)) [
-    | inl less ↦ (unmarked-at all p q (omega arith)).1 (other, (exactly q less).1 (inl marked))
-    | inr past ↦ absurd (marked-within old q (omega arith) marked)
+    | inl less ↦ (unmarked-at all p q (omega arith)).1 (other, (also.exactly q less).1 (inl marked))
+    | inr past ↦ absurd (let less = marked-within old q marked in omega arith)
   ];
   above = λ q after less marked.
       let h = (unmarked-at all p q (omega arith)).0 marked in
-      elim ((exactly q (omega arith)).0 h.1) [
+      elim ((also.exactly q (omega arith)).0 h.1) [
         | inl was ↦ was
         | inr met ↦ elim (met-before es ps p reason placed here is q (omega arith) met) [ inl e ↦ absurd (h.0 e) | inr before ↦ absurd (let b = before.0 in omega arith) ]
       ];
   gone = λ marked. ((unmarked-at all p p (omega arith)).0 marked).0 refl;
 }
-  where
-    marked-within : (marks : List Bool) (q : ℕ) → length marks ≤ q → IsVariableMarked marks q → ⊥
-    marked-within [] q past marked = true≢false (sym marked)
-    marked-within (b ∷ marks) zero past marked = omega arith
-    marked-within (b ∷ marks) (suc q) past marked = marked-within marks q (omega arith) marked
 
 -- ---- the first marks
 pub marked-start : (es : List Entry) (ps : List ℕ) (c : List ℤ) (none marks : List Bool) → ArePlaced es ps → IsClause c → IsFalse es c
-    → length marks ≡ length es → ((q : ℕ) → ¬ IsVariableMarked none q) → ((q : ℕ) → q < length es → IsVariableMarked marks q ↔ (IsVariableMarked none q ⊎ IsMetAt es c q)) → IsMarking es marks c
-marked-start es ps c none marks placed clause off sized free exactly = record {
-  sized = sized;
+    → length none ≡ length es → ((q : ℕ) → ¬ IsVariableMarked none q) → MarksAlso es (IsMetAt es c) none marks → IsMarking es marks c
+marked-start es ps c none marks placed clause off sized free also = record {
+  sized = also.sized ∙ sized;
   clause = clause;
   all_false = off;
   exactly = λ q less. (
-    λ marked. elim ((exactly q less).0 marked) [
+    λ marked. elim ((also.exactly q less).0 marked) [
       | inl was ↦ absurd (free q was)
       | inr (k, among, size) ↦
           let (j, less', on) = off k among in
           let same : j ≡ q = same_place es ps j q placed less' less (ap unsigned_abs on ∙ unsigned_abs-neg_ℤ k ∙ sym size) in
           subst (λ (x : ℤ). IsAmong x c) (on-literal es j q k on same) among
     ],
-    λ among. (exactly q less).1 (inr (neg_ℤ (literal_at es q), among, sym (unsigned_abs-neg_ℤ (literal_at es q)))),
+    λ among. (also.exactly q less).1 (inr (neg_ℤ (literal_at es q), among, sym (unsigned_abs-neg_ℤ (literal_at es q)))),
   );
 }
 
@@ -415,27 +415,27 @@ met-more es c i p less = (
     back : (k : ℤ) → IsAmong k (take i c) ⊎ (k ≡ get_or c i (pos 0)) → IsAmong k (take (i + 1) c)
     back k h = subst (λ (xs : List ℤ). IsAmong k xs) (sym (take_more c i (pos 0) less)) ((among_push k (take i c) (get_or c i (pos 0))).1 h)
 
-pub met-marked : (es : List Entry) (c : List ℤ) (i : ℕ) (x : ℤ) (old between new : List Bool) → i < length c → x ≡ get_or c i (pos 0)
-    → ((p : ℕ) → p < length es → IsVariableMarked between p ↔ (IsVariableMarked old p ⊎ IsMetAt es (take i c) p))
-    → ((p : ℕ) → p < length es → IsVariableMarked new p ↔ (IsVariableMarked between p ⊎ (unsigned_abs (literal_at es p) ≡ unsigned_abs x)))
-    → (p : ℕ) → p < length es → IsVariableMarked new p ↔ (IsVariableMarked old p ⊎ IsMetAt es (take (i + 1) c) p)
-met-marked es c i x old between new less read before one p within = (
-  λ marked. elim ((one p within).0 marked) [
-    | inl b ↦ elim ((before p within).0 b) [ inl was ↦ inl was | inr met ↦ inr ((met-more es c i p less).1 (inl met)) ]
-    | inr size ↦ inr ((met-more es c i p less).1 (inr (size ∙ ap unsigned_abs read)))
-  ],
-  λ either. elim either [
-    | inl was ↦ (one p within).1 (inl ((before p within).1 (inl was)))
-    | inr met ↦ elim ((met-more es c i p less).0 met) [
-      | inl earlier ↦ (one p within).1 (inl ((before p within).1 (inr earlier)))
-      | inr size ↦ (one p within).1 (inr (size ∙ ap unsigned_abs (sym read)))
-    ]
-  ],
-)
+pub met-marked : (es : List Entry) (c : List ℤ) (i : ℕ) (x : ℤ) (old between new : List Bool) → i < length c → x ≡ get_or c i (pos 0) → MarksAlso es (IsMetAt es (take i c)) old between
+    → MarksAlso es (λ p. unsigned_abs (literal_at es p) ≡ unsigned_abs x) between new → MarksAlso es (IsMetAt es (take (i + 1) c)) old new
+met-marked es c i x old between new less read before one = record {
+  sized = one.sized ∙ before.sized;
+  exactly = λ p within. (
+    λ marked. elim ((one.exactly p within).0 marked) [
+      | inl b ↦ elim ((before.exactly p within).0 b) [ inl was ↦ inl was | inr met ↦ inr ((met-more es c i p less).1 (inl met)) ]
+      | inr size ↦ inr ((met-more es c i p less).1 (inr (size ∙ ap unsigned_abs read)))
+    ],
+    λ either. elim either [
+      | inl was ↦ (one.exactly p within).1 (inl ((before.exactly p within).1 (inl was)))
+      | inr met ↦ elim ((met-more es c i p less).0 met) [
+        | inl earlier ↦ (one.exactly p within).1 (inl ((before.exactly p within).1 (inr earlier)))
+        | inr size ↦ (one.exactly p within).1 (inr (size ∙ ap unsigned_abs (sym read)))
+      ]
+    ],
+  );
+}
 
-pub met-all : (es : List Entry) (c : List ℤ) (i : ℕ) (old new : List Bool) → length c ≤ i → ((p : ℕ) → p < length es → IsVariableMarked new p ↔ (IsVariableMarked old p ⊎ IsMetAt es (take i c) p))
-    → (p : ℕ) → p < length es → IsVariableMarked new p ↔ (IsVariableMarked old p ⊎ IsMetAt es c p)
-met-all es c i old new past = subst (λ (xs : List ℤ). (p : ℕ) → p < length es → IsVariableMarked new p ↔ (IsVariableMarked old p ⊎ IsMetAt es xs p)) (take_all i c past)
+pub met-all : (es : List Entry) (c : List ℤ) (i : ℕ) (old new : List Bool) → length c ≤ i → MarksAlso es (IsMetAt es (take i c)) old new → MarksAlso es (IsMetAt es c) old new
+met-all es c i old new past = subst (λ (xs : List ℤ). MarksAlso es (IsMetAt es xs) old new) (take_all i c past)
 
 -- ---- the literals of the marks, one after the other
 pub of_marks-free : (es : List Entry) (marks : List Bool) (n : ℕ) (c : List ℤ) → ¬ IsVariableMarked marks n → IsListing (IsOfMarks es marks n) LiteralBefore c → IsListing (IsOfMarks es marks (n + 1)) LiteralBefore c

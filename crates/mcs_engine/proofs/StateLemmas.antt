@@ -1,5 +1,5 @@
 -- What stays right of a solver when a level is opened, when levels are taken back, and when a clause is added.
-use Rattle.std.proofs.Common.{◌≡◌, ℕ, ◌+◌, ◌^◌, ◌<◌, ◌≤◌, List, [], ◌∷◌, ◌++◌, ◌⊎◌, inl, inr, refl, sym, ap, ◌∙◌, subst, arith, ℤ, neg_ℤ, unsigned_abs, length, length-append, take, Option, Some, None, MatchOption, IfSome, slice_get, Vec, Global}
+use Rattle.std.proofs.Common.{◌≡◌, ℕ, ◌+◌, ◌<◌, ◌≤◌, List, [], ◌∷◌, ◌++◌, ◌⊎◌, inl, inr, refl, sym, ap, ◌∙◌, subst, arith, ℤ, neg_ℤ, unsigned_abs, length, length-append, take, Option, Some, None, MatchOption, IfSome, slice_get, Vec, Global}
 use Rattle.std.specs.List.{AllByRecursion}
 use Rattle.std.proofs.Math.Seq.{take-append_seam}
 use Rattle.std.proofs.lemmas.List.{length_push, length-take-le, take-append-le}
@@ -12,55 +12,40 @@ use Rattle.mcs_base.proofs.Lists.{slice_get-append_right, slice_get_push_at, sli
 use Rattle.mcs_trace.specs.Clauses.{IsClause, IsLiteral}
 use Rattle.mcs_trace.specs.Traces.{IsChainResolvent}
 use Rattle.mcs_engine.specs.declared.lists.Lists.{Lists}
+use Rattle.mcs_engine.specs.declared.state.Kept.{Kept}
 use Rattle.mcs_engine.specs.declared.state.Reach.{Reach}
 use Rattle.mcs_engine.specs.declared.state.State.{State}
 use Rattle.mcs_engine.specs.declared.trail.Entry.{Entry}
 use Rattle.mcs_engine.specs.declared.trail.Trail.{Trail}
 use Rattle.mcs_engine.specs.declared.watches.Pair.{Pair}
 use Rattle.mcs_engine.specs.declared.watches.Watches.{Watches}
-use Rattle.mcs_engine.specs.States.{AreChains, AreStarts, IsFull, IsState, reach_of}
-use Rattle.mcs_engine.specs.Trails.{AreCovered, AreExplained, AreLevelled, ArePlaced, IsOnBelow, IsClauseSatisfied, IsTrail}
+use Rattle.mcs_engine.specs.States.{AreChains, AreStarts, IsFull, IsState, KeepsClauses, KeepsLevels, KeepsLiterals, reach_of}
+use Rattle.mcs_engine.specs.Extending.{IsTrail}
+use Rattle.mcs_engine.specs.Trails.{AreCovered, AreExplained, AreLevelled, IsOnBelow, IsClauseSatisfied}
 use Rattle.mcs_engine.specs.Pairs.{no_pair}
-use Rattle.mcs_engine.specs.Watching.{KeepsLists, ArePair, AreWatched, IsFreshPair, AreVisitsKept, IsLong, IsInList, IsOf, IsPaired, IsPushed, IsReached}
-use Rattle.mcs_engine.proofs.KeptLemmas.{first-push, first-same, front-push, front-same, front-take, kept-change, later-push, later-same, later-take, moved-push, moved-same, still-known, still-push, still-same}
+use Rattle.mcs_engine.specs.Lists.{IsInList, KeepsLists}
+use Rattle.mcs_engine.specs.Watching.{ArePair, AreWatched, IsFreshPair, AreVisitsKept, IsLong, IsOf, IsPaired, IsPushed, IsReached}
+use Rattle.mcs_engine.proofs.GrowLemmas.{trail-same}
+use Rattle.mcs_engine.proofs.KeptLemmas.{first-push, first-same, front-push, front-same, front-take, kept-change, kept-now, later-push, later-same, later-take, moved-push, moved-same, still-known, still-push, still-same}
 use Rattle.mcs_engine.proofs.LevelLemmas.{decisions-longer, levelled-back, levelled-decide, starts-back, starts-decide}
-use Rattle.mcs_engine.proofs.TrailLemmas.{entry-back, entry-old, explained-back, explained-known, explained-push, placed-back}
-use Rattle.mcs_engine.proofs.WatchLemmas.{no-pair, pair-long, reached-list}
+use Rattle.mcs_engine.proofs.TrailLemmas.{entry-back, entry-old, explained-back, explained-known, explained-push}
+use Rattle.mcs_engine.proofs.WatchLemmas.{no-pair, pair-long, reached-list, watched-list}
 
 -- ---- parts that stay as they were
 pub covered-same : (known : List (List ℤ)) (ps ps' : List ℕ) → length ps' ≡ length ps → AllByRecursion (AreCovered ps) known → AllByRecursion (AreCovered ps') known
 covered-same known ps ps' size all = subst (λ (n : ℕ). AllByRecursion (λ (c : List ℤ). AllByRecursion (λ (l : ℤ). unsigned_abs l < n) c) known) (sym size) all
 
--- a trail whose literals stay, in other memory
-pub trail-same : (known : List (List ℤ)) (t t' : Trail) → t'.entries.items ≡ t.entries.items → length t'.positions.items ≡ length t.positions.items → ArePlaced t'.entries.items t'.positions.items → IsTrail known t → IsTrail known t'
-trail-same known t t' entries positions placed is = record {
-  clauses = is.clauses;
-  covered = covered-same known t.positions.items t'.positions.items positions is.covered;
-  placed = placed;
-  explained = subst (AreExplained known) (sym entries) is.explained;
-}
-
-pub watched-same : (known : List (List ℤ)) (w w' : Watches) → KeepsLists w w' → w'.pairs ≡ w.pairs → w'.short.items ≡ w.short.items → AreWatched known w → AreWatched known w'
-watched-same known w w' kept pairs short is = record {
-  sized = (let sized = is.sized in omega (arith, ap length pairs));
-  paired = λ i c p known' at. is.paired i c p known' (subst (λ (ps : List Pair). slice_get ps i ≡ Some p) pairs at);
-  listed = λ i p l at literal of. kept.listed l i (is.listed i p l (subst (λ (ps : List Pair). slice_get ps i ≡ Some p) pairs at) literal of);
-  short = λ i c less known' none. subst (λ (xs : List ℕ). IsAmong i xs) (sym short) (is.short i c (omega (arith, ap length pairs)) known' none);
-}
-
 -- where nothing but memory changed
-pub state-same : (old new : State) → IsState old → new.clauses ≡ old.clauses → new.chains ≡ old.chains → new.trail.entries.items ≡ old.trail.entries.items → length new.trail.positions.items ≡ length old.trail.positions.items → ArePlaced new.trail.entries.items new.trail.positions.items → KeepsLists old.watches new.watches → new.watches.pairs ≡ old.watches.pairs → new.watches.short.items ≡ old.watches.short.items → new.levels.items ≡ old.levels.items → new.visited ≡ old.visited → new.settled ≡ old.settled → new.kept ≡ old.kept → IsState new
-state-same old new is clauses chains entries positions placed kept pairs short levels visited settled marked =
+pub state-same : (old new : State) → IsState old → new.clauses ≡ old.clauses → new.chains ≡ old.chains → new.trail.entries.items ≡ old.trail.entries.items → length new.trail.positions.items ≡ length old.trail.positions.items → KeepsLists old.watches.lists new.watches.lists → new.watches.pairs ≡ old.watches.pairs → new.watches.short.items ≡ old.watches.short.items → new.levels.items ≡ old.levels.items → new.visited ≡ old.visited → new.settled ≡ old.settled → new.kept ≡ old.kept → IsState new
+state-same old new is clauses chains entries positions kept pairs short levels visited settled marked =
     let reached : (r : Reach) → IsReached old.clauses old.watches old.trail.entries.items r → IsReached new.clauses new.watches new.trail.entries.items r = λ r h.
     subst (λ (known : List (List ℤ)). IsReached known new.watches new.trail.entries.items r) (sym clauses) (subst (λ (es : List Entry). IsReached old.clauses new.watches es r) (sym entries) (reached-list old.clauses old.watches new.watches old.trail.entries.items r pairs short h)) in
     record {
-      some = subst (λ (n : ℕ). 0 < n) (sym positions) is.some;
-      fits = subst (λ (n : ℕ). n ≤ 2 ^ 63) (sym positions) is.fits;
       chains = subst (λ (known : List (List ℤ)). AreChains known new.chains) (sym clauses) (subst (AreChains old.clauses) (sym chains) is.chains);
-      trail = subst (λ (known : List (List ℤ)). IsTrail known new.trail) (sym clauses) (trail-same old.clauses old.trail new.trail entries positions placed is.trail);
+      trail = subst (λ (known : List (List ℤ)). IsTrail known new.trail) (sym clauses) (trail-same old.clauses old.trail new.trail is.trail positions entries);
       levelled = subst AreLevelled (sym entries) is.levelled;
       starts = subst (λ (es : List Entry). AreStarts es new.levels.items) (sym entries) (subst (AreStarts old.trail.entries.items) (sym levels) is.starts);
-      watched = subst (λ (known : List (List ℤ)). AreWatched known new.watches) (sym clauses) (watched-same old.clauses old.watches new.watches kept pairs short is.watched);
+      watched = subst (λ (known : List (List ℤ)). AreWatched known new.watches) (sym clauses) (watched-list old.clauses old.watches new.watches is.watched pairs short kept);
       shorts = λ j i at. let less = is.shorts j i (subst (λ (xs : List ℕ). slice_get xs j ≡ Some i) short at) in omega (arith, ap length clauses);
       bound = (let b = is.bound in omega (arith, visited, ap length entries));
       short_bound = (let b = is.short_bound in omega (arith, settled, ap length short));
@@ -74,6 +59,48 @@ state-same old new is clauses chains entries positions placed kept pairs short l
   where
     same-reach : (old new : State) → new.trail.entries.items ≡ old.trail.entries.items → new.visited ≡ old.visited → new.settled ≡ old.settled → reach_of old ≡ reach_of new
     same-reach old new entries visited settled = cc
+
+-- where nothing changed
+pub keeps-none : (s : State) → IsState s → KeepsClauses s s
+keeps-none s is = record { state = is; clauses = refl; chains = refl; positions = refl; full = λ full. full }
+
+pub keeps-then : (a b c : State) → KeepsClauses a b → KeepsClauses b c → KeepsClauses a c
+keeps-then a b c ab bc = record { state = bc.state; clauses = bc.clauses ∙ ab.clauses; chains = bc.chains ∙ ab.chains; positions = bc.positions ∙ ab.positions; full = λ full. bc.full (ab.full full) }
+
+pub levels-none : (s : State) → IsState s → KeepsLevels s s
+levels-none s is = record { same = keeps-none s is; levels = refl }
+
+pub levels-then : (a b c : State) → KeepsLevels a b → KeepsLevels b c → KeepsLevels a c
+levels-then a b c ab bc = record { same = keeps-then a b c ab.same bc.same; levels = bc.levels ∙ ab.levels }
+
+pub literals-none : (s : State) → IsState s → KeepsLiterals s s
+literals-none s is = record { same = levels-none s is; entries = refl }
+
+pub literals-then : (a b c : State) → KeepsLiterals a b → KeepsLiterals b c → KeepsLiterals a c
+literals-then a b c ab bc = record { same = levels-then a b c ab.same bc.same; entries = bc.entries ∙ ab.entries }
+
+-- where only what is watched and visited changed
+pub literals-watched : (s : State) (w : Watches) (v : ℕ) (m : Kept) → IsState (record { clauses = s.clauses; chains = s.chains; trail = s.trail; watches = w; levels = s.levels; visited = v; settled = s.settled; kept = m }) → (IsFull s → length w.pairs ≡ length s.clauses)
+    → KeepsLiterals s (record { clauses = s.clauses; chains = s.chains; trail = s.trail; watches = w; levels = s.levels; visited = v; settled = s.settled; kept = m })
+literals-watched s w v m is full = record { same = record { same = record { state = is; clauses = refl; chains = refl; positions = refl; full = full }; levels = refl }; entries = refl }
+
+-- what is visited now is kept
+pub state-marked : (s : State) (m : Kept) → IsState s → s.levels.items ≡ [] → m ≡ record { count = length s.watches.pairs; entries = length s.trail.entries.items; visited = s.visited }
+    → IsState (record { clauses = s.clauses; chains = s.chains; trail = s.trail; watches = s.watches; levels = s.levels; visited = s.visited; settled = s.settled; kept = m })
+state-marked s m is base now = record {
+  chains = is.chains;
+  trail = is.trail;
+  levelled = is.levelled;
+  starts = is.starts;
+  watched = is.watched;
+  shorts = is.shorts;
+  bound = is.bound;
+  short_bound = is.short_bound;
+  bounds = is.bounds;
+  reached = is.reached;
+  now = is.now;
+  kept = subst (AreVisitsKept s.clauses s.watches s.trail.entries.items s.levels.items) (sym now) (kept-now s.clauses s.watches s.trail.entries.items s.levels.items s.visited s.settled s.kept base is.bound is.now is.kept);
+}
 
 -- ---- more literals, and fewer
 pub below-more : (es more : List Entry) (n m : ℕ) (l : ℤ) → n ≤ m → n ≤ length es → IsOnBelow es n l → IsOnBelow (es ++ more) m l
@@ -125,22 +152,19 @@ reached-back known w es n r entries visited is = record {
 abbrev pub decided_entry : State → ℤ → Entry
 decided_entry s l = record { literal = l; reason = 0; level = length s.levels.items + 1 }
 
-pub state-decided : (s : State) (t : Trail) (ls : Vec Reach Global) (l : ℤ) → IsState s → t.entries.items ≡ s.trail.entries.items ++ decided_entry s l ∷ [] → ArePlaced t.entries.items t.positions.items → length t.positions.items ≡ length s.trail.positions.items → ls.items ≡ s.levels.items ++ reach_of s ∷ []
+pub state-decided : (s : State) (t : Trail) (ls : Vec Reach Global) (l : ℤ) → IsState s → t.entries.items ≡ s.trail.entries.items ++ decided_entry s l ∷ [] → length t.positions.items ≡ length s.trail.positions.items → ls.items ≡ s.levels.items ++ reach_of s ∷ []
     → IsState (record { clauses = s.clauses; chains = s.chains; trail = t; watches = s.watches; levels = ls; visited = s.visited; settled = s.settled; kept = s.kept })
-state-decided s t ls l is entries placed positions levels =
+state-decided s t ls l is entries positions levels =
     let es : List Entry = s.trail.entries.items in
     let e : Entry = decided_entry s l in
     let longer : length t.entries.items ≡ length es + 1 = ap length entries ∙ length_push es e in
     let reached : (r : Reach) → r.entries ≤ length es → r.visited ≤ length es → IsReached s.clauses s.watches es r → IsReached s.clauses s.watches t.entries.items r = λ r b v h.
     subst (λ (xs : List Entry). IsReached s.clauses s.watches xs r) (sym entries) (reached-more s.clauses s.watches es (e ∷ []) r b v h) in
     record {
-      some = subst (λ (n : ℕ). 0 < n) (sym positions) is.some;
-      fits = subst (λ (n : ℕ). n ≤ 2 ^ 63) (sym positions) is.fits;
       chains = is.chains;
       trail = record {
         clauses = is.trail.clauses;
         covered = covered-same s.clauses s.trail.positions.items t.positions.items positions is.trail.covered;
-        placed = placed;
         explained = subst (AreExplained s.clauses) (sym entries) (explained-push s.clauses es e is.trail.explained (inl refl));
       };
       levelled = subst AreLevelled (sym entries) (levelled-decide es e is.levelled refl (omega (arith, is.starts.count)));
@@ -184,13 +208,10 @@ state-back s t ls k r is at entries positions levels =
     let reached : (q : Reach) → q.entries ≤ r.entries → q.visited ≤ r.entries → IsReached s.clauses s.watches es q → IsReached s.clauses s.watches t.entries.items q = λ q b w h.
     subst (λ (xs : List Entry). IsReached s.clauses s.watches xs q) (sym entries) (reached-back s.clauses s.watches es r.entries q b w h) in
     record {
-      some = subst (λ (ps : List ℕ). 0 < length ps) (sym positions) is.some;
-      fits = subst (λ (ps : List ℕ). length ps ≤ 2 ^ 63) (sym positions) is.fits;
       chains = is.chains;
       trail = record {
         clauses = is.trail.clauses;
         covered = covered-same s.clauses s.trail.positions.items t.positions.items (ap length positions) is.trail.covered;
-        placed = subst (ArePlaced t.entries.items) (sym positions) (subst (λ (xs : List Entry). ArePlaced xs s.trail.positions.items) (sym entries) (placed-back es s.trail.positions.items r.entries is.trail.placed));
         explained = subst (AreExplained s.clauses) (sym entries) (explained-back s.clauses es r.entries is.trail.explained);
       };
       levelled = subst AreLevelled (sym entries) (levelled-back r.entries es is.levelled);
@@ -237,6 +258,10 @@ pairs-pushed : (old new : Watches) (o : Option Pair) → IsPushed old new o → 
 pairs-pushed old new (Some p) h = h.0
 pairs-pushed old new None h = h.0
 
+-- each clause has its pair still
+pub full-pushed : (known known' : List (List ℤ)) (old new : Watches) (c : List ℤ) (o : Option Pair) → length old.pairs ≡ length known → known' ≡ known ++ c ∷ [] → IsPushed old new o → length new.pairs ≡ length known'
+full-pushed known known' old new c o full more pushed = omega (arith, ap length (pairs-pushed old new o pushed), length_push old.pairs (get_pair o), ap length more, length_push known c)
+
 short-pushed : (old new : Watches) (o : Option Pair) (i : ℕ) → IsPushed old new o → IsAmong i old.short.items → IsAmong i new.short.items
 short-pushed old new (Some p) i h among = subst (λ (xs : List ℕ). IsAmong i xs) (sym h.1) among
 short-pushed old new None i h among = subst (λ (xs : List ℕ). IsAmong i xs) (sym h.1) (among_left i old.short.items (length old.pairs ∷ []) among)
@@ -263,7 +288,7 @@ listed-pushed old new None l h literal of = absurd (no-pair l literal of)
 pair-at : (old new : Watches) (o : Option Pair) (i : ℕ) (p : Pair) → IsPushed old new o → slice_get new.pairs i ≡ Some p → (slice_get old.pairs i ≡ Some p) ⊎ ((i ≡ length old.pairs) × (p ≡ get_pair o))
 pair-at old new o i p pushed at = slice_get_push_at old.pairs (get_pair o) i p (subst (λ (ps : List Pair). slice_get ps i ≡ Some p) (pairs-pushed old new o pushed) at)
 
-watched-pushed : (known : List (List ℤ)) (c : List ℤ) (old new : Watches) (o : Option Pair) → slice_get known (length old.pairs) ≡ Some c → AreWatched known old → KeepsLists old new → IsPushed old new o → FitsPair c o → AreWatched known new
+watched-pushed : (known : List (List ℤ)) (c : List ℤ) (old new : Watches) (o : Option Pair) → slice_get known (length old.pairs) ≡ Some c → AreWatched known old → KeepsLists old.lists new.lists → IsPushed old new o → FitsPair c o → AreWatched known new
 watched-pushed known c old new o here is kept pushed fits = record {
   sized = (let less = slice_get_within known (length old.pairs) c here in omega (arith, ap length (pairs-pushed old new o pushed), length_push old.pairs (get_pair o)));
   paired = λ i d p known' at. elim (pair-at old new o i p pushed at) [
@@ -351,13 +376,10 @@ state-added s cs ms c ns is clauses chains clause covered right =
     let known : List (List ℤ) = s.clauses ++ c ∷ [] in
     let es : List Entry = s.trail.entries.items in
     record {
-      some = is.some;
-      fits = is.fits;
       chains = subst (λ (ks : List (List ℤ)). AreChains ks ms) (sym clauses) (subst (AreChains known) (sym chains) (chains-pushed s.clauses s.chains c ns is.chains right));
       trail = subst (λ (ks : List (List ℤ)). IsTrail ks s.trail) (sym clauses) (record {
         clauses = all_push IsClause s.clauses c is.trail.clauses clause;
         covered = all_push (AreCovered s.trail.positions.items) s.clauses c is.trail.covered covered;
-        placed = is.trail.placed;
         explained = explained-known s.clauses (c ∷ []) es is.trail.explained;
       });
       levelled = is.levelled;
@@ -374,7 +396,7 @@ state-added s cs ms c ns is clauses chains clause covered right =
     }
 
 -- the next clause watches the pair, and less may have been visited than before
-pub state-attached : (s : State) (w : Watches) (c : List ℤ) (o : Option Pair) (v : ℕ) → IsState s → slice_get s.clauses (length s.watches.pairs) ≡ Some c → KeepsLists s.watches w → IsPushed s.watches w o → FitsPair c o
+pub state-attached : (s : State) (w : Watches) (c : List ℤ) (o : Option Pair) (v : ℕ) → IsState s → slice_get s.clauses (length s.watches.pairs) ≡ Some c → KeepsLists s.watches.lists w.lists → IsPushed s.watches w o → FitsPair c o
     → v ≤ s.visited → IsFreshPair s.trail.entries.items v o → ((k : ℕ) (r : Reach) → slice_get s.levels.items k ≡ Some r → IsFreshPair s.trail.entries.items r.visited o)
     → IsState (record { clauses = s.clauses; chains = s.chains; trail = s.trail; watches = w; levels = s.levels; visited = v; settled = s.settled; kept = s.kept })
 state-attached s w c o v is here kept pushed fits low fresh levels =
@@ -382,8 +404,6 @@ state-attached s w c o v is here kept pushed fits low fresh levels =
     let longer = short-longer s.watches w o pushed in
     let within = slice_get_within s.clauses (length s.watches.pairs) c here in
     record {
-      some = is.some;
-      fits = is.fits;
       chains = is.chains;
       trail = is.trail;
       levelled = is.levelled;
@@ -428,8 +448,6 @@ state-spared s w c is here pairs lists short long satisfied all =
       settled = λ j i d less at known none. h.settled j i d less (subst (λ (xs : List ℕ). slice_get xs j ≡ Some i) short at) known none;
     } in
     record {
-      some = is.some;
-      fits = is.fits;
       chains = is.chains;
       trail = is.trail;
       levelled = is.levelled;
@@ -477,7 +495,7 @@ state-spared s w c is here pairs lists short long satisfied all =
     this i d last at = let both : Some c ≡ Some d = sym here ∙ ap (slice_get s.clauses) (sym last) ∙ at in cc
 
 -- a clause with its chain is added and watches the pair, where each clause before it has its own
-pub state-pushed : (s : State) (cs : List (List ℤ)) (ms : List (List ℕ)) (w : Watches) (c : List ℤ) (ns : List ℕ) (o : Option Pair) (v : ℕ) → IsState s → IsFull s → cs ≡ s.clauses ++ c ∷ [] → ms ≡ s.chains ++ ns ∷ [] → KeepsLists s.watches w → IsPushed s.watches w o → FitsPair c o → IsClause c → AreCovered s.trail.positions.items c → (ns ≡ []) ⊎ IsChainResolvent s.clauses ns c
+pub state-pushed : (s : State) (cs : List (List ℤ)) (ms : List (List ℕ)) (w : Watches) (c : List ℤ) (ns : List ℕ) (o : Option Pair) (v : ℕ) → IsState s → IsFull s → cs ≡ s.clauses ++ c ∷ [] → ms ≡ s.chains ++ ns ∷ [] → KeepsLists s.watches.lists w.lists → IsPushed s.watches w o → FitsPair c o → IsClause c → AreCovered s.trail.positions.items c → (ns ≡ []) ⊎ IsChainResolvent s.clauses ns c
     → v ≤ s.visited → IsFreshPair s.trail.entries.items v o → ((k : ℕ) (r : Reach) → slice_get s.levels.items k ≡ Some r → IsFreshPair s.trail.entries.items r.visited o)
     → IsState (record { clauses = cs; chains = ms; trail = s.trail; watches = w; levels = s.levels; visited = v; settled = s.settled; kept = s.kept })
 state-pushed s cs ms w c ns o v is full clauses chains kept pushed fits clause covered right low fresh levels =

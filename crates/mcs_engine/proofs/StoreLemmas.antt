@@ -6,20 +6,38 @@ use Rattle.mcs_base.proofs.Each.{all_append, all_both, all_push, all_weaker}
 use Rattle.mcs_trace.specs.Clauses.{ClauseList, IsClause, IsClauseList, IsWithin}
 use Rattle.mcs_trace.specs.Traces.{Inference, IsChainResolvent}
 use Rattle.mcs_engine.specs.declared.state.State.{State}
-use Rattle.mcs_engine.specs.States.{IsState, SameClauses}
-use Rattle.mcs_engine.specs.Stores.{IsBase, IsLater, given, given_count, list_of}
+use Rattle.mcs_engine.specs.States.{IsState, IsWider, KeepsClauses, KeepsLevels, KeepsTrail}
+use Rattle.mcs_engine.specs.Stores.{IsAdded, IsBase, IsGround, IsLater, IsLaterGround, SameStore, given, given_count, list_of}
 use Rattle.mcs_engine.specs.Trails.{AreCovered}
 
 -- ---- what comes later
-pub later-same : (old new : State) → IsState new → SameClauses old new → IsLater old new
-later-same old new is same = record {
-  state = is;
+pub later-same : (old new : State) → KeepsClauses old new → IsLater old new
+later-same old new same = record {
+  state = same.state;
   positions = same.positions;
   more = [];
   clauses = same.clauses ∙ sym (append-nil old.clauses);
   chains = same.chains ∙ sym (append-nil old.chains);
   learnt = tt;
 }
+
+pub keeps-store : (old new : State) → KeepsTrail old new → SameStore old new → new.watches.pairs ≡ old.watches.pairs → KeepsClauses old new
+keeps-store old new kept same pairs = record {
+  state = kept.state;
+  clauses = same.clauses;
+  chains = same.chains;
+  positions = kept.positions;
+  full = λ full. ap length pairs ∙ full ∙ sym (ap length same.clauses);
+}
+
+pub later-none : (s : State) → IsState s → IsLater s s
+later-none s is = record { state = is; positions = refl; more = []; clauses = sym (append-nil s.clauses); chains = sym (append-nil s.chains); learnt = tt }
+
+pub ground-none : (s : State) → IsGround s → IsLaterGround s s
+ground-none s is = record { later = later-none s is.state; base = is.base }
+
+pub ground-later : (old new : State) → IsLaterGround old new → IsGround new
+ground-later old new is = record { state = is.later.state; base = is.base }
 
 pub later-then : (a b c : State) → IsLater a b → IsLater b c → IsLater a c
 later-then a b c ab bc = record {
@@ -30,6 +48,12 @@ later-then a b c ab bc = record {
   chains = bc.chains ∙ ap (λ (xs : List (List ℕ)). xs ++ map (λ (i : Inference). i.chain) bc.more) ab.chains ∙ append_assoc a.chains (map (λ (i : Inference). i.chain) ab.more) (map (λ (i : Inference). i.chain) bc.more) ∙ ap (λ (xs : List (List ℕ)). a.chains ++ xs) (sym (map-append (λ (i : Inference). i.chain) ab.more bc.more));
   learnt = all_append (λ (i : Inference). i.chain ≢ []) ab.more bc.more ab.learnt bc.learnt;
 }
+
+pub later-ground : (a b c : State) → IsLater a b → IsLaterGround b c → IsLaterGround a c
+later-ground a b c ab bc = record { later = later-then a b c ab bc.later; base = bc.base }
+
+pub later-levels : (a b c : State) → IsLaterGround a b → KeepsLevels b c → IsLaterGround a c
+later-levels a b c ab bc = record { later = later-then a b c ab.later (later-same b c bc.same); base = bc.levels ∙ ab.base }
 
 pub later-learnt : (old new : State) (c : List ℤ) (ns : List ℕ) → IsState new → length new.trail.positions.items ≡ length old.trail.positions.items → new.clauses ≡ old.clauses ++ c ∷ [] → new.chains ≡ old.chains ++ ns ∷ [] → IsChainResolvent old.clauses ns c → IsLater old new
 later-learnt old new c ns is positions clauses chains right = record {
@@ -120,12 +144,12 @@ pub later-count : (old new : State) → IsLater old new → given_count new.chai
 later-count old new later = ap given_count later.chains ∙ given_count-append old.chains (map (λ (i : Inference). i.chain) later.more) ∙ omega (arith, given_count-learnt later.more later.learnt)
 
 -- ---- one list of clauses for many searches
-pub base-later : (old new : State) (vars : ℕ) → IsBase old vars → IsLater old new → new.levels.items ≡ [] → IsBase new vars
-base-later old new vars is later base = record {
-  state = later.state;
-  base = base;
-  room = (let r = is.room in omega (arith, later.positions));
-  within = subst (AllByRecursion (IsWithin vars)) (sym (later-given old new is.state later)) is.within;
+pub base-later : (old new : State) (vars : ℕ) → IsBase old vars → IsLaterGround old new → IsBase new vars
+base-later old new vars is ground = record {
+  state = ground.later.state;
+  base = ground.base;
+  room = (let r = is.room in omega (arith, ground.later.positions));
+  within = subst (AllByRecursion (IsWithin vars)) (sym (later-given old new is.state ground.later)) is.within;
 }
 
 pub base-list : (old new : State) (vars : ℕ) → IsState old → IsLater old new → list_of new vars ≡ list_of old vars
@@ -135,15 +159,23 @@ base-list old new vars is later = ap (λ (cs : List (List ℤ)). (let f : Clause
 pub given-push : (known : List (List ℤ)) (chains : List (List ℕ)) (c : List ℤ) → length chains ≡ length known → given (known ++ c ∷ []) (chains ++ [] ∷ []) ≡ given known chains ++ c ∷ []
 given-push known chains c size = given-append known (c ∷ []) chains ([] ∷ []) size
 
-pub added-list : (old new : State) (c : List ℤ) → IsState old → new.clauses ≡ old.clauses ++ c ∷ [] → new.chains ≡ old.chains ++ [] ∷ [] → given new.clauses new.chains ≡ given old.clauses old.chains ++ c ∷ []
-added-list old new c is clauses chains = ap (λ (cs : List (List ℤ)). given cs new.chains) clauses ∙ ap (given (old.clauses ++ c ∷ [])) chains ∙ given-push old.clauses old.chains c is.chains.sized
+pub added-list : (old new : State) (c : List ℤ) → IsState old → IsAdded old new c [] → given new.clauses new.chains ≡ given old.clauses old.chains ++ c ∷ []
+added-list old new c is added = ap (λ (cs : List (List ℤ)). given cs new.chains) added.clauses ∙ ap (given (old.clauses ++ c ∷ [])) added.chains ∙ given-push old.clauses old.chains c is.chains.sized
 
-pub base-added : (old new : State) (vars : ℕ) (c : List ℤ) → IsBase old vars → IsState new → new.levels.items ≡ [] → length new.trail.positions.items ≡ length old.trail.positions.items → new.clauses ≡ old.clauses ++ c ∷ [] → new.chains ≡ old.chains ++ [] ∷ [] → IsWithin vars c → IsBase new vars
-base-added old new vars c is kept base positions clauses chains within = record {
-  state = kept;
-  base = base;
-  room = (let r = is.room in omega (arith, positions));
-  within = subst (AllByRecursion (IsWithin vars)) (sym (added-list old new c is.state clauses chains)) (all_push (IsWithin vars) (given old.clauses old.chains) c is.within within);
+pub base-added : (old new : State) (vars : ℕ) (c : List ℤ) → IsBase old vars → KeepsTrail old new → IsAdded old new c [] → IsWithin vars c → IsBase new vars
+base-added old new vars c is kept added within = record {
+  state = kept.state;
+  base = kept.levels ∙ is.base;
+  room = (let r = is.room in omega (arith, kept.positions));
+  within = subst (AllByRecursion (IsWithin vars)) (sym (added-list old new c is.state added)) (all_push (IsWithin vars) (given old.clauses old.chains) c is.within within);
+}
+
+pub base-same : (old new : State) (vars : ℕ) → IsBase old vars → KeepsTrail old new → SameStore old new → IsBase new vars
+base-same old new vars is kept same = record {
+  state = kept.state;
+  base = kept.levels ∙ is.base;
+  room = (let r = is.room in omega (arith, kept.positions));
+  within = subst (λ (cs : List (List ℤ)). AllByRecursion (IsWithin vars) (given cs new.chains)) (sym same.clauses) (subst (λ (ms : List (List ℕ)). AllByRecursion (IsWithin vars) (given old.clauses ms)) (sym same.chains) is.within);
 }
 
 -- clauses are taken off
@@ -159,16 +191,16 @@ base-vars s vars less is room within = record { state = is.state; base = is.base
 pub within-more : (vars more : ℕ) (cs : List (List ℤ)) → vars ≤ more → AllByRecursion (IsWithin vars) cs → AllByRecursion (IsWithin more) cs
 within-more vars more cs order all = all_weaker (IsWithin vars) (IsWithin more) (λ c within. all_weaker (λ (l : ℤ). unsigned_abs l ≤ vars) (λ (l : ℤ). unsigned_abs l ≤ more) (λ l low. omega arith) c within) cs all
 
-pub base-widened : (old new : State) (vars : ℕ) → IsBase old vars → IsState new → new.levels.items ≡ old.levels.items → new.clauses ≡ old.clauses → new.chains ≡ old.chains → length old.trail.positions.items ≤ length new.trail.positions.items → IsBase new vars
-base-widened old new vars is kept levels clauses chains positions = record {
-  state = kept;
-  base = levels ∙ is.base;
-  room = (let r = is.room in omega arith);
-  within = subst (λ (cs : List (List ℤ)). AllByRecursion (IsWithin vars) (given cs new.chains)) (sym clauses) (subst (λ (ms : List (List ℕ)). AllByRecursion (IsWithin vars) (given old.clauses ms)) (sym chains) is.within);
+pub base-widened : (old new : State) (vars : ℕ) → IsBase old vars → IsWider old new → IsBase new vars
+base-widened old new vars is wider = record {
+  state = wider.state;
+  base = wider.levels ∙ is.base;
+  room = (let r = is.room in let l = wider.longer in omega arith);
+  within = subst (λ (cs : List (List ℤ)). AllByRecursion (IsWithin vars) (given cs new.chains)) (sym wider.clauses) (subst (λ (ms : List (List ℕ)). AllByRecursion (IsWithin vars) (given old.clauses ms)) (sym wider.chains) is.within);
 }
 
 pub base-clauses : (s : State) (vars : ℕ) → IsBase s vars → IsClauseList (list_of s vars)
-base-clauses s vars is = ((let r = is.room in let f = is.state.fits in omega arith), all_both IsClause (IsWithin vars) (given s.clauses s.chains) (given-all IsClause s.clauses s.chains is.state.trail.clauses) is.within)
+base-clauses s vars is = ((let r = is.room in let f = s.trail.fits in omega arith), all_both IsClause (IsWithin vars) (given s.clauses s.chains) (given-all IsClause s.clauses s.chains is.state.trail.clauses) is.within)
 
 pub base-count : (s : State) (vars : ℕ) → IsBase s vars → given_count s.chains ≡ length (given s.clauses s.chains)
 base-count s vars is = sym (length-given s.clauses s.chains is.state.chains.sized)

@@ -1,5 +1,5 @@
 -- Trails that grow and are taken back, and the values of literals.
-use Rattle.std.proofs.Common.{◌≡◌, ℕ, ◌+◌, ◌<◌, ◌≤◌, List, [], ◌∷◌, ◌++◌, ◌⊎◌, ◌↔◌, inl, inr, refl, sym, ap, ◌∙◌, subst, arith, ℤ, pos, neg_ℤ, unsigned_abs, length, length-append, take, get_or, Option, Some, None, MatchOption, Bool, true, false, IsTrue, is_some, unwrap_or, true≢false}
+use Rattle.std.proofs.Common.{◌≡◌, ℕ, ◌+◌, ◌^◌, ◌<◌, ◌≤◌, List, [], ◌∷◌, ◌++◌, ◌⊎◌, ◌↔◌, inl, inr, refl, sym, ap, ◌∙◌, subst, arith, ℤ, pos, neg_ℤ, unsigned_abs, length, length-append, take, get_or, Option, Some, None, MatchOption, Bool, true, false, IsTrue, is_some, unwrap_or, true≢false}
 use Rattle.std.specs.Bool.{MatchBool}
 use Rattle.std.proofs.lemmas.Bool.{cases_lt}
 use Rattle.std.proofs.lemmas.List.{get_or_append_left, get_or_push, get_or-take, length_push, length-take, get_or_read}
@@ -120,11 +120,21 @@ placed-back es ps n h i less =
     let same : literal_at (take n es) i ≡ literal_at es i = ap (λ (x : Entry). x.literal) (entry-back es n i (omega arith)) in
     subst (λ (l : ℤ). IsLiteral l × (unsigned_abs l < length ps) × (get_or ps (unsigned_abs l) 0 ≡ i)) (sym same) (h i (omega arith))
 
+-- there is a place for one more variable
+pub placed-more : (es : List Entry) (ps : List ℕ) → ArePlaced es ps → ArePlaced es (ps ++ 0 ∷ [])
+placed-more es ps is i less =
+    let (literal, within, at) = is i less in
+    (literal, omega (arith, length_push ps 0), get_or_append_left ps (0 ∷ []) 0 (unsigned_abs (literal_at es i)) within ∙ at)
+
 -- there are no more literals than places
 pub placed-most : (es : List Entry) (ps : List ℕ) → ArePlaced es ps → length es ≤ length ps
 placed-most es ps h = covers_below (length es) ps (λ i less. let (literal, within, at) = h i less in subst (λ (x : ℕ). IsAmong x ps) at (among_at ps (unsigned_abs (literal_at es i)) 0 within))
 
 -- ---- values
+-- what is false is a literal
+pub off-literal : (es : List Entry) (ps : List ℕ) (l : ℤ) → ArePlaced es ps → IsOn es (neg_ℤ l) → IsLiteral l
+off-literal es ps l placed (p, less, e) = subst (λ (n : ℕ). (0 < n) × (n < 2 ^ 63)) (ap unsigned_abs e ∙ unsigned_abs-neg_ℤ l) (placed p less).0
+
 -- a variable stands at one place
 pub same_place : (es : List Entry) (ps : List ℕ) (i j : ℕ) → ArePlaced es ps → i < length es → j < length es → unsigned_abs (literal_at es i) ≡ unsigned_abs (literal_at es j) → i ≡ j
 same_place es ps i j placed less less' e = sym (placed i less).2 ∙ ap (λ n. get_or ps n 0) e ∙ (placed j less').2

@@ -4,7 +4,7 @@ use Rattle.std.specs.Option.{option_copied}
 use Rattle.std.proofs.lemmas.Bool.{cases_lt}
 use Rattle.std.proofs.lemmas.Option.{same_Some, slice_get_within}
 use Rattle.mcs_base.specs.Listings.{IsAmong}
-use Rattle.mcs_base.proofs.Lists.{slice_get_below, slice_get_take}
+use Rattle.mcs_base.proofs.Lists.{slice_get_take}
 use Rattle.std.proofs.Math.IntN.{neg_ℤ-neg_ℤ}
 use Rattle.mcs_trace.specs.Clauses.{IsClause, LiteralBefore, place}
 use Rattle.mcs_trace.specs.Traces.{IsChainResolvent}
@@ -16,9 +16,11 @@ use Rattle.mcs_engine.specs.declared.trail.Entry.{Entry}
 use Rattle.mcs_engine.specs.declared.trail.Trail.{Trail}
 use Rattle.mcs_engine.specs.declared.watches.Watches.{Watches}
 use Rattle.mcs_engine.specs.Learning.{IsLatest, IsSingle}
-use Rattle.mcs_engine.specs.States.{AreStarts, IsFull, IsLastLevel, IsState, IsTurn}
+use Rattle.mcs_engine.specs.States.{AreStarts, IsFull, IsLastLevel, IsOfLastLevel, IsState, IsTurn}
 use Rattle.mcs_engine.specs.Trails.{AreCovered, AreLevelled, ArePlaced, IsFalse, IsOnBelow, literal_at}
-use Rattle.mcs_engine.specs.Watching.{KeepsLists, IsFreshPair, IsLong, IsPushed}
+use Rattle.mcs_engine.specs.Lists.{KeepsLists}
+use Rattle.mcs_engine.specs.Watching.{IsFreshPair, IsLong, IsPushed}
+use Rattle.mcs_engine.proofs.KnownLemmas.{chain-clause}
 use Rattle.mcs_engine.proofs.LatestLemmas.{covered-false}
 use Rattle.mcs_engine.proofs.TrailLemmas.{same_place}
 use Rattle.mcs_engine.proofs.LevelLemmas.{below-start}
@@ -61,8 +63,8 @@ single-latest es ps c start m placed (l, is, low, high) is' =
     ]
 
 -- the level is one that is there
-pub turn-level : (es : List Entry) (levels : List Reach) (m : Latest) (turn : Turn) (r : Reach) → AreLevelled es → AreStarts es levels → 0 < length levels → IsLastLevel levels r → m.others ≤ r.entries → IsTurn es m turn → turn.level < length levels
-turn-level es levels m turn r levelled starts some last low (none, others) = elim (cases_lt 0 m.others) [
+pub turn-level : (es : List Entry) (levels : List Reach) (m : Latest) (turn : Turn) (r : Reach) → AreLevelled es → AreStarts es levels → IsLastLevel levels r → m.others ≤ r.entries → IsTurn es m turn → turn.level < length levels
+turn-level es levels m turn r levelled starts last low (none, others) = let some = slice_get_within levels (length levels - 1) r last in elim (cases_lt 0 m.others) [
   | inl there ↦ let at = (others there).0 in let bound = below-start es levels (length levels - 1) (m.others - 1) r levelled starts last (omega arith) in omega arith
   | inr empty ↦ let at = (none (omega arith)).0 in omega arith
 ]
@@ -103,20 +105,22 @@ turn-fresh es ps m turn n k placed here before (none, others) low high early = e
 ]
 
 -- a clause is learnt, and the levels above its own are taken back
-pub state-learnt : (s : State) (t : Trail) (ls : Vec Reach Global) (cs : List (List ℤ)) (ms : List (List ℕ)) (w : Watches) (c : List ℤ) (ns : List ℕ) (m : Latest) (turn : Turn) (r : Reach) (v : ℕ) → IsState s → IsClause c → IsFalse s.trail.entries.items c → IsChainResolvent s.clauses ns c → ((q : Reach) → IsLastLevel s.levels.items q → IsSingle s.trail.entries.items q.entries c) → 0 < length s.levels.items
+pub state-learnt : (s : State) (t : Trail) (ls : Vec Reach Global) (cs : List (List ℤ)) (ms : List (List ℕ)) (w : Watches) (c : List ℤ) (ns : List ℕ) (m : Latest) (turn : Turn) (r : Reach) (v : ℕ) → IsState s → IsFalse s.trail.entries.items c → IsChainResolvent s.clauses ns c → IsOfLastLevel s c
     → IsLatest s.trail.entries.items c m → IsTurn s.trail.entries.items m turn → slice_get s.levels.items turn.level ≡ Some r
-    → IsFull s → cs ≡ s.clauses ++ c ∷ [] → ms ≡ s.chains ++ ns ∷ [] → KeepsLists s.watches w → IsPushed s.watches w turn.pair
+    → IsFull s → cs ≡ s.clauses ++ c ∷ [] → ms ≡ s.chains ++ ns ∷ [] → KeepsLists s.watches.lists w.lists → IsPushed s.watches w turn.pair
     → t.entries.items ≡ take r.entries s.trail.entries.items → t.positions.items ≡ s.trail.positions.items → ls.items ≡ take turn.level s.levels.items → v ≤ r.visited → v ≤ turn.place
     → IsState (record { clauses = cs; chains = ms; trail = t; watches = w; levels = ls; visited = v; settled = r.settled; kept = s.kept })
-state-learnt s t ls cs ms w c ns m turn r v is clause all_false right single some is-latest is-turn at full clauses chains kept pushed entries positions levels low low' =
+state-learnt s t ls cs ms w c ns m turn r v is all_false right single is-latest is-turn at full clauses chains kept pushed entries positions levels low low' =
     let es : List Entry = s.trail.entries.items in
     let ps : List ℕ = s.trail.positions.items in
-    let placed : ArePlaced es ps = is.trail.placed in
-    let (last, at_last) = slice_get_below s.levels.items (length s.levels.items - 1) (omega arith) in
-    let (few, late) = single-latest es ps c last.entries m placed (single last at_last) is-latest in
+    let placed : ArePlaced es ps = s.trail.placed in
+    let last : Reach = single.last in
+    let at_last = single.is in
+    let (few, late) = single-latest es ps c last.entries m placed single.single is-latest in
     let order : r.entries ≤ last.entries = not-after es s.levels.items turn.level r last is.starts at at_last in
     let (bounded, count) = is.bounds turn.level r at in
     let before : AreCovered ps c = covered-false es ps c placed all_false in
+    let clause : IsClause c = chain-clause s.clauses ns c is.trail.clauses right in
     state-pushed (record { clauses = s.clauses; chains = s.chains; trail = t; watches = s.watches; levels = ls; visited = r.visited; settled = r.settled; kept = s.kept }) cs ms w c ns turn.pair v
     (state-back s t ls turn.level r is at entries positions levels) full clauses chains kept pushed (turn-fits es ps c m turn placed clause is-latest is-turn) clause (subst (λ (xs : List ℕ). AreCovered xs c) (sym positions) before) (inr right) low
     (subst (λ (xs : List Entry). IsFreshPair xs v turn.pair) (sym entries) (turn-fresh es ps m turn v r.entries placed is-latest.here is-latest.before is-turn (omega arith) (omega arith) (λ there. let other = (is-turn.1 there).1 in omega arith)))
@@ -145,11 +149,10 @@ pub single-some : (es : List Entry) (start : ℕ) (c : List ℤ) → IsSingle es
 single-some es start c (l, is, low, high) empty = subst (λ (x : List ℤ). IsAmong (neg_ℤ (literal_at es l.place)) x) empty is.has
 
 -- the level to go back to is one that is there
-pub level-there : (s : State) (c : List ℤ) (m : Latest) (turn : Turn) → IsState s → ((q : Reach) → IsLastLevel s.levels.items q → IsSingle s.trail.entries.items q.entries c) → 0 < length s.levels.items → IsLatest s.trail.entries.items c m → IsTurn s.trail.entries.items m turn → turn.level < length s.levels.items
-level-there s c m turn is single some is-latest is-turn =
-    let (last, at) = slice_get_below s.levels.items (length s.levels.items - 1) (omega arith) in
-    let (few, late) = single-latest s.trail.entries.items s.trail.positions.items c last.entries m is.trail.placed (single last at) is-latest in
-    turn-level s.trail.entries.items s.levels.items m turn last is.levelled is.starts some at few is-turn
+pub level-there : (s : State) (c : List ℤ) (m : Latest) (turn : Turn) → IsState s → IsOfLastLevel s c → IsLatest s.trail.entries.items c m → IsTurn s.trail.entries.items m turn → turn.level < length s.levels.items
+level-there s c m turn is single is-latest is-turn =
+    let (few, late) = single-latest s.trail.entries.items s.trail.positions.items c single.last.entries m s.trail.placed single.single is-latest in
+    turn-level s.trail.entries.items s.levels.items m turn single.last is.levelled is.starts single.is few is-turn
 
 -- the last of some levels, as the code reads it
 pub last-found : (xs ys : List Reach) (o : Option (Bor Reach)) (r : Bor Reach) → ys ≡ xs → option_copied o ≡ slice_get ys (length ys - 1) → o ≡ Some r → IsLastLevel xs r.now

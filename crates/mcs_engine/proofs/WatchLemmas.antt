@@ -18,10 +18,10 @@ use Rattle.mcs_engine.specs.declared.state.Reach.{Reach}
 use Rattle.mcs_engine.specs.declared.trail.Entry.{Entry}
 use Rattle.mcs_engine.specs.declared.watches.Pair.{Pair}
 use Rattle.mcs_engine.specs.declared.watches.Watches.{Watches}
-use Rattle.mcs_engine.specs.Lists.{list_at}
+use Rattle.mcs_engine.specs.Lists.{ChangesAt, IsInList, KeepsLists, list_at}
 use Rattle.mcs_engine.specs.Pairs.{no_pair}
 use Rattle.mcs_engine.specs.Trails.{GrowsOnLevel, IsOn, IsOnBelow, IsClauseSatisfied, IsSatisfiedBelow, literal_at}
-use Rattle.mcs_engine.specs.Watching.{AreMoved, ArePair, AreSpared, AreVisited, AreWatched, IsInList, IsLong, IsOf, IsPaired, IsPairOf, IsReached}
+use Rattle.mcs_engine.specs.Watching.{AreMoved, ArePair, AreSpared, AreVisited, AreWatched, IsLong, IsOf, IsPaired, IsPairOf, IsReached}
 use Rattle.mcs_engine.proofs.GrowLemmas.{entry-grown, grows-longer, satisfied-grown}
 use Rattle.mcs_engine.proofs.TrailLemmas.{below-same}
 
@@ -40,25 +40,29 @@ module _ {A : Type 0} where
 
 -- ---- lists
 -- one more in the list of a place
-module _ (old new : Lists) (p index : ℕ) (more : list_at new p ≡ list_at old p ++ index ∷ []) (others : (q : ℕ) → q ≢ p → list_at new q ≡ list_at old q) where
+module _ (old new : Lists) (p index : ℕ) (more : ChangesAt (list_at old) (list_at new) p (list_at old p ++ index ∷ [])) where
   pub listed-kept : (l : ℤ) (i : ℕ) → IsInList old l i → IsInList new l i
   listed-kept l i listed = elim (cases_eq (place l) p) [
-    | inl here ↦ subst (IsAmong i) (sym (ap (list_at new) here ∙ more)) ((among_push i (list_at old p) index).1 (inl (subst (λ (q : ℕ). IsAmong i (list_at old q)) here listed)))
-    | inr differ ↦ subst (IsAmong i) (sym (others (place l) differ)) listed
+    | inl here ↦ subst (IsAmong i) (sym (ap (list_at new) here ∙ more.here)) ((among_push i (list_at old p) index).1 (inl (subst (λ (q : ℕ). IsAmong i (list_at old q)) here listed)))
+    | inr differ ↦ subst (IsAmong i) (sym (more.others (place l) differ)) listed
   ]
 
   pub listed-more : (l : ℤ) → place l ≡ p → IsInList new l index
-  listed-more l here = subst (IsAmong index) (sym (ap (list_at new) here ∙ more)) ((among_push index (list_at old p) index).1 (inr refl))
+  listed-more l here = subst (IsAmong index) (sym (ap (list_at new) here ∙ more.here)) ((among_push index (list_at old p) index).1 (inr refl))
 
 -- the same lists
-pub listed-same : (old new : Lists) → ((p : ℕ) → list_at new p ≡ list_at old p) → (l : ℤ) (i : ℕ) → IsInList old l i → IsInList new l i
+listed-same : (old new : Lists) → ((p : ℕ) → list_at new p ≡ list_at old p) → (l : ℤ) (i : ℕ) → IsInList old l i → IsInList new l i
 listed-same old new same l i = subst (IsAmong i) (sym (same (place l)))
 
 -- one more, or the same
-pub listed-after : {E : Type 0} (r : Result (Unit {0}) E) (old new : Lists) (p index : ℕ) → OnOk r (list_at new p ≡ list_at old p ++ index ∷ []) → OnErr r ((q : ℕ) → list_at new q ≡ list_at old q) → ((q : ℕ) → q ≢ p → list_at new q ≡ list_at old q)
-    → (l : ℤ) (i : ℕ) → IsInList old l i → IsInList new l i
-listed-after (Ok done) old new p index more same others = listed-kept old new p index more others
-listed-after (Err error) old new p index more same others = listed-same old new same
+pub listed-after : {E : Type 0} (r : Result (Unit {0}) E) (old new : Lists) (p index : ℕ) → OnOk r (ChangesAt (list_at old) (list_at new) p (list_at old p ++ index ∷ [])) → OnErr r ((q : ℕ) → list_at new q ≡ list_at old q)
+    → KeepsLists old new
+listed-after (Ok done) old new p index more same = record { listed = listed-kept old new p index more }
+listed-after (Err error) old new p index more same = record { listed = listed-same old new same }
+
+pub others-after : {E : Type 0} (r : Result (Unit {0}) E) (old new : Lists) (p : ℕ) (xs : List ℕ) → OnOk r (ChangesAt (list_at old) (list_at new) p xs) → OnErr r ((q : ℕ) → list_at new q ≡ list_at old q) → (q : ℕ) → q ≢ p → list_at new q ≡ list_at old q
+others-after (Ok done) old new p xs more same q differ = more.others q differ
+others-after (Err error) old new p xs more same q differ = same q
 
 -- ---- pairs
 pub no-pair : (l : ℤ) → IsLiteral l → IsOf l no_pair → ⊥
@@ -113,11 +117,11 @@ watched_at known w i watched less = slice_get_below known i (let sized = watched
 
 -- ---- lists that grow
 pub watched-list : (known : List (List ℤ)) (w w' : Watches) → AreWatched known w → w'.pairs ≡ w.pairs → w'.short.items ≡ w.short.items
-    → ((l : ℤ) (i : ℕ) → IsInList w.lists l i → IsInList w'.lists l i) → AreWatched known w'
+    → KeepsLists w.lists w'.lists → AreWatched known w'
 watched-list known w w' watched pairs short kept = record {
   sized = (let sized = watched.sized in omega (arith, ap length pairs));
   paired = λ i c p is at. watched.paired i c p is (sym (ap (λ (ps : List Pair). slice_get ps i) pairs) ∙ at);
-  listed = λ i p l at literal of. kept l i (watched.listed i p l (sym (ap (λ (ps : List Pair). slice_get ps i) pairs) ∙ at) literal of);
+  listed = λ i p l at literal of. kept.listed l i (watched.listed i p l (sym (ap (λ (ps : List Pair). slice_get ps i) pairs) ∙ at) literal of);
   short = λ i c less is few. subst (IsAmong i) (sym short) (watched.short i c (omega (arith, ap length pairs)) is few);
 }
 

@@ -1,4 +1,5 @@
 pub mod Trails
+pub mod Extending
 pub mod Learning
 pub mod Pairs
 pub mod Lists

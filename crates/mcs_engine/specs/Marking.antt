@@ -1,9 +1,10 @@
 -- A clause that is false, as marks at the places that made its literals so.
-use Rattle.std.specs.Prelude.{◌≡◌, ◌≢◌, ℕ, ◌<◌, ◌≤◌, ◌↔◌, List, Bool, false, ℤ, neg_ℤ, IsTrue, get_or, length, unsigned_abs}
+use Rattle.std.specs.Prelude.{◌≡◌, ◌≢◌, ℕ, ◌<◌, ◌≤◌, ◌⊎◌, ◌↔◌, List, Bool, false, ℤ, neg_ℤ, IsTrue, get_or, length, unsigned_abs}
 use Rattle.mcs_base.specs.Listings.{IsAmong}
 use Rattle.mcs_trace.specs.Clauses.{IsClause}
 use Rattle.mcs_trace.specs.Traces.{IsChainResolvent}
 use Rattle.mcs_engine.specs.declared.trail.Entry.{Entry}
+use Rattle.mcs_engine.specs.Learning.{GoesOnByReasons}
 use Rattle.mcs_engine.specs.Trails.{IsFalse, literal_at}
 
 abbrev pub IsVariableMarked : List Bool → ℕ → Type 0
@@ -12,6 +13,11 @@ IsVariableMarked marks p = IsTrue (get_or marks p false)
 -- the variable of the literal at the place is one of the clause
 abbrev pub IsMetAt : List Entry → List ℤ → ℕ → Type 0
 IsMetAt entries c p = (k : ℤ) × IsAmong k c × (unsigned_abs (literal_at entries p) ≡ unsigned_abs k)
+
+-- the places of the entries that are so are marked too, and no others
+pub record MarksAlso (entries : List Entry) (P : ℕ → Type 0) (old new : List Bool) : Type 0 where
+  pub sized : length new ≡ length old
+  pub exactly : (p : ℕ) → p < length entries → IsVariableMarked new p ↔ (IsVariableMarked old p ⊎ P p)
 
 -- the clause has the negation of the literal at a place exactly where that is marked
 pub record IsMarking (entries : List Entry) (marks : List Bool) (c : List ℤ) : Type 0 where
@@ -25,6 +31,11 @@ pub record IsMarkedChain (known : List (List ℤ)) (entries : List Entry) (chain
   pub clause : List ℤ
   pub right : IsChainResolvent known chain clause
   pub marking : IsMarking entries marks clause
+
+-- the chain goes on by reasons, and gives the clause of the marks
+pub record IsResolvedOn (known : List (List ℤ)) (entries : List Entry) (old new : List ℕ) (marks : List Bool) : Type 0 where
+  pub marked : IsMarkedChain known entries new marks
+  pub reasons : GoesOnByReasons known entries old new
 
 -- a place from the one up to below the other is marked
 abbrev pub IsMarkedWithin : List Bool → ℕ → ℕ → Type 0

@@ -1,13 +1,14 @@
 -- What a solver keeps.
-use Rattle.std.specs.Prelude.{◌≡◌, ℕ, ◌+◌, ◌-◌, ◌^◌, ◌<◌, ◌≤◌, ◌⊎◌, List, [], ◌∷◌, ◌++◌, ℤ, neg_ℤ, length, map, take, Some, None, slice_get}
+use Rattle.std.specs.Prelude.{◌≡◌, ℕ, ◌+◌, ◌-◌, ◌<◌, ◌≤◌, ◌⊎◌, List, [], ◌∷◌, ◌++◌, ℤ, neg_ℤ, length, map, take, Some, None, slice_get}
 use Rattle.mcs_trace.specs.Traces.{IsChainResolvent}
 use Rattle.mcs_engine.specs.declared.latest.Latest.{Latest}
 use Rattle.mcs_engine.specs.declared.state.Reach.{Reach}
 use Rattle.mcs_engine.specs.declared.state.State.{State}
 use Rattle.mcs_engine.specs.declared.state.Turn.{Turn}
 use Rattle.mcs_engine.specs.declared.trail.Entry.{Entry}
-use Rattle.mcs_engine.specs.Learning.{IsLatest}
-use Rattle.mcs_engine.specs.Trails.{AreLevelled, IsTrail, decisions, level_at, literal_at, reason_at}
+use Rattle.mcs_engine.specs.Learning.{IsLatest, IsSingle}
+use Rattle.mcs_engine.specs.Extending.{IsTrail}
+use Rattle.mcs_engine.specs.Trails.{AreLevelled, decisions, level_at, literal_at, reason_at}
 use Rattle.mcs_engine.specs.Watching.{AreWatched, AreVisitsKept, IsReached}
 
 -- the levels above 0 begin at the decisions, in their order
@@ -29,8 +30,6 @@ abbrev pub reach_of : State → Reach
 reach_of s = record { entries = length s.trail.entries.items; visited = s.visited; settled = s.settled }
 
 pub record IsState (s : State) : Type 0 where
-  pub some : 0 < length s.trail.positions.items
-  pub fits : length s.trail.positions.items ≤ 2 ^ 63
   pub chains : AreChains s.clauses s.chains
   pub trail : IsTrail s.clauses s.trail
   pub levelled : AreLevelled s.trail.entries.items
@@ -48,16 +47,56 @@ pub record IsState (s : State) : Type 0 where
 abbrev pub IsFull : State → Type 0
 IsFull s = length s.watches.pairs ≡ length s.clauses
 
+pub record IsReady (s : State) : Type 0 where
+  pub state : IsState s
+  pub full : IsFull s
+
+-- nothing but so many variables
+pub record IsBlank (vars : ℕ) (s : State) : Type 0 where
+  pub state : IsState s
+  pub sized : length s.trail.positions.items ≡ vars + 1
+  pub clauses : s.clauses ≡ []
+  pub chains : s.chains ≡ []
+  pub levels : s.levels.items ≡ []
+  pub entries : s.trail.entries.items ≡ []
+
 -- ---- what changes
 -- the variables stay
 abbrev pub SameRoom : State → State → Type 0
 SameRoom old new = length new.trail.positions.items ≡ length old.trail.positions.items
 
--- the clauses and what they watch stay
-pub record SameClauses (old new : State) : Type 0 where
+-- the clauses stay
+pub record KeepsClauses (old new : State) : Type 0 where
+  pub state : IsState new
   pub clauses : new.clauses ≡ old.clauses
   pub chains : new.chains ≡ old.chains
   pub positions : SameRoom old new
+  pub full : IsFull old → IsFull new
+
+-- the levels do too
+pub record KeepsLevels (old new : State) : Type 0 where
+  pub same : KeepsClauses old new
+  pub levels : new.levels.items ≡ old.levels.items
+
+-- and the literals made true
+pub record KeepsLiterals (old new : State) : Type 0 where
+  pub same : KeepsLevels old new
+  pub entries : new.trail.entries.items ≡ old.trail.entries.items
+
+-- the literals made true and the levels stay
+pub record KeepsTrail (old new : State) : Type 0 where
+  pub state : IsState new
+  pub positions : SameRoom old new
+  pub entries : new.trail.entries.items ≡ old.trail.entries.items
+  pub levels : new.levels.items ≡ old.levels.items
+
+-- all stays, but there may be more variables
+pub record IsWider (old new : State) : Type 0 where
+  pub state : IsState new
+  pub clauses : new.clauses ≡ old.clauses
+  pub chains : new.chains ≡ old.chains
+  pub levels : new.levels.items ≡ old.levels.items
+  pub longer : length old.trail.positions.items ≤ length new.trail.positions.items
 
 -- a level is opened with the literal
 pub record IsDecided (old new : State) (literal : ℤ) : Type 0 where
@@ -68,9 +107,11 @@ pub record IsDecided (old new : State) (literal : ℤ) : Type 0 where
 pub record IsBack (old new : State) (level : ℕ) : Type 0 where
   pub entries : (r : Reach) → slice_get old.levels.items level ≡ Some r → new.trail.entries.items ≡ take r.entries old.trail.entries.items
   pub levels : new.levels.items ≡ take level old.levels.items
+  pub stays : length old.levels.items ≤ level → new.trail.entries.items ≡ old.trail.entries.items
 
 -- a clause is learnt: the levels above that of its latest literal but one are taken back, or all above 0 where it has but one
 pub record IsLearntBack (old new : State) (c : List ℤ) (ns : List ℕ) : Type 0 where
+  pub positions : SameRoom old new
   pub clauses : new.clauses ≡ old.clauses ++ c ∷ []
   pub chains : new.chains ≡ old.chains ++ ns ∷ []
   pub latest : Latest
@@ -83,6 +124,7 @@ pub record IsLearntBack (old new : State) (c : List ℤ) (ns : List ℕ) : Type 
 
 -- the clauses, the literals made true and the levels stay
 pub record IsUnchanged (old new : State) : Type 0 where
+  pub positions : SameRoom old new
   pub clauses : new.clauses ≡ old.clauses
   pub chains : new.chains ≡ old.chains
   pub entries : new.trail.entries.items ≡ old.trail.entries.items
@@ -90,6 +132,12 @@ pub record IsUnchanged (old new : State) : Type 0 where
 
 abbrev pub IsLastLevel : List Reach → Reach → Type 0
 IsLastLevel levels r = slice_get levels (length levels - 1) ≡ Some r
+
+-- one literal alone of the clause became false on the last level
+pub record IsOfLastLevel (s : State) (c : List ℤ) : Type 0 where
+  pub last : Reach
+  pub is : IsLastLevel s.levels.items last
+  pub single : IsSingle s.trail.entries.items last.entries c
 
 -- back to the level of the latest of the others, or to level 0
 abbrev pub IsTurn : List Entry → Latest → Turn → Type 0

@@ -28,6 +28,26 @@ pub record IsLater (old new : State) : Type 0 where
   pub chains : new.chains ≡ old.chains ++ map (λ (i : Inference). i.chain) more
   pub learnt : AllByRecursion (λ (i : Inference). i.chain ≢ []) more
 
+-- the clauses and their chains stay
+pub record SameStore (old new : State) : Type 0 where
+  pub clauses : new.clauses ≡ old.clauses
+  pub chains : new.chains ≡ old.chains
+
+-- a clause is added with its chain
+pub record IsAdded (old new : State) (c : List ℤ) (ns : List ℕ) : Type 0 where
+  pub clauses : new.clauses ≡ old.clauses ++ c ∷ []
+  pub chains : new.chains ≡ old.chains ++ ns ∷ []
+
+-- a state where nothing is decided
+pub record IsGround (s : State) : Type 0 where
+  pub state : IsState s
+  pub base : s.levels.items ≡ []
+
+-- such a state, that the one has led to
+pub record IsLaterGround (old new : State) : Type 0 where
+  pub later : IsLater old new
+  pub base : new.levels.items ≡ []
+
 -- clauses over the variables 1 to `vars` as they are given, where nothing is decided
 pub record IsBase (s : State) (vars : ℕ) : Type 0 where
   pub state : IsState s

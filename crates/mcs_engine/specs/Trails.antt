@@ -7,7 +7,6 @@ use Rattle.mcs_trace.specs.Traces.{numbered_clause}
 use Rattle.mcs_engine.specs.declared.examine.Finding.{Finding}
 use Rattle.mcs_engine.specs.declared.examine.Finding.TheVariants.{Open, Forced, Conflict}
 use Rattle.mcs_engine.specs.declared.trail.Entry.{Entry}
-use Rattle.mcs_engine.specs.declared.trail.Trail.{Trail}
 
 -- ---- literals that are true, in the order in which they were made so
 abbrev pub literal_at : List Entry → ℕ → ℤ
@@ -28,12 +27,23 @@ ArePlaced entries positions = (i : ℕ) → i < length entries
 abbrev pub AreCovered : List ℕ → List ℤ → Type 0
 AreCovered positions c = AllByRecursion (λ l. unsigned_abs l < length positions) c
 
+-- a literal, and a clause, of such variables
+abbrev pub IsLiteralOver : List ℕ → ℤ → Type 0
+IsLiteralOver positions l = IsLiteral l × (unsigned_abs l < length positions)
+
+abbrev pub IsClauseOver : List ℕ → List ℤ → Type 0
+IsClauseOver positions c = IsClause c × AreCovered positions c
+
 -- the variable stands at p, or nowhere
 abbrev pub StandsAt : List Entry → ℕ → ℕ → Type 0
 StandsAt entries variable p = (p < length entries) × (unsigned_abs (literal_at entries p) ≡ variable)
 
 abbrev pub StandsNowhere : List Entry → ℕ → Type 0
 StandsNowhere entries variable = (i : ℕ) → ¬ StandsAt entries variable i
+
+-- a literal of such a variable that has no value
+abbrev pub IsFree : List Entry → List ℕ → ℤ → Type 0
+IsFree entries positions l = IsLiteral l × (unsigned_abs l < length positions) × StandsNowhere entries (unsigned_abs l)
 
 -- each variable from the first number up to the second stands somewhere
 abbrev pub AreAssigned : List Entry → ℕ → ℕ → Type 0
@@ -100,13 +110,6 @@ AreExplained known entries = (i : ℕ) → i < length entries → (reason_at ent
 -- the clause of the index is false
 abbrev pub IsFalseAt : List (List ℤ) → List Entry → ℕ → Type 0
 IsFalseAt known entries i = (c : List ℤ) × (slice_get known i ≡ Some c) × IsFalse entries c
-
--- the clauses are clauses over the variables of a trail, whose literals are explained by them
-pub record IsTrail (known : List (List ℤ)) (t : Trail) : Type 0 where
-  pub clauses : AllByRecursion IsClause known
-  pub covered : AllByRecursion (AreCovered t.positions.items) known
-  pub placed : ArePlaced t.entries.items t.positions.items
-  pub explained : AreExplained known t.entries.items
 
 -- literals that follow were made true on the level
 abbrev pub GrowsOnLevel : ℕ → List Entry → List Entry → Type 0

@@ -1,8 +1,7 @@
 -- The two literals that a clause watches, and how far a solver has come with them (Moskewicz et al. 2001).
 use Rattle.std.specs.Prelude.{◌≡◌, ◌≢◌, ℕ, ◌<◌, ◌≤◌, ◌⊎◌, List, [], ◌∷◌, ◌++◌, ℤ, neg_ℤ, length, Option, Some, None, MatchOption, slice_get}
 use Rattle.mcs_base.specs.Listings.{IsAmong}
-use Rattle.mcs_trace.specs.Clauses.{IsLiteral, place}
-use Rattle.mcs_engine.specs.declared.lists.Lists.{Lists}
+use Rattle.mcs_trace.specs.Clauses.{IsLiteral}
 use Rattle.mcs_engine.specs.declared.propagate.Seen.{Seen}
 use Rattle.mcs_engine.specs.declared.propagate.Seen.TheVariants as seen
 use Rattle.mcs_engine.specs.declared.state.Kept.{Kept}
@@ -10,7 +9,7 @@ use Rattle.mcs_engine.specs.declared.state.Reach.{Reach}
 use Rattle.mcs_engine.specs.declared.trail.Entry.{Entry}
 use Rattle.mcs_engine.specs.declared.watches.Pair.{Pair}
 use Rattle.mcs_engine.specs.declared.watches.Watches.{Watches}
-use Rattle.mcs_engine.specs.Lists.{list_at}
+use Rattle.mcs_engine.specs.Lists.{IsInList}
 use Rattle.mcs_engine.specs.Pairs.{no_pair}
 use Rattle.mcs_engine.specs.Trails.{IsFalseAt, IsOn, IsOnBelow, IsClauseSatisfied, IsSatisfiedBelow}
 
@@ -35,10 +34,6 @@ pub record ArePair (c : List ℤ) (p : Pair) : Type 0 where
 -- no literals, or two of the clause
 abbrev pub IsPaired : List ℤ → Pair → Type 0
 IsPaired c p = (p ≡ no_pair) ⊎ ArePair c p
-
--- the index is in the list of the literal
-abbrev pub IsInList : Lists → ℤ → ℕ → Type 0
-IsInList lists l i = IsAmong i (list_at lists (place l))
 
 -- each of the first clauses has its pair, and is in the lists of both of its literals; the short ones of them are among those of a list of their own
 pub record AreWatched (known : List (List ℤ)) (w : Watches) : Type 0 where
@@ -75,10 +70,7 @@ AreVisited known w entries l = (i : ℕ) (c : List ℤ) (p : Pair) → slice_get
 abbrev pub AreSettled : List (List ℤ) → List ℕ → List Entry → ℕ → ℕ → Type 0
 AreSettled known indices entries from to = (j i : ℕ) (c : List ℤ) → from ≤ j → j < to → slice_get indices j ≡ Some i → slice_get known i ≡ Some c → ¬ IsLong c → IsClauseSatisfied entries c
 
--- ---- what a change of the lists keeps
-pub record KeepsLists (old new : Watches) : Type 0 where
-  pub listed : (l : ℤ) (i : ℕ) → IsInList old.lists l i → IsInList new.lists l i
-
+-- ---- what changes
 -- no literal that a clause of the indices watches was false among the first n
 abbrev pub AreUnwatched : List Entry → List Pair → ℕ → ℕ → ℕ → Type 0
 AreUnwatched entries pairs from to n = (i : ℕ) (p : Pair) (l : ℤ) → from ≤ i → i < to → slice_get pairs i ≡ Some p → IsLiteral l → IsOf l p → ¬ IsOnBelow entries n (neg_ℤ l)
@@ -91,11 +83,25 @@ AreMoved old new entries = (i : ℕ) (p : Pair) (l : ℤ) → slice_get new i �
 abbrev pub AreSpared : List Pair → List Pair → Type 0
 AreSpared old new = (i : ℕ) → slice_get new i ≡ Some no_pair → slice_get old i ≡ Some no_pair
 
+-- each clause that watched something still does, and what was reached by these literals is reached still
+pub record KeepsWatches (known : List (List ℤ)) (before after : Watches) (entries : List Entry) : Type 0 where
+  pub sized : length after.pairs ≡ length before.pairs
+  pub spared : AreSpared before.pairs after.pairs
+  pub watched : AreWatched known after
+  pub short : after.short.items ≡ before.short.items
+  pub moved : AreMoved before.pairs after.pairs entries
+  pub reached : (r : Reach) → r.visited ≤ length entries → IsReached known before entries r → IsReached known after entries r
+
 -- the next clause watches the pair; without one it is short
 abbrev pub IsPushed : Watches → Watches → Option Pair → Type 0
 IsPushed old new (Some p) = (new.pairs ≡ old.pairs ++ p ∷ []) × (new.short.items ≡ old.short.items)
     × IsInList new.lists p.first (length old.pairs) × IsInList new.lists p.second (length old.pairs)
 IsPushed old new None = (new.pairs ≡ old.pairs ++ no_pair ∷ []) × (new.short.items ≡ old.short.items ++ length old.pairs ∷ [])
+
+-- the clauses watch what they watched
+pub record SameWatched (old new : Watches) : Type 0 where
+  pub pairs : new.pairs ≡ old.pairs
+  pub short : new.short.items ≡ old.short.items
 
 -- no literal of the pair was false among the first n
 abbrev pub IsFreshPair : List Entry → ℕ → Option Pair → Type 0

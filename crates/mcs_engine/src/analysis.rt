@@ -2,10 +2,12 @@
 
 ghost use Rattle.std.specs.Prelude.{◌≡◌, [], ◌∷◌, ◌+◌, ◌≤◌, ◌⊎◌, ℤ, List, length, slice_get, Some};
 ghost use Rattle.std.specs.Prelude.{IfOk, OnOk};
-ghost use Rattle.mcs_engine.specs.Trails.{IsFalseAt, IsTrail};
+ghost use Rattle.mcs_engine.specs.Extending.{IsTrail};
+ghost use Rattle.mcs_engine.specs.Trails.{IsFalseAt};
 ghost use Rattle.mcs_engine.specs.Learning.{AreImplied, GoesOnByReasons, IsLate, IsLearnt};
 ghost use Rattle.mcs_engine.specs.Learning.{IsSingle};
-ghost use Rattle.mcs_engine.specs.Marking.{IsMarkedChain, IsMarkedWithin, IsSingleMark};
+ghost use Rattle.mcs_engine.specs.Marking.{IsMarkedChain, IsMarkedWithin, IsResolvedOn};
+ghost use Rattle.mcs_engine.specs.Marking.{IsSingleMark};
 
 use crate::marks::{clause_of, is_any_marked, mark_all, resolve_at};
 use crate::shorten::shorten;
@@ -30,12 +32,10 @@ fn resolve_back(
     requires late { (length trail.now.entries.items ≤ start)
         ⊎ IsMarkedWithin marks.old.items start (length trail.now.entries.items) }
     requires implied { AreImplied trail.now.entries.items start }
-    ensures marked { OnOk result (IsMarkedChain clauses.now trail.now.entries.items chain.new.items
-        marks.new.items) }
+    ensures resolved { OnOk result (IsResolvedOn clauses.now trail.now.entries.items
+        chain.old.items chain.new.items marks.new.items) }
     ensures single { OnOk result (start + 1 ≤ length trail.now.entries.items
         → IsSingleMark start marks.new.items) }
-    ensures reasons { OnOk result (GoesOnByReasons clauses.now trail.now.entries.items
-        chain.old.items chain.new.items) }
 {
     let mut bound = trail.entries.len();
     while bound > start {

@@ -1,7 +1,6 @@
 //! The state of a clause under the literals that are true.
 
-ghost use Rattle.mcs_trace.specs.Clauses.{IsClause};
-ghost use Rattle.mcs_engine.specs.Trails.{ArePlaced, AreCovered, IsClauseFinding};
+ghost use Rattle.mcs_engine.specs.Trails.{IsClauseFinding, IsClauseOver};
 
 use crate::trail::Trail;
 
@@ -15,9 +14,7 @@ pub(crate) enum Finding {
 }
 
 pub(crate) fn examine(trail: &Trail, literals: &[i64]) -> Finding
-    requires placed { ArePlaced trail.now.entries.items trail.now.positions.items }
-    requires clause { IsClause literals.now }
-    requires covered { AreCovered trail.now.positions.items literals.now }
+    requires { IsClauseOver trail.now.positions.items literals.now }
     ensures { IsClauseFinding trail.now.entries.items literals.now result }
 {
     let mut free = None;

@@ -1,8 +1,7 @@
 //! The latest of some false literals.
 
 ghost use Rattle.std.specs.Prelude.{◌≡◌, [], ◌<◌, ◌+◌, ◌^◌, IfSome, MatchOption};
-ghost use Rattle.mcs_trace.specs.Clauses.{IsClause};
-ghost use Rattle.mcs_engine.specs.Trails.{ArePlaced, IsFalse};
+ghost use Rattle.mcs_engine.specs.Trails.{IsFalse};
 ghost use Rattle.mcs_engine.specs.Learning.{IsLatestOf, IsLatest};
 
 use crate::trail::Trail;
@@ -44,9 +43,7 @@ fn joined(found: Option<Latest>, place: usize) -> Latest
 /// The latest of the places at which the literals became false, or `None` exactly if there are no
 /// literals. All of them have to be false.
 pub fn latest_of(trail: &Trail, literals: &[i64]) -> Option<Latest>
-    requires placed { ArePlaced trail.now.entries.items trail.now.positions.items }
-    requires clause { IsClause literals.now }
-    requires all_false { IsFalse trail.now.entries.items literals.now }
+    requires { IsFalse trail.now.entries.items literals.now }
     ensures { MatchOption result (literals.now ≡ [])
         (IsLatest trail.now.entries.items literals.now) }
 {

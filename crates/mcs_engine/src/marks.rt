@@ -1,14 +1,15 @@
 //! A false clause, as marks at the places of the trail at which its literals became false.
 
-ghost use Rattle.std.specs.Prelude.{◌≡◌, ◌≢◌, ◌≤◌, ◌<◌, ◌⊎◌, ◌↔◌, ℕ, length, unsigned_abs, IfOk};
+ghost use Rattle.std.specs.Prelude.{◌≡◌, ◌≢◌, ◌≤◌, ◌<◌, length, unsigned_abs, IfOk};
 ghost use Rattle.std.specs.Prelude.{OnOk};
 ghost use Rattle.std.specs.Bool.{MatchBool};
 ghost use Rattle.mcs_base.specs.Listings.{IsListing};
-ghost use Rattle.mcs_trace.specs.Clauses.{IsClause, LiteralBefore};
-ghost use Rattle.mcs_engine.specs.Trails.{AreCovered, ArePlaced, IsTrail, literal_at, reason_at};
-ghost use Rattle.mcs_engine.specs.Learning.{GoesOnByReasons};
+ghost use Rattle.mcs_trace.specs.Clauses.{LiteralBefore};
+ghost use Rattle.mcs_engine.specs.Extending.{IsTrail};
+ghost use Rattle.mcs_engine.specs.Trails.{IsClauseOver, literal_at, reason_at};
 ghost use Rattle.mcs_engine.specs.Marking.{AreUnmarked, IsVariableMarked, IsMarkedChain};
-ghost use Rattle.mcs_engine.specs.Marking.{IsMarkedWithin, IsMetAt, IsOfMarks, IsTakenOff};
+ghost use Rattle.mcs_engine.specs.Marking.{IsMarkedWithin, IsMetAt, IsOfMarks, IsResolvedOn};
+ghost use Rattle.mcs_engine.specs.Marking.{IsTakenOff, MarksAlso};
 
 use crate::trail::Trail;
 use mcs_base::{Memory, Rows};
@@ -17,13 +18,10 @@ use std::alloc::Global;
 
 /// Marks the place of the literal's variable on the trail, if it has one.
 fn mark_one(trail: &Trail, literal: i64, marks: &mut Vec<bool>)
-    requires placed { ArePlaced trail.now.entries.items trail.now.positions.items }
     requires within { unsigned_abs literal < length trail.now.positions.items }
     requires sized { length marks.old.items ≡ length trail.now.entries.items }
-    ensures sized { length marks.new.items ≡ length marks.old.items }
-    ensures exactly { (p : ℕ) → p < length trail.now.entries.items
-        → IsVariableMarked marks.new.items p ↔ (IsVariableMarked marks.old.items p
-        ⊎ (unsigned_abs (literal_at trail.now.entries.items p) ≡ unsigned_abs literal)) }
+    ensures { MarksAlso trail.now.entries.items (λ p. unsigned_abs (literal_at
+        trail.now.entries.items p) ≡ unsigned_abs literal) marks.old.items marks.new.items }
 {
     let Some(place) = trail.position(literal) else {
         return;
@@ -33,14 +31,10 @@ fn mark_one(trail: &Trail, literal: i64, marks: &mut Vec<bool>)
 
 /// Marks the places of the variables of the clause.
 pub(crate) fn mark_all(trail: &Trail, literals: &[i64], marks: &mut Vec<bool>)
-    requires placed { ArePlaced trail.now.entries.items trail.now.positions.items }
-    requires clause { IsClause literals.now }
-    requires covered { AreCovered trail.now.positions.items literals.now }
+    requires clause { IsClauseOver trail.now.positions.items literals.now }
     requires sized { length marks.old.items ≡ length trail.now.entries.items }
-    ensures sized { length marks.new.items ≡ length marks.old.items }
-    ensures exactly { (p : ℕ) → p < length trail.now.entries.items
-        → IsVariableMarked marks.new.items p ↔ (IsVariableMarked marks.old.items p
-        ⊎ IsMetAt trail.now.entries.items literals.now p) }
+    ensures { MarksAlso trail.now.entries.items (IsMetAt trail.now.entries.items literals.now)
+        marks.old.items marks.new.items }
 {
     for literal in literals {
         mark_one(trail, *literal, marks);
@@ -49,9 +43,7 @@ pub(crate) fn mark_all(trail: &Trail, literals: &[i64], marks: &mut Vec<bool>)
 
 /// Whether the places of the variables of the clause are marked.
 pub(crate) fn are_marked(trail: &Trail, literals: &[i64], marks: &[bool]) -> bool
-    requires placed { ArePlaced trail.now.entries.items trail.now.positions.items }
-    requires clause { IsClause literals.now }
-    requires covered { AreCovered trail.now.positions.items literals.now }
+    requires clause { IsClauseOver trail.now.positions.items literals.now }
     requires sized { length marks.now ≡ length trail.now.entries.items }
 {
     for literal in literals {
@@ -93,13 +85,10 @@ pub(crate) fn resolve_at(
     requires marked { IsMarkedChain clauses.now trail.now.entries.items chain.old.items
         marks.old.items }
     requires here { IsVariableMarked marks.old.items place }
-    requires within { place < length trail.now.entries.items }
     requires implied { reason_at trail.now.entries.items place ≢ 0 }
-    ensures marked { OnOk result (IsMarkedChain clauses.now trail.now.entries.items chain.new.items
-        marks.new.items) }
+    ensures resolved { OnOk result (IsResolvedOn clauses.now trail.now.entries.items
+        chain.old.items chain.new.items marks.new.items) }
     ensures off { OnOk result (IsTakenOff marks.old.items marks.new.items place) }
-    ensures reasons { OnOk result (GoesOnByReasons clauses.now trail.now.entries.items
-        chain.old.items chain.new.items) }
 {
     let cause = trail.entries[place].reason;
     chain.push(cause)?;
@@ -110,8 +99,7 @@ pub(crate) fn resolve_at(
 
 /// The marked clause.
 pub(crate) fn clause_of(alloc: Global, trail: &Trail, marks: &[bool]) -> Result<Clause, Memory>
-    requires placed { ArePlaced trail.now.entries.items trail.now.positions.items }
-    requires sized { length marks.now ≡ length trail.now.entries.items }
+    requires { length marks.now ≡ length trail.now.entries.items }
     ensures { IfOk result (IsListing (IsOfMarks trail.now.entries.items marks.now
         (length marks.now)) LiteralBefore) }
 {

@@ -4,13 +4,12 @@ ghost use Rattle.std.specs.Prelude.{◌≡◌, ◌≢◌, ℕ, ℤ, ◌≤◌, �
 ghost use Rattle.std.specs.Prelude.{MatchOption, IfOk};
 ghost use Rattle.std.specs.Bool.{MatchBool};
 ghost use Rattle.mcs_base.specs.Listings.{IsAmong};
-ghost use Rattle.mcs_trace.specs.Clauses.{IsClause, IsLiteral, place};
-ghost use Rattle.mcs_engine.specs.declared.state.Reach.{Reach};
+ghost use Rattle.mcs_trace.specs.Clauses.{place};
+ghost use Rattle.mcs_engine.specs.Extending.{Extends, IsTrail};
 ghost use Rattle.mcs_engine.specs.Lists.{list_at};
-ghost use Rattle.mcs_engine.specs.Trails.{AreCovered, ArePlaced, GrowsOnLevel, IsFalseAt, IsOn};
-ghost use Rattle.mcs_engine.specs.Trails.{IsClauseSatisfied, IsTrail};
-ghost use Rattle.mcs_engine.specs.Watching.{AreMoved, AreSettled, AreSpared, AreVisited};
-ghost use Rattle.mcs_engine.specs.Watching.{AreWatched, IsLong, IsReached, IsClauseSeen};
+ghost use Rattle.mcs_engine.specs.Trails.{IsClauseOver, IsFalseAt, IsOn, IsClauseSatisfied};
+ghost use Rattle.mcs_engine.specs.Watching.{AreSettled, AreVisited, AreWatched, IsLong};
+ghost use Rattle.mcs_engine.specs.Watching.{IsReached, IsClauseSeen, KeepsWatches};
 
 use crate::examine::{Finding, examine};
 use crate::trail::Trail;
@@ -30,9 +29,7 @@ pub(crate) enum Seen {
 
 /// A literal of the clause, other than `other`, that is not false.
 pub fn open_literal(trail: &Trail, literals: &[i64], other: i64) -> Option<i64>
-    requires placed { ArePlaced trail.now.entries.items trail.now.positions.items }
-    requires clause { IsClause literals.now }
-    requires covered { AreCovered trail.now.positions.items literals.now }
+    requires { IsClauseOver trail.now.positions.items literals.now }
     ensures { MatchOption result
         ((k : ℤ) → IsAmong k literals.now → (k ≡ other) ⊎ IsOn trail.now.entries.items (neg_ℤ k))
         (λ l. IsAmong l literals.now × (l ≢ other) × ¬ IsOn trail.now.entries.items (neg_ℤ l)) }
@@ -56,19 +53,9 @@ fn visit(
 ) -> Result<Seen, Memory>
     requires trail { IsTrail clauses.now trail.old }
     requires watched { AreWatched clauses.now watches.old }
-    requires literal { IsLiteral literal }
     requires off { IsOn trail.old.entries.items (neg_ℤ literal) }
-    ensures trail { IsTrail clauses.now trail.new }
-    ensures positions { length trail.new.positions.items ≡ length trail.old.positions.items }
-    ensures grows { GrowsOnLevel level trail.old.entries.items trail.new.entries.items }
-    ensures watched { AreWatched clauses.now watches.new }
-    ensures short { watches.new.short.items ≡ watches.old.short.items }
-    ensures moved { AreMoved watches.old.pairs watches.new.pairs trail.old.entries.items }
-    ensures sized { length watches.new.pairs ≡ length watches.old.pairs }
-    ensures spared { AreSpared watches.old.pairs watches.new.pairs }
-    ensures reached { (r : Reach) → r.visited ≤ length trail.old.entries.items
-        → IsReached clauses.now watches.old trail.old.entries.items r
-        → IsReached clauses.now watches.new trail.old.entries.items r }
+    ensures extends { Extends clauses.now level trail.old trail.new }
+    ensures kept { KeepsWatches clauses.now watches.old watches.new trail.old.entries.items }
     ensures list { list_at watches.new.lists (place literal)
         ≡ list_at watches.old.lists (place literal) }
     ensures seen { IfOk result (IsClauseSeen clauses.now watches.new trail.new.entries.items index
@@ -84,7 +71,7 @@ fn visit(
         return Ok(Seen::Satisfied);
     }
     if let Some(open) = open_literal(trail, clauses.row(index), other) {
-        watches.list(open, index)?;
+        watches.lists.add(open, index)?;
         let pair = Pair {
             first: other,
             second: open,
@@ -110,19 +97,9 @@ fn visit_list(
 ) -> Result<Option<usize>, Memory>
     requires trail { IsTrail clauses.now trail.old }
     requires watched { AreWatched clauses.now watches.old }
-    requires literal { IsLiteral literal }
     requires off { IsOn trail.old.entries.items (neg_ℤ literal) }
-    ensures trail { IsTrail clauses.now trail.new }
-    ensures positions { length trail.new.positions.items ≡ length trail.old.positions.items }
-    ensures grows { GrowsOnLevel level trail.old.entries.items trail.new.entries.items }
-    ensures watched { AreWatched clauses.now watches.new }
-    ensures short { watches.new.short.items ≡ watches.old.short.items }
-    ensures moved { AreMoved watches.old.pairs watches.new.pairs trail.old.entries.items }
-    ensures sized { length watches.new.pairs ≡ length watches.old.pairs }
-    ensures spared { AreSpared watches.old.pairs watches.new.pairs }
-    ensures reached { (r : Reach) → r.visited ≤ length trail.old.entries.items
-        → IsReached clauses.now watches.old trail.old.entries.items r
-        → IsReached clauses.now watches.new trail.old.entries.items r }
+    ensures extends { Extends clauses.now level trail.old trail.new }
+    ensures kept { KeepsWatches clauses.now watches.old watches.new trail.old.entries.items }
     ensures found { IfOk result (λ found. MatchOption found
         (AreVisited clauses.now watches.new trail.new.entries.items literal)
         (IsFalseAt clauses.now trail.new.entries.items)) }
@@ -154,18 +131,9 @@ pub fn visit_from(
     requires trail { IsTrail clauses.now trail.old }
     requires watched { AreWatched clauses.now watches.old }
     requires bound { from.old ≤ length trail.old.entries.items }
-    ensures trail { IsTrail clauses.now trail.new }
-    ensures positions { length trail.new.positions.items ≡ length trail.old.positions.items }
-    ensures grows { GrowsOnLevel level trail.old.entries.items trail.new.entries.items }
-    ensures watched { AreWatched clauses.now watches.new }
-    ensures short { watches.new.short.items ≡ watches.old.short.items }
-    ensures moved { AreMoved watches.old.pairs watches.new.pairs trail.old.entries.items }
-    ensures sized { length watches.new.pairs ≡ length watches.old.pairs }
-    ensures spared { AreSpared watches.old.pairs watches.new.pairs }
+    ensures extends { Extends clauses.now level trail.old trail.new }
+    ensures kept { KeepsWatches clauses.now watches.old watches.new trail.old.entries.items }
     ensures bound { from.new ≤ length trail.new.entries.items }
-    ensures reached { (r : Reach) → r.visited ≤ length trail.old.entries.items
-        → IsReached clauses.now watches.old trail.old.entries.items r
-        → IsReached clauses.now watches.new trail.old.entries.items r }
     ensures now { (settled : ℕ)
         → IsReached clauses.now watches.old trail.old.entries.items
         (record { entries = length trail.old.entries.items; visited = from.old; settled = settled })
@@ -199,9 +167,7 @@ pub fn settle(
     index: usize,
 ) -> Result<bool, Memory>
     requires trail { IsTrail clauses.now trail.old }
-    ensures trail { IsTrail clauses.now trail.new }
-    ensures positions { length trail.new.positions.items ≡ length trail.old.positions.items }
-    ensures grows { GrowsOnLevel level trail.old.entries.items trail.new.entries.items }
+    ensures extends { Extends clauses.now level trail.old trail.new }
     ensures found { IfOk result (λ found. MatchBool found
         (IsFalseAt clauses.now trail.new.entries.items index)
         ((c : List ℤ) → slice_get clauses.now index ≡ Some c → ¬ IsLong c
@@ -230,9 +196,7 @@ pub fn settle_from(
     from: &mut usize,
 ) -> Result<Option<usize>, Memory>
     requires trail { IsTrail clauses.now trail.old }
-    ensures trail { IsTrail clauses.now trail.new }
-    ensures positions { length trail.new.positions.items ≡ length trail.old.positions.items }
-    ensures grows { GrowsOnLevel level trail.old.entries.items trail.new.entries.items }
+    ensures extends { Extends clauses.now level trail.old trail.new }
     ensures settled { AreSettled clauses.now indices.now trail.new.entries.items from.old from.new }
     ensures bound { from.old ≤ length indices.now → from.new ≤ length indices.now }
     ensures found { IfOk result (λ found. MatchOption found

@@ -1,10 +1,11 @@
 //! Minimization of learnt clauses.
 
 ghost use Rattle.std.specs.Prelude.{◌≡◌, ◌≢◌, ◌+◌, ◌<◌, ◌≤◌, length, IsTrue, OnOk};
-ghost use Rattle.mcs_engine.specs.Trails.{IsTrail, reason_at};
-ghost use Rattle.mcs_engine.specs.Learning.{AreImplied, GoesOnByReasons};
+ghost use Rattle.mcs_engine.specs.Extending.{IsTrail};
+ghost use Rattle.mcs_engine.specs.Trails.{reason_at};
+ghost use Rattle.mcs_engine.specs.Learning.{AreImplied};
 ghost use Rattle.mcs_engine.specs.Marking.{AreUnmarked, IsVariableMarked, IsMarkedChain};
-ghost use Rattle.mcs_engine.specs.Marking.{IsSingleMark};
+ghost use Rattle.mcs_engine.specs.Marking.{IsResolvedOn, IsSingleMark};
 
 use crate::marks::{are_marked, resolve_at};
 use crate::trail::Trail;
@@ -64,14 +65,12 @@ pub(crate) fn shorten(
     requires single { start + 1 ≤ length trail.now.entries.items
         → IsSingleMark start marks.old.items }
     requires implied { AreImplied trail.now.entries.items start }
-    ensures marked { OnOk result (IsMarkedChain clauses.now trail.now.entries.items chain.new.items
-        marks.new.items) }
+    ensures resolved { OnOk result (IsResolvedOn clauses.now trail.now.entries.items
+        chain.old.items chain.new.items marks.new.items) }
     ensures single { OnOk result (start + 1 ≤ length trail.now.entries.items
         → IsSingleMark start marks.new.items) }
     ensures past { OnOk result (length trail.now.entries.items ≤ start
         → AreUnmarked marks.new.items 0 (length trail.now.entries.items)) }
-    ensures reasons { OnOk result (GoesOnByReasons clauses.now trail.now.entries.items
-        chain.old.items chain.new.items) }
 {
     let mut bound = start.min(trail.entries.len());
     while bound > 0 {

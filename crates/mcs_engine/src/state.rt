@@ -1,14 +1,15 @@
 //! The state of a solver.
 
-ghost use Rattle.std.specs.Prelude.{◌≡◌, ◌+◌, ◌<◌, ◌≤◌, ◌^◌, ◌++◌, ◌∷◌, [], length, unsigned_abs};
-ghost use Rattle.std.specs.Prelude.{Some, IfOk, OnOk, OnErr, IfSome};
-ghost use Rattle.mcs_trace.specs.Clauses.{IsClause, IsLiteral};
+ghost use Rattle.std.specs.Prelude.{◌≡◌, ◌<◌, ◌≤◌, ◌^◌, ◌++◌, ◌∷◌, [], length};
+ghost use Rattle.std.specs.Prelude.{IfOk, OnOk, OnErr, IfSome};
+ghost use Rattle.mcs_trace.specs.Clauses.{IsLiteral};
 ghost use Rattle.mcs_trace.specs.Traces.{IsChainResolvent};
-ghost use Rattle.mcs_engine.specs.Trails.{ArePlaced, IsFalse, StandsNowhere};
-ghost use Rattle.mcs_engine.specs.Watching.{KeepsLists, IsPushed};
-ghost use Rattle.mcs_engine.specs.Learning.{IsSingle};
-ghost use Rattle.mcs_engine.specs.States.{IsBack, IsDecided, IsFull, IsLastLevel, IsLearntBack};
-ghost use Rattle.mcs_engine.specs.States.{IsState, IsTurn, IsUnchanged, SameClauses};
+ghost use Rattle.mcs_engine.specs.Lists.{KeepsLists};
+ghost use Rattle.mcs_engine.specs.Trails.{IsFalse, IsFree};
+ghost use Rattle.mcs_engine.specs.Watching.{IsPushed, SameWatched};
+ghost use Rattle.mcs_engine.specs.States.{IsBack, IsBlank, IsDecided, IsLearntBack};
+ghost use Rattle.mcs_engine.specs.States.{IsOfLastLevel, IsReady, IsState, IsTurn, IsUnchanged};
+ghost use Rattle.mcs_engine.specs.States.{KeepsClauses};
 
 use crate::chains::Chains;
 use crate::latest::{Latest, latest_of};
@@ -64,12 +65,7 @@ impl State {
     /// The state without clauses, over the variables 1 to `vars`.
     pub fn new(alloc: Global, vars: u64) -> Result<State, Memory>
         requires { vars < 2 ^ 63 }
-        ensures kept { IfOk result IsState }
-        ensures sized { IfOk result (λ s. length s.trail.positions.items ≡ vars + 1) }
-        ensures clauses { IfOk result (λ s. s.clauses ≡ []) }
-        ensures chains { IfOk result (λ s. s.chains ≡ []) }
-        ensures levels { IfOk result (λ s. s.levels.items ≡ []) }
-        ensures entries { IfOk result (λ s. s.trail.entries.items ≡ []) }
+        ensures { IfOk result (IsBlank vars) }
     {
         let trail = Trail::new(alloc, vars)?;
         Ok(State {
@@ -101,11 +97,10 @@ pub(crate) fn push_clause(
     ensures clauses { OnOk result (clauses.new ≡ clauses.old ++ literals.now ∷ []) }
     ensures chains { OnOk result (chains.new ≡ chains.old ++ chain.now ∷ []) }
     ensures pushed { OnOk result (IsPushed watches.old watches.new pair) }
-    ensures watches { KeepsLists watches.old watches.new }
+    ensures watches { KeepsLists watches.old.lists watches.new.lists }
     ensures err_clauses { OnErr result (clauses.new ≡ clauses.old) }
     ensures err_chains { OnErr result (chains.new ≡ chains.old) }
-    ensures err_pairs { OnErr result (watches.new.pairs ≡ watches.old.pairs) }
-    ensures err_short { OnErr result (watches.new.short.items ≡ watches.old.short.items) }
+    ensures err_watches { OnErr result (SameWatched watches.old watches.new) }
 {
     let count = clauses.len();
     clauses.push(literals)?;
@@ -125,12 +120,8 @@ pub(crate) fn push_clause(
 /// Decides the literal: opens a level and makes it true. It must have no value.
 pub fn decide(state: &mut State, literal: i64) -> Result<(), Memory>
     requires state { IsState state.old }
-    requires literal { IsLiteral literal }
-    requires within { unsigned_abs literal < length state.old.trail.positions.items }
-    requires free { StandsNowhere state.old.trail.entries.items (unsigned_abs literal) }
-    ensures kept { IsState state.new }
-    ensures same { SameClauses state.old state.new }
-    ensures full { IsFull state.old → IsFull state.new }
+    requires free { IsFree state.old.trail.entries.items state.old.trail.positions.items literal }
+    ensures same { KeepsClauses state.old state.new }
     ensures decided { OnOk result (IsDecided state.old state.new literal) }
     ensures err { OnErr result (state.new.trail.entries.items ≡ state.old.trail.entries.items) }
 {
@@ -150,12 +141,8 @@ pub fn decide(state: &mut State, literal: i64) -> Result<(), Memory>
 /// Takes back the levels above `level`.
 pub fn back(state: &mut State, level: usize)
     requires { IsState state.old }
-    ensures kept { IsState state.new }
-    ensures same { SameClauses state.old state.new }
-    ensures full { IsFull state.old → IsFull state.new }
+    ensures same { KeepsClauses state.old state.new }
     ensures back { IsBack state.old state.new level }
-    ensures stays { length state.old.levels.items ≤ level
-        → state.new.trail.entries.items ≡ state.old.trail.entries.items }
 {
     if level < state.levels.len() {
         let reach = state.levels[level];
@@ -178,8 +165,7 @@ pub struct Turn {
 /// Where a learnt clause leads back, given the latest of its literals. Without others it leads back
 /// to level 0.
 pub fn turn_of(trail: &Trail, latest: Latest) -> Turn
-    requires placed { ArePlaced trail.now.entries.items trail.now.positions.items }
-    requires latest { (latest.place < length trail.now.entries.items)
+    requires { (latest.place < length trail.now.entries.items)
         × (latest.others ≤ latest.place) }
     ensures { IsTurn trail.now.entries.items latest result }
 {
@@ -204,18 +190,11 @@ pub fn turn_of(trail: &Trail, latest: Latest) -> Turn
 /// Learns the clause, which is false, with its chain, and goes back to the greatest level of its
 /// literals other than the one of the last level.
 pub fn learn(state: &mut State, literals: &[i64], chain: &[u64]) -> Result<(), Memory>
-    requires state { IsState state.old }
-    requires clause { IsClause literals.now }
+    requires ready { IsReady state.old }
     requires all_false { IsFalse state.old.trail.entries.items literals.now }
     requires chain { IsChainResolvent state.old.clauses chain.now literals.now }
-    requires single { (r : Reach) → IsLastLevel state.old.levels.items r
-        → IsSingle state.old.trail.entries.items r.entries literals.now }
-    requires some { 0 < length state.old.levels.items }
-    requires full { IsFull state.old }
-    ensures kept { IsState state.new }
-    ensures full { IsFull state.new }
-    ensures positions { length state.new.trail.positions.items
-        ≡ length state.old.trail.positions.items }
+    requires single { IsOfLastLevel state.old literals.now }
+    ensures ready { IsReady state.new }
     ensures learnt { OnOk result (IsLearntBack state.old state.new literals.now chain.now) }
     ensures err { OnErr result (IsUnchanged state.old state.new) }
 {

@@ -4,9 +4,8 @@ ghost use Rattle.std.specs.Prelude.{◌≡◌, ℕ, ◌++◌, ◌∷◌, [], ◌
 ghost use Rattle.std.specs.Prelude.{unsigned_abs, neg_ℤ, take, ◌↔◌, IsTrue, MatchOption, IfOk};
 ghost use Rattle.std.specs.Prelude.{OnOk, OnErr};
 ghost use Rattle.std.specs.Bool.{MatchBool};
-ghost use Rattle.mcs_trace.specs.Clauses.{IsLiteral};
-ghost use Rattle.mcs_engine.specs.Trails.{ArePlaced, AreAssigned, StandsAt, StandsNowhere, IsOn};
-ghost use Rattle.mcs_engine.specs.Trails.{literal_at, reason_at};
+ghost use Rattle.mcs_engine.specs.Trails.{ArePlaced, AreAssigned, IsFree, IsLiteralOver, IsOn};
+ghost use Rattle.mcs_engine.specs.Trails.{StandsAt, StandsNowhere, literal_at, reason_at};
 
 use mcs_base::Memory;
 use std::alloc::Global;
@@ -26,6 +25,9 @@ pub struct Entry {
 pub struct Trail {
     pub entries: Vec<Entry>,
     pub positions: Vec<usize>,
+    pub ghost placed: { ArePlaced entries.items positions.items },
+    pub ghost some: { 0 < length positions.items },
+    pub ghost fits: { length positions.items ≤ 2 ^ 63 },
 }
 
 impl Trail {
@@ -43,8 +45,7 @@ impl Trail {
 
     /// The place of the literal's variable, if it has a value.
     pub fn position(&self, literal: i64) -> Option<usize>
-        requires placed { ArePlaced self.now.entries.items self.now.positions.items }
-        requires within { unsigned_abs literal < length self.now.positions.items }
+        requires { unsigned_abs literal < length self.now.positions.items }
         ensures { MatchOption result
             (StandsNowhere self.now.entries.items (unsigned_abs literal))
             (StandsAt self.now.entries.items (unsigned_abs literal)) }
@@ -62,9 +63,7 @@ impl Trail {
 
     /// The value of the literal, if it has one.
     pub fn value(&self, literal: i64) -> Option<bool>
-        requires placed { ArePlaced self.now.entries.items self.now.positions.items }
-        requires literal { IsLiteral literal }
-        requires within { unsigned_abs literal < length self.now.positions.items }
+        requires { IsLiteralOver self.now.positions.items literal }
         ensures { MatchOption result
             (StandsNowhere self.now.entries.items (unsigned_abs literal))
             (λ value. MatchBool value (IsOn self.now.entries.items literal)
@@ -76,9 +75,7 @@ impl Trail {
 
     /// Whether the literal is true.
     pub fn is_true(&self, literal: i64) -> bool
-        requires placed { ArePlaced self.now.entries.items self.now.positions.items }
-        requires literal { IsLiteral literal }
-        requires within { unsigned_abs literal < length self.now.positions.items }
+        requires { IsLiteralOver self.now.positions.items literal }
         ensures { IsTrue result ↔ IsOn self.now.entries.items literal }
     {
         self.value(literal).unwrap_or(false)
@@ -86,9 +83,7 @@ impl Trail {
 
     /// Whether the literal is false.
     pub fn is_false(&self, literal: i64) -> bool
-        requires placed { ArePlaced self.now.entries.items self.now.positions.items }
-        requires literal { IsLiteral literal }
-        requires within { unsigned_abs literal < length self.now.positions.items }
+        requires { IsLiteralOver self.now.positions.items literal }
         ensures { IsTrue result ↔ IsOn self.now.entries.items (neg_ℤ literal) }
     {
         !self.value(literal).unwrap_or(true)
@@ -96,8 +91,7 @@ impl Trail {
 
     /// The negation of the literal at the place.
     pub fn negated(&self, place: usize) -> i64
-        requires placed { ArePlaced self.now.entries.items self.now.positions.items }
-        requires within { place < length self.now.entries.items }
+        requires { place < length self.now.entries.items }
         ensures { result ≡ neg_ℤ (literal_at self.now.entries.items place) }
     {
         -self.entries[place].literal
@@ -105,14 +99,10 @@ impl Trail {
 
     /// Makes the literal true. Its variable must have no value.
     pub fn push(&mut self, literal: i64, reason: u64, level: usize) -> Result<(), Memory>
-        requires placed { ArePlaced self.old.entries.items self.old.positions.items }
-        requires literal { IsLiteral literal }
-        requires within { unsigned_abs literal < length self.old.positions.items }
-        requires free { StandsNowhere self.old.entries.items (unsigned_abs literal) }
+        requires { IsFree self.old.entries.items self.old.positions.items literal }
         ensures entries { OnOk result
             (self.new.entries.items ≡ self.old.entries.items
             ++ record { literal = literal; reason = reason; level = level } ∷ []) }
-        ensures placed { ArePlaced self.new.entries.items self.new.positions.items }
         ensures err { OnErr result (self.new.entries.items ≡ self.old.entries.items) }
         ensures positions { length self.new.positions.items ≡ length self.old.positions.items }
     {
@@ -136,6 +126,7 @@ impl Trail {
 
     /// Adds an entry for one more variable.
     pub fn widen(&mut self) -> Result<(), Memory>
+        requires { length self.old.positions.items < 2 ^ 63 }
         ensures ok { OnOk result (self.new.positions.items ≡ self.old.positions.items ++ 0 ∷ []) }
         ensures err { OnErr result (self.new.positions.items ≡ self.old.positions.items) }
         ensures entries { self.new.entries.items ≡ self.old.entries.items }
@@ -161,13 +152,10 @@ impl Trail {
 
     /// The first variable from this number on that has no value.
     pub fn first_free(&self, from: usize) -> Option<i64>
-        requires placed { ArePlaced self.now.entries.items self.now.positions.items }
-        requires vars { length self.now.positions.items ≤ 2 ^ 63 }
-        requires from { 0 < from }
+        requires { 0 < from }
         ensures { MatchOption result
             (AreAssigned self.now.entries.items from (length self.now.positions.items))
-            (λ l. IsLiteral l × (unsigned_abs l < length self.now.positions.items)
-            × StandsNowhere self.now.entries.items (unsigned_abs l)) }
+            (IsFree self.now.entries.items self.now.positions.items) }
     {
         for variable in from..self.positions.len() {
             let literal = variable as i64;

@@ -1,15 +1,14 @@
 //! The watched literals: which clauses watch a literal.
 
-ghost use Rattle.std.specs.Prelude.{◌≡◌, ◌≢◌, ℕ, ℤ, ◌+◌, ◌<◌, ◌^◌, [], length, take, MatchOption};
+ghost use Rattle.std.specs.Prelude.{◌≡◌, ℕ, ◌+◌, ◌<◌, ◌^◌, [], length, take, MatchOption};
 ghost use Rattle.std.specs.Prelude.{OnOk, OnErr, IfSome, filter, ltb};
-ghost use Rattle.mcs_trace.specs.Clauses.{IsLiteral, place};
-ghost use Rattle.mcs_engine.specs.Lists.{list_at};
-ghost use Rattle.mcs_engine.specs.Watching.{KeepsLists, IsInList, IsOf, IsPairOf, IsPushed};
+ghost use Rattle.mcs_trace.specs.Clauses.{IsLiteral};
+ghost use Rattle.mcs_engine.specs.Lists.{KeepsLists, list_at};
+ghost use Rattle.mcs_engine.specs.Watching.{IsOf, IsPairOf, IsPushed, SameWatched};
 
 use crate::lists::Lists;
 use crate::pairs::Pairs;
 use mcs_base::Memory;
-use mcs_trace::place;
 use std::alloc::Global;
 
 /// The two literals that a clause watches.
@@ -64,34 +63,20 @@ impl Watches {
         }
     }
 
-    /// Adds the index to the list of the literal.
-    pub fn list(&mut self, literal: i64, index: usize) -> Result<(), Memory>
-        requires literal { IsLiteral literal }
-        ensures listed { OnOk result (IsInList self.new.lists literal index) }
-        ensures kept { (l : ℤ) (i : ℕ) → IsInList self.old.lists l i → IsInList self.new.lists l i }
-        ensures others { (p : ℕ) → p ≢ place literal
-            → list_at self.new.lists p ≡ list_at self.old.lists p }
-        ensures pairs { self.new.pairs ≡ self.old.pairs }
-        ensures short { self.new.short.items ≡ self.old.short.items }
-    {
-        self.lists.push(place(literal) as usize, index)
-    }
-
     /// Adds the next clause, which watches the pair; without a pair it has fewer than two literals.
     /// If memory runs out, no clause is added.
     pub fn push(&mut self, pair: Option<Pair>) -> Result<(), Memory>
         requires literals { IfSome pair (λ p. IsLiteral p.first × IsLiteral p.second) }
         requires fits { length self.old.pairs + 1 < 2 ^ 64 }
-        ensures kept { KeepsLists self.old self.new }
+        ensures kept { KeepsLists self.old.lists self.new.lists }
         ensures pushed { OnOk result (IsPushed self.old self.new pair) }
-        ensures err_pairs { OnErr result (self.new.pairs ≡ self.old.pairs) }
-        ensures err_short { OnErr result (self.new.short.items ≡ self.old.short.items) }
+        ensures err { OnErr result (SameWatched self.old self.new) }
     {
         let index = self.pairs.len();
         match pair {
             Some(pair) => {
-                self.list(pair.first, index)?;
-                self.list(pair.second, index)?;
+                self.lists.add(pair.first, index)?;
+                self.lists.add(pair.second, index)?;
                 self.pairs.push(pair)?;
             }
             None => {

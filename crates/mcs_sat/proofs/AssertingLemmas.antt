@@ -16,7 +16,7 @@ use Rattle.mcs_engine.specs.declared.state.State.{State}
 use Rattle.mcs_engine.specs.declared.trail.Entry.{Entry}
 use Rattle.mcs_engine.specs.Learning.{AreImplied, IsLate, IsLatest, IsLearnt, IsSingle}
 use Rattle.mcs_sat.specs.Solvers.{HasNoValue, HasOneOfLevel, IsAsserting, IsBackLevel, IsFalseUnder, IsLearned, IsValueOfLevel, IsOpenUnder, SolverView, trues, trues_below, view_of}
-use Rattle.mcs_engine.specs.States.{IsLastLevel, IsLearntBack, IsState}
+use Rattle.mcs_engine.specs.States.{IsLastLevel, IsLearntBack, IsOfLastLevel, IsState}
 use Rattle.mcs_engine.specs.Trails.{AreLevelled, IsFalse, decisions, level_at, levels_of, literal_at}
 use Rattle.mcs_engine.proofs.LatestLemmas.{some-latest}
 use Rattle.mcs_engine.proofs.LevelLemmas.{before-start, below-start, decisions-longer, implied-last, levels-at, levels-back, levels-count, levels-from}
@@ -91,7 +91,7 @@ module _ (s : State) (r : Reach) (is : IsState s) (some : 0 < length s.levels.it
 
   pub last-late : (c : List ℤ) → AllByRecursion (IsOpenUnder (trues_below (levels_of es) last)) s.clauses → IsAmong c s.clauses → IsLate es r.entries c
   last-late c opens among = inl (λ below. open-not_false (literals (take r.entries es)) c
-      (placed-consistent (take r.entries es) ps (placed-back es ps r.entries is.trail.placed))
+      (placed-consistent (take r.entries es) ps (placed-back es ps r.entries s.trail.placed))
       (subst (λ (x : List ℤ). IsOpenUnder x c) below-trues (all_among (IsOpenUnder (trues_below (levels_of es) last)) s.clauses c opens among))
       (λ k among'. on-among (take r.entries es) (neg_ℤ k) (on-back es r.entries (neg_ℤ k) (let w = last-within in omega arith) (below k among'))))
 
@@ -107,7 +107,7 @@ module _ (s : State) (r : Reach) (is : IsState s) (some : 0 < length s.levels.it
           let (i, within, level, size) = of-place es last k is.levelled of in
           let past : r.entries ≤ i = below-last i within level in
           let w = last-within in
-          let same : i ≡ j = same_place es ps i j is.trail.placed within (omega arith) (size ∙ sym (ap unsigned_abs on ∙ unsigned_abs-neg_ℤ k)) in
+          let same : i ≡ j = same_place es ps i j s.trail.placed within (omega arith) (size ∙ sym (ap unsigned_abs on ∙ unsigned_abs-neg_ℤ k)) in
           omega arith)
     ];
   }
@@ -123,8 +123,8 @@ module _ (s : State) (r : Reach) (is : IsState s) (some : 0 < length s.levels.it
             let (i, within, level, size) = of-place es last one.literal is.levelled one.here in
             let past : r.entries ≤ i = below-last i within level in
             elim (latest.others one.literal one.has) [
-              | inl e ↦ let same : i ≡ l.place = same_place es ps i l.place is.trail.placed within here (size ∙ ap unsigned_abs e ∙ unsigned_abs-neg_ℤ (literal_at es l.place)) in omega arith
-              | inr (j, less, on) ↦ let same : i ≡ j = same_place es ps i j is.trail.placed within (omega arith) (size ∙ sym (ap unsigned_abs on ∙ unsigned_abs-neg_ℤ one.literal)) in omega arith
+              | inl e ↦ let same : i ≡ l.place = same_place es ps i l.place s.trail.placed within here (size ∙ ap unsigned_abs e ∙ unsigned_abs-neg_ℤ (literal_at es l.place)) in omega arith
+              | inr (j, less, on) ↦ let same : i ≡ j = same_place es ps i j s.trail.placed within (omega arith) (size ∙ sym (ap unsigned_abs on ∙ unsigned_abs-neg_ℤ one.literal)) in omega arith
             ])
       ] in (
         elim (cases_lt r.entries l.others) [
@@ -135,7 +135,7 @@ module _ (s : State) (r : Reach) (is : IsState s) (some : 0 < length s.levels.it
               let first : neg_ℤ (literal_at es j) ≡ one.literal = one.only (neg_ℤ (literal_at es j)) (latest.last (omega arith)) (subst (λ (m : ℕ). IsValueOfLevel (levels_of es) m (neg_ℤ (literal_at es j))) (from-last j less (omega arith)) (place-of es j is.levelled less)) in
               let second : neg_ℤ (literal_at es l.place) ≡ one.literal = one.only (neg_ℤ (literal_at es l.place)) latest.has (subst (λ (m : ℕ). IsValueOfLevel (levels_of es) m (neg_ℤ (literal_at es l.place))) (from-last l.place here after) (place-of es l.place is.levelled here)) in
               let sizes : unsigned_abs (literal_at es j) ≡ unsigned_abs (literal_at es l.place) = sym (unsigned_abs-neg_ℤ (literal_at es j)) ∙ ap unsigned_abs (first ∙ sym second) ∙ unsigned_abs-neg_ℤ (literal_at es l.place) in
-              let same : j ≡ l.place = same_place es ps j l.place is.trail.placed less here sizes in
+              let same : j ≡ l.place = same_place es ps j l.place s.trail.placed less here sizes in
               omega arith)
         ],
         after,
@@ -143,7 +143,7 @@ module _ (s : State) (r : Reach) (is : IsState s) (some : 0 < length s.levels.it
 
   pub one-single : (c : List ℤ) → IsFalse es c → HasOneOfLevel (levels_of es) last c → IsSingle es r.entries c
   one-single c off one =
-      let (l, latest) = some-latest es ps c one.literal is.trail.placed off one.has in
+      let (l, latest) = some-latest es ps c one.literal s.trail.placed off one.has in
       let (before, after) = one-split c l latest one in
       (l, latest, before, after)
 
@@ -163,11 +163,13 @@ asserting s r step is some at learnt single = record {
 pub asserting-false : (s : State) (step : Step) → IsAsserting (view_of s) step → IsFalse s.trail.entries.items step.clause
 asserting-false s step a = under-false s.trail.entries.items step.clause (subst (λ (x : List ℤ). IsFalseUnder x step.clause) (flat-levels s.trail.entries.items) a.all_false)
 
-pub asserting-single : (s : State) (r : Reach) (step : Step) → IsState s → 0 < length s.levels.items → IsLastLevel s.levels.items r → IsAsserting (view_of s) step → IsSingle s.trail.entries.items r.entries step.clause
-asserting-single s r step is some at a = one-single s r is some at step.clause (asserting-false s step a) a.single
+pub asserting-last : (s : State) (step : Step) → IsState s → 0 < length s.levels.items → IsAsserting (view_of s) step → IsOfLastLevel s step.clause
+asserting-last s step is some a =
+    let (r, at) = slice_get_below s.levels.items (length s.levels.items - 1) (omega arith) in
+    record { last = r; is = at; single = one-single s r is some at step.clause (asserting-false s step a) a.single }
 
 -- ---- what is learnt
-module _ (old new : State) (step : Step) (is : IsState old) (asserting : IsAsserting (view_of old) step) (r last : Reach) (some : 0 < length old.levels.items) (at-last : IsLastLevel old.levels.items last) (positions : length new.trail.positions.items ≡ length old.trail.positions.items) (back : IsLearntBack old new step.clause step.chain.items) (at : slice_get old.levels.items back.level ≡ Some r) where
+module _ (old new : State) (step : Step) (is : IsState old) (asserting : IsAsserting (view_of old) step) (r last : Reach) (some : 0 < length old.levels.items) (at-last : IsLastLevel old.levels.items last) (back : IsLearntBack old new step.clause step.chain.items) (at : slice_get old.levels.items back.level ≡ Some r) where
   abbrev all : List Entry
   all = old.trail.entries.items
 
@@ -218,12 +220,12 @@ module _ (old new : State) (step : Step) (is : IsState old) (asserting : IsAsser
         let (i, within, level, size) = of-place all j k is.levelled of in
         elim (latest.others k among) [
           | inl e ↦ inr (
-              let same : i ≡ l.place = same_place all old.trail.positions.items i l.place is.trail.placed within latest.here (size ∙ ap unsigned_abs e ∙ unsigned_abs-neg_ℤ (literal_at all l.place)) in
+              let same : i ≡ l.place = same_place all old.trail.positions.items i l.place old.trail.placed within latest.here (size ∙ ap unsigned_abs e ∙ unsigned_abs-neg_ℤ (literal_at all l.place)) in
               sym level ∙ ap (level_at all) same ∙ from-last old last is some at-last l.place latest.here split.1)
           | inr (p, less, on) ↦ inl (
               let b = latest.before in
               let h = latest.here in
-              let same : i ≡ p = same_place all old.trail.positions.items i p is.trail.placed within (omega arith) (size ∙ sym (ap unsigned_abs on ∙ unsigned_abs-neg_ℤ k)) in
+              let same : i ≡ p = same_place all old.trail.positions.items i p old.trail.placed within (omega arith) (size ∙ sym (ap unsigned_abs on ∙ unsigned_abs-neg_ℤ k)) in
               omega (arith, other-level p less, ap (level_at all) same))
         ];
     has = elim (cases_lt 0 l.others) [
@@ -245,7 +247,7 @@ module _ (old new : State) (step : Step) (is : IsState old) (asserting : IsAsser
       let below : p < r.entries = omega (arith, length-take r.entries all) in
       let within : p < length all = omega (arith, length-take r.entries all) in
       let there : literal_at all p ≡ k = ap (λ (e : Entry). e.literal) (sym (entry-back all r.entries p below)) ∙ on in
-      let same : p ≡ l.place = same_place all old.trail.positions.items p l.place is.trail.placed within latest.here (ap unsigned_abs there ∙ size ∙ unsigned_abs-neg_ℤ (literal_at all l.place)) in
+      let same : p ≡ l.place = same_place all old.trail.positions.items p l.place old.trail.placed within latest.here (ap unsigned_abs there ∙ size ∙ unsigned_abs-neg_ℤ (literal_at all l.place)) in
       let low = lower in
       omega arith
 
@@ -253,7 +255,7 @@ module _ (old new : State) (step : Step) (is : IsState old) (asserting : IsAsser
   learned-at = record {
     level = back.level;
     back = back-level;
-    is = same-view _ _ _ _ _ _ (ap (λ (n : ℕ). n - 1) positions) back.clauses (
+    is = same-view _ _ _ _ _ _ (ap (λ (n : ℕ). n - 1) back.positions) back.clauses (
         ap levels_of new-entries ∙ levels-back all old.levels.items back.level r is.starts at ∙ ap (λ (n : ℕ). take n (levels_of all)) (let up : back.level + 1 ≡ suc back.level = omega arith in up));
     free = free;
     has = latest.has;
@@ -264,8 +266,8 @@ module _ (old new : State) (step : Step) (is : IsState old) (asserting : IsAsser
     ];
   }
 
-pub learned : (old new : State) (step : Step) → IsState old → IsAsserting (view_of old) step → 0 < length old.levels.items → length new.trail.positions.items ≡ length old.trail.positions.items → IsLearntBack old new step.clause step.chain.items → IsLearned (view_of old) (view_of new) step
-learned old new step is asserting some positions back =
+pub learned : (old new : State) (step : Step) → IsState old → IsAsserting (view_of old) step → 0 < length old.levels.items → IsLearntBack old new step.clause step.chain.items → IsLearned (view_of old) (view_of new) step
+learned old new step is asserting some back =
     let (r, at) = slice_get_below old.levels.items back.level back.below in
     let (last, at-last) = slice_get_below old.levels.items (length old.levels.items - 1) (omega arith) in
-    learned-at old new step is asserting r last some at-last positions back at
+    learned-at old new step is asserting r last some at-last back at

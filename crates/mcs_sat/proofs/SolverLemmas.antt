@@ -10,7 +10,7 @@ use Rattle.mcs_trace.specs.Traces.{numbered_clause}
 use Rattle.mcs_engine.specs.declared.state.State.{State}
 use Rattle.mcs_engine.specs.declared.trail.Entry.{Entry}
 use Rattle.mcs_sat.specs.Solvers.{GoesOn, IsFalseNumber, IsFalseUnder, IsOpenUnder, IsSolver, IsUnitRun, LeadsToConflict, SolverView, trues, view_of}
-use Rattle.mcs_engine.specs.States.{IsDecided, IsState, SameClauses}
+use Rattle.mcs_engine.specs.States.{IsDecided, IsState, KeepsClauses}
 use Rattle.mcs_engine.specs.Trails.{AreCovered, AreExplained, ArePlaced, GrowsOnLevel, IsFalseAt, IsOpen, levels_of, literal_at}
 use Rattle.mcs_engine.proofs.KnownLemmas.{numbered-row}
 use Rattle.mcs_engine.proofs.LevelLemmas.{levels-decide, levels-more}
@@ -30,13 +30,13 @@ is-solver s is =
     let n : ℕ = length ps - 1 in
     record {
       clauses = (
-        (let some = is.some in let fits = is.fits in omega arith),
-        all_both IsClause (IsWithin n) s.clauses is.trail.clauses (all_weaker (AreCovered ps) (IsWithin n) (λ c covered. covered-within n ps c refl is.some covered) s.clauses is.trail.covered),
+        (let some = s.trail.some in let fits = s.trail.fits in omega arith),
+        all_both IsClause (IsWithin n) s.clauses is.trail.clauses (all_weaker (AreCovered ps) (IsWithin n) (λ c covered. covered-within n ps c refl s.trail.some covered) s.clauses is.trail.covered),
       );
-      levels = levels-run s.clauses ps [] es is.trail.placed is.trail.explained;
+      levels = levels-run s.clauses ps [] es s.trail.placed is.trail.explained;
       within = all_from_among (λ (l : ℤ). (0 < unsigned_abs l) × (unsigned_abs l ≤ n)) (trues (view_of s)) (λ l among.
           let (p, less, e) = among-on es l (subst (IsAmong l) (flat-levels es) among) in
-          let (literal, covered, at) = is.trail.placed p less in
+          let (literal, covered, at) = s.trail.placed p less in
           let some : 0 < unsigned_abs (literal_at es p) = literal.0 in
           (omega (arith, ap unsigned_abs e), omega (arith, ap unsigned_abs e)));
     }
@@ -52,7 +52,7 @@ grown-unit_run : (old new : State) (more : List Entry) → IsState new → new.c
 grown-unit_run old new more is clauses e all =
     let es : List Entry = old.trail.entries.items in
     subst (λ (x : List ℤ). IsUnitRun old.clauses x (literals more)) (sym (flat-levels es)) (grown-run old.clauses new.trail.positions.items (length old.levels.items) es more
-    (subst (λ (x : List Entry). ArePlaced x new.trail.positions.items) e is.trail.placed)
+    (subst (λ (x : List Entry). ArePlaced x new.trail.positions.items) e new.trail.placed)
     (subst (λ (known : List (List ℤ)). AreExplained known (es ++ more)) clauses (subst (AreExplained new.clauses) e is.trail.explained)) all)
 
 pub grown-goes_on : (old new : State) → IsGrown old new → (more : List ℤ) × GoesOn (levels_of old.trail.entries.items) (levels_of new.trail.entries.items) more × IsUnitRun old.clauses (trues (view_of old)) more
@@ -82,15 +82,15 @@ pub opens-under : (s : State) → AllByRecursion (IsOpen s.trail.entries.items) 
 opens-under s open' = all_weaker (IsOpen s.trail.entries.items) (IsOpenUnder (trues (view_of s)))
     (λ c o. subst (λ (x : List ℤ). IsOpenUnder x c) (sym (flat-levels s.trail.entries.items)) (open-under s.trail.entries.items c o)) s.clauses open'
 
-trues-consistent : (s : State) → IsState s → AreConsistent (trues (view_of s))
-trues-consistent s is = subst AreConsistent (sym (flat-levels s.trail.entries.items)) (placed-consistent s.trail.entries.items s.trail.positions.items is.trail.placed)
+trues-consistent : (s : State) → AreConsistent (trues (view_of s))
+trues-consistent s = subst AreConsistent (sym (flat-levels s.trail.entries.items)) (placed-consistent s.trail.entries.items s.trail.positions.items s.trail.placed)
 
 -- where each clause is open they lead to none
 pub grown-no_conflict : (old new : State) → IsGrown old new → AllByRecursion (IsOpen new.trail.entries.items) new.clauses → LeadsToConflict old.clauses (trues (view_of old)) → ⊥
 grown-no_conflict old new (is, clauses, (more, e, all)) open' (run, is-run, (c, among, off)) =
     let ts : List ℤ = trues (view_of new) in
     let ls : List ℤ = trues (view_of old) in
-    let consistent : AreConsistent ts = trues-consistent new is in
+    let consistent : AreConsistent ts = trues-consistent new in
     let opens : AllByRecursion (IsOpenUnder ts) old.clauses = subst (AllByRecursion (IsOpenUnder ts)) clauses (opens-under new open') in
     let within : AreIn ls ts = λ k among'. subst (IsAmong k) (sym (grown-trues old new more e)) (among_left k ls (literals more) among') in
     open-not_false ts c consistent (all_among (IsOpenUnder ts) old.clauses c opens among) (λ k among'. run-within old.clauses ls run ts consistent opens within is-run (neg_ℤ k) (off k among'))
@@ -113,7 +113,7 @@ pub same-view : (vars vars' : ℕ) (known known' levels levels' : List (List ℤ
     → let a : SolverView = record { vars = vars; clauses = known; levels = levels } in let b : SolverView = record { vars = vars'; clauses = known'; levels = levels' } in a ≡ b
 same-view vars vars' known known' levels levels' e e' e'' = cc
 
-pub view-decided : (old new : State) (v : SolverView) (l : ℤ) → view_of old ≡ v → SameClauses old new → IsDecided old new l → view_of new ≡ record v { levels = v.levels ++ (l ∷ []) ∷ [] }
+pub view-decided : (old new : State) (v : SolverView) (l : ℤ) → view_of old ≡ v → KeepsClauses old new → IsDecided old new l → view_of new ≡ record v { levels = v.levels ++ (l ∷ []) ∷ [] }
 view-decided old new v l is same decided =
     let e : Entry = record { literal = l; reason = 0; level = length old.levels.items + 1 } in
     same-view _ _ _ _ _ _

@@ -5,8 +5,8 @@ ghost use Rattle.std.specs.Prelude.{OnOk, OnErr};
 ghost use Rattle.std.specs.List.{AllByRecursion};
 ghost use Rattle.mcs_trace.specs.Clauses.{IsClause, IsClauseList, IsWithin};
 ghost use Rattle.mcs_sat.specs.Answers.{IsSatAnswer, IsExact, IsSettledAnswer};
-ghost use Rattle.mcs_engine.specs.States.{IsFull, IsState};
-ghost use Rattle.mcs_engine.specs.Stores.{IsFrontOf, IsLater, given};
+ghost use Rattle.mcs_engine.specs.States.{IsFull, IsState, IsWider, SameRoom};
+ghost use Rattle.mcs_engine.specs.Stores.{IsFrontOf, IsGround, IsLaterGround, given};
 
 use crate::flatten::flatten_from;
 use crate::outcome::Outcome;
@@ -43,11 +43,9 @@ impl Model for ClauseBase {
 /// Keeps the first `count` of the given clauses, and what was learnt before the first one that is
 /// removed.
 fn leave_first(state: &mut State, order: &mut Order, count: usize)
-    requires state { IsState state.old }
-    requires base { state.old.levels.items ≡ [] }
-    ensures kept { IsState state.new }
-    ensures base { state.new.levels.items ≡ [] }
-    ensures positions { state.new.trail.positions.items ≡ state.old.trail.positions.items }
+    requires { IsGround state.old }
+    ensures ground { IsGround state.new }
+    ensures positions { SameRoom state.old state.new }
     ensures clauses { given state.new.clauses state.new.chains
         ≡ take count (given state.old.clauses state.old.chains) }
 {
@@ -62,12 +60,7 @@ fn make_room(state: &mut State, variable: usize) -> Result<(), Memory>
     requires state { IsState state.old }
     requires next { variable ≤ length state.old.trail.positions.items }
     requires fits { variable < 2 ^ 63 }
-    ensures kept { IsState state.new }
-    ensures levels { state.new.levels.items ≡ state.old.levels.items }
-    ensures clauses { state.new.clauses ≡ state.old.clauses }
-    ensures chains { state.new.chains ≡ state.old.chains }
-    ensures longer { length state.old.trail.positions.items
-        ≤ length state.new.trail.positions.items }
+    ensures wider { IsWider state.old state.new }
     ensures room { OnOk result (variable < length state.new.trail.positions.items) }
 {
     if variable >= state.trail.positions.len() {
@@ -79,11 +72,9 @@ fn make_room(state: &mut State, variable: usize) -> Result<(), Memory>
 /// Preprocesses the clauses from the index `from` on: learns clauses over the parts of their
 /// formulas, and what a bounded search learns from these alone.
 fn learn_beforehand(state: &mut State, order: &mut Order, from: usize) -> Result<(), Memory>
-    requires state { IsState state.old }
-    requires base { state.old.levels.items ≡ [] }
+    requires ground { IsGround state.old }
     requires full { IsFull state.old }
-    ensures later { IsLater state.old state.new }
-    ensures base { state.new.levels.items ≡ [] }
+    ensures later { IsLaterGround state.old state.new }
     ensures full { OnOk result (IsFull state.new) }
 {
     let left_out = flatten_from(state, from)?;

@@ -1,11 +1,11 @@
 //! Clauses over the parts of a formula, learnt in place of those over the whole.
 
-ghost use Rattle.std.specs.Prelude.{◌≡◌, [], ◌<◌, length, IsTrue, IfOk, OnOk};
+ghost use Rattle.std.specs.Prelude.{◌≡◌, ◌<◌, length, IsTrue, IfOk, OnOk};
 ghost use Rattle.std.specs.List.{AllByRecursion};
 ghost use Rattle.mcs_trace.specs.Clauses.{IsClause};
 ghost use Rattle.mcs_sat.specs.Flattening.{IsFlat};
-ghost use Rattle.mcs_engine.specs.States.{IsFull, IsState};
-ghost use Rattle.mcs_engine.specs.Stores.{IsLater};
+ghost use Rattle.mcs_engine.specs.States.{IsFull};
+ghost use Rattle.mcs_engine.specs.Stores.{IsGround, IsLaterGround};
 ghost use Rattle.mcs_engine.specs.Trails.{AreCovered};
 
 use mcs_base::{Memory, Rows};
@@ -291,12 +291,10 @@ fn are_covered(trail: &Trail, literals: &[i64]) -> bool
 /// Learns the clause, at level 0, if it is neither short nor long. Short ones are not learnt, so
 /// that unit propagation goes through the whole formulas. Returns whether it is learnt.
 fn learn_flat(state: &mut State, flat: &Flat) -> Result<bool, Memory>
-    requires state { IsState state.old }
-    requires base { state.old.levels.items ≡ [] }
+    requires ground { IsGround state.old }
     requires full { IsFull state.old }
     requires flat { IsFlat state.old.clauses flat.now }
-    ensures later { IsLater state.old state.new }
-    ensures base { state.new.levels.items ≡ [] }
+    ensures later { IsLaterGround state.old state.new }
     ensures full { OnOk result (IsFull state.new) }
 {
     let size = flat.literals.len();
@@ -331,12 +329,10 @@ fn flatten(
     resolved: &mut Resolved,
     index: usize,
 ) -> Result<(), Memory>
-    requires state { IsState state.old }
-    requires base { state.old.levels.items ≡ [] }
+    requires ground { IsGround state.old }
     requires full { IsFull state.old }
     requires within { index < length state.old.clauses }
-    ensures later { IsLater state.old state.new }
-    ensures base { state.new.levels.items ≡ [] }
+    ensures later { IsLaterGround state.old state.new }
     ensures full { OnOk result (IsFull state.new) }
 {
     if !is_shorter(state, index) {
@@ -360,11 +356,9 @@ fn flatten(
 /// marks for the variables that are then no longer needed to find it; there are none if nothing is
 /// learnt.
 pub(crate) fn flatten_from(state: &mut State, from: usize) -> Result<Vec<bool>, Memory>
-    requires state { IsState state.old }
-    requires base { state.old.levels.items ≡ [] }
+    requires ground { IsGround state.old }
     requires full { IsFull state.old }
-    ensures later { IsLater state.old state.new }
-    ensures base { state.new.levels.items ≡ [] }
+    ensures later { IsLaterGround state.old state.new }
     ensures full { OnOk result (IsFull state.new) }
 {
     let alloc = *state.levels.allocator();

@@ -1,9 +1,9 @@
 //! Assignments that satisfy the clauses.
 
-ghost use Rattle.std.specs.Prelude.{◌≡◌, ◌<◌, ◌≤◌, ◌+◌, ◌^◌, ◌↔◌, ℕ, pos, length, vec_len, IfOk};
+ghost use Rattle.std.specs.Prelude.{◌≡◌, ◌<◌, ◌+◌, ◌↔◌, ℕ, pos, length, vec_len, IfOk};
 ghost use Rattle.std.specs.Prelude.{IsTrue};
 ghost use Rattle.mcs_sat.specs.Answers.{assignment_of};
-ghost use Rattle.mcs_engine.specs.Trails.{ArePlaced, IsOn};
+ghost use Rattle.mcs_engine.specs.Trails.{IsOn};
 
 use mcs_base::Memory;
 use mcs_engine::Trail;
@@ -11,9 +11,7 @@ use std::alloc::Global;
 
 /// The values of the variables 1 to `vars`. A variable without a value is false.
 pub(crate) fn model_of(alloc: Global, trail: &Trail, vars: u64) -> Result<Vec<bool>, Memory>
-    requires placed { ArePlaced trail.now.entries.items trail.now.positions.items }
-    requires room { vars < length trail.now.positions.items }
-    requires fits { length trail.now.positions.items ≤ 2 ^ 63 }
+    requires { vars < length trail.now.positions.items }
     ensures len { IfOk result (λ m. vec_len m ≡ vars) }
     ensures values { IfOk result (λ m. (v : ℕ) → 0 < v → v < vars + 1
         → (IsTrue (assignment_of m.items v) ↔ IsOn trail.now.entries.items (pos v))) }

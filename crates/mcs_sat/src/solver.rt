@@ -7,9 +7,11 @@ ghost use Rattle.std.specs.Bool.{MatchBool};
 ghost use Rattle.std.specs.List.{AllByRecursion};
 ghost use Rattle.std.specs.Option.{IfNone, is_some};
 ghost use Rattle.mcs_base.specs.Listings.{IsAmong};
-ghost use Rattle.mcs_trace.specs.Clauses.{IsClause, IsLiteral};
-ghost use Rattle.mcs_engine.specs.Trails.{AreCovered};
-ghost use Rattle.mcs_engine.specs.States.{IsFull, IsState, no_chains};
+ghost use Rattle.mcs_trace.specs.Clauses.{IsLiteral};
+ghost use Rattle.mcs_engine.specs.Trails.{IsClauseOver};
+ghost use Rattle.mcs_engine.specs.States.{IsFull, KeepsTrail};
+ghost use Rattle.mcs_engine.specs.Stores.{IsGround};
+ghost use Rattle.mcs_sat.specs.Adding.{AreAdded, IsFreshFor};
 ghost use Rattle.mcs_sat.specs.Solvers.{GoesOn, HasNoValue, IsAsserting, IsFalseNumber, IsLearned};
 ghost use Rattle.mcs_sat.specs.Solvers.{IsOpenUnder, IsReasonNumber, IsSolver, IsUnitRun};
 ghost use Rattle.mcs_sat.specs.Solvers.{LeadsToConflict, last_level, trues, trues_below};
@@ -33,28 +35,22 @@ pub struct Solver {
 
 impl Model for Solver {
     ghost use Rattle.mcs_sat.specs.Solvers.{SolverView, view_of};
-    ghost use Rattle.mcs_engine.specs.States.{IsFull, IsState};
+    ghost use Rattle.mcs_engine.specs.States.{IsReady};
 
     ghost Value = { SolverView };
 
     ghost view = { λ s. view_of s.state };
 
-    ghost invariant = { λ s. IsState s.state × IsFull s.state };
+    ghost invariant = { λ s. IsReady s.state };
 }
 
 /// Adds the clauses of the list, at level 0.
 fn add_all(state: &mut State, clauses: &[Clause]) -> Result<(), Memory>
-    requires state { IsState state.old }
+    requires ground { IsGround state.old }
     requires clauses { (i : ℕ) (c : List ℤ) → slice_get clauses.now i ≡ Some c
-        → IsClause c × AreCovered state.old.trail.positions.items c }
-    requires base { state.old.levels.items ≡ [] }
-    ensures kept { IsState state.new }
-    ensures positions { length state.new.trail.positions.items
-        ≡ length state.old.trail.positions.items }
-    ensures entries { state.new.trail.entries.items ≡ state.old.trail.entries.items }
-    ensures levels { state.new.levels.items ≡ [] }
-    ensures clauses { OnOk result (state.new.clauses ≡ state.old.clauses ++ clauses.now) }
-    ensures chains { OnOk result (state.new.chains ≡ state.old.chains ++ no_chains clauses.now) }
+        → IsClauseOver state.old.trail.positions.items c }
+    ensures kept { KeepsTrail state.old state.new }
+    ensures added { OnOk result (AreAdded state.old state.new clauses.now) }
 {
     for clause in clauses {
         add(state, clause.literals())?;
@@ -64,17 +60,11 @@ fn add_all(state: &mut State, clauses: &[Clause]) -> Result<(), Memory>
 
 /// Adds the clauses of the list, at level 0, and makes each watch two of its literals.
 fn add_watched(state: &mut State, clauses: &[Clause]) -> Result<(), Memory>
-    requires state { IsState state.old }
+    requires ground { IsGround state.old }
     requires clauses { (i : ℕ) (c : List ℤ) → slice_get clauses.now i ≡ Some c
-        → IsClause c × AreCovered state.old.trail.positions.items c }
-    requires base { state.old.levels.items ≡ [] }
-    ensures kept { IsState state.new }
-    ensures positions { length state.new.trail.positions.items
-        ≡ length state.old.trail.positions.items }
-    ensures entries { state.new.trail.entries.items ≡ state.old.trail.entries.items }
-    ensures levels { state.new.levels.items ≡ [] }
-    ensures clauses { OnOk result (state.new.clauses ≡ state.old.clauses ++ clauses.now) }
-    ensures chains { OnOk result (state.new.chains ≡ state.old.chains ++ no_chains clauses.now) }
+        → IsClauseOver state.old.trail.positions.items c }
+    ensures kept { KeepsTrail state.old state.new }
+    ensures added { OnOk result (AreAdded state.old state.new clauses.now) }
     ensures full { OnOk result (IsFull state.new) }
 {
     add_all(state, clauses)?;
@@ -84,13 +74,7 @@ fn add_watched(state: &mut State, clauses: &[Clause]) -> Result<(), Memory>
 
 /// The state of a solver with the clauses of the list, in which no literal is true yet.
 pub(crate) fn state_of(alloc: Global, cnf: &Cnf) -> Result<State, Memory>
-    ensures kept { IfOk result IsState }
-    ensures sized { IfOk result (λ s. length s.trail.positions.items ≡ cnf.now.vars + 1) }
-    ensures clauses { IfOk result (λ s. s.clauses ≡ cnf.now.clauses) }
-    ensures chains { IfOk result (λ s. s.chains ≡ no_chains cnf.now.clauses) }
-    ensures entries { IfOk result (λ s. s.trail.entries.items ≡ []) }
-    ensures levels { IfOk result (λ s. s.levels.items ≡ []) }
-    ensures full { IfOk result IsFull }
+    ensures { IfOk result (IsFreshFor cnf.now) }
 {
     let mut state = State::new(alloc, cnf.vars())?;
     match add_watched(&mut state, cnf.clauses()) {

@@ -1,11 +1,8 @@
 //! The result of a search.
 
-ghost use Rattle.std.specs.Prelude.{◌≡◌, [], ◌<◌, length, IfOk};
-ghost use Rattle.std.specs.List.{AllByRecursion};
-ghost use Rattle.mcs_trace.specs.Clauses.{IsWithin};
+ghost use Rattle.std.specs.Prelude.{◌≡◌, IfOk};
 ghost use Rattle.mcs_sat.specs.Answers.{IsSatAnswer, IsExact, IsSettledAnswer};
-ghost use Rattle.mcs_engine.specs.States.{IsState};
-ghost use Rattle.mcs_engine.specs.Stores.{IsLater, given, given_count, list_of};
+ghost use Rattle.mcs_engine.specs.Stores.{IsBase, IsLater, given_count, list_of};
 
 use crate::model::model_of;
 use crate::outcome::Outcome;
@@ -20,10 +17,7 @@ pub(crate) fn outcome_of(
     vars: u64,
     count: usize,
 ) -> Result<Outcome, Memory>
-    requires state { IsState state.old }
-    requires base { state.old.levels.items ≡ [] }
-    requires room { vars < length state.old.trail.positions.items }
-    requires within { AllByRecursion (IsWithin vars) (given state.old.clauses state.old.chains) }
+    requires base { IsBase state.old vars }
     requires count { count ≡ given_count state.old.chains }
     ensures later { IsLater state.old state.new }
     ensures answer { IfOk result (IsSatAnswer (list_of state.old vars)) }
@@ -42,10 +36,7 @@ pub(crate) fn assignment_of(
     order: &mut Order,
     vars: u64,
 ) -> Result<Option<Vec<bool>>, Memory>
-    requires state { IsState state.old }
-    requires base { state.old.levels.items ≡ [] }
-    requires room { vars < length state.old.trail.positions.items }
-    requires within { AllByRecursion (IsWithin vars) (given state.old.clauses state.old.chains) }
+    requires { IsBase state.old vars }
     ensures later { IsLater state.old state.new }
     ensures exact { IfOk result (IsSettledAnswer (list_of state.old vars)) }
 {

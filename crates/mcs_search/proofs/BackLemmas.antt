@@ -16,7 +16,7 @@ use Rattle.mcs_engine.specs.declared.state.State.{State}
 use Rattle.mcs_engine.specs.declared.trail.Entry.{Entry}
 use Rattle.mcs_engine.specs.Learning.{IsLatest, IsSingle}
 use Rattle.mcs_search.specs.Searches.{IsRun, IsSatSearch, work_left, work_of}
-use Rattle.mcs_engine.specs.States.{IsFull, IsLastLevel, IsLearntBack, IsState}
+use Rattle.mcs_engine.specs.States.{IsLastLevel, IsLearntBack, IsOfLastLevel, IsReady, IsState}
 use Rattle.mcs_engine.specs.Trails.{ArePlaced, GrowsOnLevel, IsFalse, IsOn, IsOpen, StandsNowhere, literal_at}
 use Rattle.mcs_engine.proofs.LevelLemmas.{before-start, below-start}
 use Rattle.mcs_search.proofs.SearchLemmas.{open-not_false}
@@ -33,16 +33,16 @@ pub record IsGoneBack (s : State) (c : List ℤ) (latest : Latest) (level : ℕ)
   pub late : reach.entries ≤ latest.place
   pub early : latest.others ≤ reach.entries
 
-pub gone-back : (old new : State) (c : List ℤ) (ns : List ℕ) → IsState old → (b : IsLearntBack old new c ns) → ((r : Reach) → IsLastLevel old.levels.items r → IsSingle old.trail.entries.items r.entries c) → IsGoneBack old c b.latest b.level
+pub gone-back : (old new : State) (c : List ℤ) (ns : List ℕ) → IsState old → (b : IsLearntBack old new c ns) → IsOfLastLevel old c → IsGoneBack old c b.latest b.level
 gone-back old new c ns is b single =
     let es : List Entry = old.trail.entries.items in
     let (reach, at) = slice_get_below old.levels.items b.level b.below in
-    let (last, at_last) = slice_get_below old.levels.items (length old.levels.items - 1) (let l = b.below in omega arith) in
-    let (few, far) = single-latest es old.trail.positions.items c last.entries b.latest is.trail.placed (single last at_last) b.is_latest in
+    let last : Reach = single.last in
+    let (few, far) = single-latest es old.trail.positions.items c last.entries b.latest old.trail.placed single.single b.is_latest in
     record {
       reach = reach;
       at = at;
-      late = let order = not-after b.level (length old.levels.items - 1) reach last (let l = b.below in omega arith) at at_last in omega arith;
+      late = let order = not-after b.level (length old.levels.items - 1) reach last (let l = b.below in omega arith) at single.is in omega arith;
       early = elim (cases_lt 0 b.latest.others) [
         | inl some ↦ let here = before-start es old.levels.items b.level (b.latest.others - 1) reach is.levelled is.starts at (let x = b.is_latest.before in let y = b.is_latest.here in omega arith) (let e = b.some some in omega arith) in omega arith
         | inr none ↦ omega arith
@@ -112,16 +112,16 @@ open-below old new c ns k r is b g less at =
       second = neg_ℤ (literal_at es (m.others - 1));
       has_first = b.is_latest.has;
       has_second = b.is_latest.last there;
-      differ = λ e. let same = same_place es ps m.place (m.others - 1) is.trail.placed b.is_latest.here within (ap unsigned_abs (sym (neg_ℤ-neg_ℤ (literal_at es m.place)) ∙ ap neg_ℤ e ∙ neg_ℤ-neg_ℤ (literal_at es (m.others - 1)))) in let x = b.is_latest.before in omega arith;
-      free_first = nowhere-before es ps r.entries m.place is.trail.placed (let l = g.late in omega arith) b.is_latest.here;
-      free_second = nowhere-before es ps r.entries (m.others - 1) is.trail.placed later within;
+      differ = λ e. let same = same_place es ps m.place (m.others - 1) old.trail.placed b.is_latest.here within (ap unsigned_abs (sym (neg_ℤ-neg_ℤ (literal_at es m.place)) ∙ ap neg_ℤ e ∙ neg_ℤ-neg_ℤ (literal_at es (m.others - 1)))) in let x = b.is_latest.before in omega arith;
+      free_first = nowhere-before es ps r.entries m.place old.trail.placed (let l = g.late in omega arith) b.is_latest.here;
+      free_second = nowhere-before es ps r.entries (m.others - 1) old.trail.placed later within;
     })
 
 -- ---- the search
-pub search-learnt : (old new : State) (c : List ℤ) (ns : List ℕ) → IsSatSearch old → IsState new → (b : IsLearntBack old new c ns) → IsGoneBack old c b.latest b.level → IsFull new → IsSatSearch new
-search-learnt old new c ns is kept b g full = record {
-  full = full;
-  state = kept;
+pub search-learnt : (old new : State) (c : List ℤ) (ns : List ℕ) → IsSatSearch old → IsReady new → (b : IsLearntBack old new c ns) → IsGoneBack old c b.latest b.level → IsSatSearch new
+search-learnt old new c ns is ready b g = record {
+  full = ready.full;
+  state = ready.state;
   before = λ k r at.
       let es : List Entry = old.trail.entries.items in
       let (less, at') = slice_get_take b.level old.levels.items k r (subst (λ (ls : List Reach). slice_get ls k ≡ Some r) b.back.levels at) in
@@ -151,15 +151,15 @@ run-some old between new c ns found is b g clauses entries run =
     as-run s (Some i) h = h
 
     at : (o : Option ℕ) → IsRunOf new.clauses (take g.reach.entries old.trail.entries.items) o → new.clauses ≡ old.clauses ++ c ∷ [] → ⊥
-    at None all known = forcing-not_open old.trail.entries.items old.trail.positions.items c b.latest g.reach.entries is.state.trail.placed b.is_latest g.early g.late
+    at None all known = forcing-not_open old.trail.entries.items old.trail.positions.items c b.latest g.reach.entries old.trail.placed b.is_latest g.early g.late
         (all_among (IsOpen (take g.reach.entries old.trail.entries.items)) (old.clauses ++ c ∷ []) c (subst (λ (cs : List (List ℤ)). AllByRecursion (IsOpen (take g.reach.entries old.trail.entries.items)) cs) known all) ((among_push c old.clauses c).1 (inr refl)))
     at (Some i) (d, here, off) known = elim (slice_get_push_at old.clauses c i d (subst (λ (cs : List (List ℤ)). slice_get cs i ≡ Some d) known here)) [
-      | inl before ↦ open-not_false (take g.reach.entries old.trail.entries.items) old.trail.positions.items d (placed-back old.trail.entries.items old.trail.positions.items g.reach.entries is.state.trail.placed) (all_get (IsOpen (take g.reach.entries old.trail.entries.items)) old.clauses i d (is.before b.level g.reach g.at) before) off
-      | inr (last, same) ↦ forcing-not_false old.trail.entries.items old.trail.positions.items c b.latest g.reach.entries is.state.trail.placed b.is_latest g.late (subst (IsFalse (take g.reach.entries old.trail.entries.items)) same off)
+      | inl before ↦ open-not_false (take g.reach.entries old.trail.entries.items) old.trail.positions.items d (placed-back old.trail.entries.items old.trail.positions.items g.reach.entries old.trail.placed) (all_get (IsOpen (take g.reach.entries old.trail.entries.items)) old.clauses i d (is.before b.level g.reach g.at) before) off
+      | inr (last, same) ↦ forcing-not_false old.trail.entries.items old.trail.positions.items c b.latest g.reach.entries old.trail.placed b.is_latest g.late (subst (IsFalse (take g.reach.entries old.trail.entries.items)) same off)
     ]
 
-pub less-learnt : (old between new : State) (c : List ℤ) (ns : List ℕ) (found : Option ℕ) → IsSatSearch old → IsSatSearch new → (b : IsLearntBack old between c ns) → IsGoneBack old c b.latest b.level → new.clauses ≡ between.clauses → GrowsOnLevel (length between.levels.items) between.trail.entries.items new.trail.entries.items → IsRun new found → length new.trail.positions.items ≡ length old.trail.positions.items → work_of new < work_of old
-less-learnt old between new c ns found is is' b g clauses (more, e, all) run size = subst (λ (m : ℕ). work_left m new.trail.entries.items < work_of old) (sym size) (at more e all)
+pub less-learnt : (old between new : State) (c : List ℤ) (ns : List ℕ) (found : Option ℕ) → IsSatSearch old → (b : IsLearntBack old between c ns) → IsGoneBack old c b.latest b.level → new.clauses ≡ between.clauses → GrowsOnLevel (length between.levels.items) between.trail.entries.items new.trail.entries.items → IsRun new found → length new.trail.positions.items ≡ length old.trail.positions.items → work_of new < work_of old
+less-learnt old between new c ns found is b g clauses (more, e, all) run size = subst (λ (m : ℕ). work_left m new.trail.entries.items < work_of old) (sym size) (at more e all)
   where
     at : (more : List Entry) → new.trail.entries.items ≡ between.trail.entries.items ++ more → AllByRecursion (λ (x : Entry). (0 < x.reason) × (x.level ≡ length between.levels.items)) more → work_left (length old.trail.positions.items) new.trail.entries.items < work_of old
     at [] e all = absurd (run-some old between new c ns found is b g clauses (e ∙ append-nil between.trail.entries.items) run)
@@ -168,15 +168,15 @@ less-learnt old between new c ns found is is' b g clauses (more, e, all) run siz
         let es : List Entry = old.trail.entries.items in
         let k : ℕ = g.reach.entries in
         let (here, none, count) = is.state.starts.start b.level g.reach g.at in
-        let bound = placed-most es old.trail.positions.items is.state.trail.placed in
-        let bound' = placed-most new.trail.entries.items new.trail.positions.items is'.state.trail.placed in
+        let bound = placed-most es old.trail.positions.items old.trail.placed in
+        let bound' = placed-most new.trail.entries.items new.trail.positions.items new.trail.placed in
         let front : new.trail.entries.items ≡ (take k es ++ x ∷ []) ++ more = e ∙ ap (λ (xs : List Entry). xs ++ x ∷ more) (b.back.entries g.reach g.at) ∙ sym (append_assoc (take k es) (x ∷ []) more) in
         let first : work_left n (take k es ++ x ∷ []) < work_left n es = work_left-back n es k (record { literal = pos 0; reason = 0; level = 0 }) x here (omega arith) none (λ zero. let some = all.0.0 in omega arith) in
         let rest : work_left n ((take k es ++ x ∷ []) ++ more) ≤ work_left n (take k es ++ x ∷ []) = work_left-more n (take k es ++ x ∷ []) more (omega (arith, ap length front)) in
         subst (λ (xs : List Entry). work_left n xs < work_left n es) (sym front) (omega arith)
 
--- the one clause for the last level, whichever it is called
-pub single-last : (s : State) (r : Reach) (c : List ℤ) → IsState s → IsLastLevel s.levels.items r → (r.entries + 1 ≤ length s.trail.entries.items → IsSingle s.trail.entries.items r.entries c) → (q : Reach) → IsLastLevel s.levels.items q → IsSingle s.trail.entries.items q.entries c
-single-last s r c is last single q at =
+-- what is learnt has one literal alone of the last level
+pub single-last : (s : State) (r : Reach) (c : List ℤ) → IsState s → IsLastLevel s.levels.items r → (r.entries + 1 ≤ length s.trail.entries.items → IsSingle s.trail.entries.items r.entries c) → IsOfLastLevel s c
+single-last s r c is last single =
     let (below, none, count) = is.starts.start (length s.levels.items - 1) r last in
-    subst (λ (x : Reach). IsSingle s.trail.entries.items x.entries c) (same_Some r q (sym last ∙ at)) (single (omega arith))
+    record { last = r; is = last; single = single (omega arith) }

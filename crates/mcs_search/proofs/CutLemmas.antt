@@ -1,7 +1,7 @@
 -- What stays right of a solver where nothing is decided, when clauses are taken off and when a variable is added.
-use Rattle.std.proofs.Common.{◌≡◌, ℕ, ◌+◌, ◌^◌, ◌<◌, ◌≤◌, zero, suc, List, [], ◌∷◌, ◌++◌, ◌⊎◌, inl, inr, sym, ap, ◌∙◌, subst, arith, ℤ, neg_ℤ, unsigned_abs, length, length-append, take, filter, ltb, min, Some, slice_get}
+use Rattle.std.proofs.Common.{◌≡◌, ℕ, ◌+◌, ◌<◌, ◌≤◌, zero, suc, List, [], ◌∷◌, ◌++◌, ◌⊎◌, inl, inr, sym, ap, ◌∙◌, subst, arith, ℤ, neg_ℤ, unsigned_abs, length, length-append, take, filter, ltb, min, Some, slice_get}
 use Rattle.std.specs.List.{AllByRecursion}
-use Rattle.std.proofs.lemmas.List.{get_or_append_left, length-take, length-take-le, take-take, take_all}
+use Rattle.std.proofs.lemmas.List.{length-take, length-take-le, take-take, take_all}
 use Rattle.std.proofs.lemmas.Bool.{cases_lt, lt-ltb, ltb-true}
 use Rattle.std.proofs.lemmas.Option.{slice_get_within}
 use Rattle.mcs_base.specs.Listings.{IsAmong}
@@ -18,11 +18,13 @@ use Rattle.mcs_engine.specs.declared.trail.Trail.{Trail}
 use Rattle.mcs_engine.specs.declared.watches.Pair.{Pair}
 use Rattle.mcs_engine.specs.declared.watches.Watches.{Watches}
 use Rattle.mcs_engine.specs.States.{AreChains, AreStarts, IsState}
-use Rattle.mcs_engine.specs.Trails.{AreCovered, AreExplained, AreLevelled, ArePlaced, IsOnBelow, IsSatisfiedBelow, IsTrail, decisions, literal_at, reason_at}
-use Rattle.mcs_engine.specs.Watching.{KeepsLists, AreUnwatched, AreWatched, AreVisitsKept, IsInList, IsReached}
+use Rattle.mcs_engine.specs.Extending.{IsTrail}
+use Rattle.mcs_engine.specs.Trails.{AreCovered, AreExplained, AreLevelled, IsOnBelow, IsSatisfiedBelow, decisions, reason_at}
+use Rattle.mcs_engine.specs.Lists.{IsInList}
+use Rattle.mcs_engine.specs.Watching.{AreUnwatched, AreWatched, AreVisitsKept, IsReached}
 use Rattle.mcs_engine.proofs.KeptLemmas.{first-take, front-take, kept-change, later-none, moved-take, still-take}
 use Rattle.mcs_engine.proofs.LevelLemmas.{decisions-longer, levelled-back}
-use Rattle.mcs_engine.proofs.TrailLemmas.{entry-back, explained-back, placed-back}
+use Rattle.mcs_engine.proofs.TrailLemmas.{entry-back, explained-back}
 use Rattle.mcs_base.proofs.Written.{slice_get-take}
 
 -- ---- the first clauses
@@ -154,13 +156,10 @@ state-cut s cs ms t w k n v m is base clauses chains entries positions bound few
     let known : List (List ℤ) = take k s.clauses in
     let size : length t.entries.items ≡ n = ap length entries ∙ length-take-le n es bound in
     record {
-      some = subst (λ (ps : List ℕ). 0 < length ps) (sym positions) is.some;
-      fits = subst (λ (ps : List ℕ). length ps ≤ 2 ^ 63) (sym positions) is.fits;
       chains = subst (λ (ks : List (List ℤ)). AreChains ks ms) (sym clauses) (subst (AreChains known) (sym chains) (chains-first k s.clauses s.chains is.chains));
       trail = subst (λ (ks : List (List ℤ)). IsTrail ks t) (sym clauses) (record {
         clauses = all_take IsClause k s.clauses is.trail.clauses;
         covered = subst (λ (ps : List ℕ). AllByRecursion (AreCovered ps) known) (sym positions) (all_take (AreCovered s.trail.positions.items) k s.clauses is.trail.covered);
-        placed = subst (ArePlaced t.entries.items) (sym positions) (subst (λ (xs : List Entry). ArePlaced xs s.trail.positions.items) (sym entries) (placed-back es s.trail.positions.items n is.trail.placed));
         explained = subst (AreExplained known) (sym entries) (explained-first k s.clauses (take n es) (explained-back s.clauses es n is.trail.explained) (λ i less.
             let less' : i < n = omega (arith, length-take-le n es bound) in
             subst (λ (e : Entry). e.reason ≤ k) (sym (entry-back es n i less')) (few i less')));
@@ -184,24 +183,16 @@ state-cut s cs ms t w k n v m is base clauses chains entries positions bound few
 covered-more : (known : List (List ℤ)) (ps ps' : List ℕ) → length ps ≤ length ps' → AllByRecursion (AreCovered ps) known → AllByRecursion (AreCovered ps') known
 covered-more known ps ps' longer all = all_weaker (AreCovered ps) (AreCovered ps') (λ c covered. all_weaker (λ (l : ℤ). unsigned_abs l < length ps) (λ (l : ℤ). unsigned_abs l < length ps') (λ l less. omega arith) c covered) known all
 
-placed-more : (es : List Entry) (ps : List ℕ) → ArePlaced es ps → ArePlaced es (ps ++ 0 ∷ [])
-placed-more es ps is i less =
-    let (literal, within, at) = is i less in
-    (literal, omega (arith, length-append ps (0 ∷ [])), get_or_append_left ps (0 ∷ []) 0 (unsigned_abs (literal_at es i)) within ∙ at)
-
-pub state-widened : (s : State) (t : Trail) → IsState s → length s.trail.positions.items < 2 ^ 63 → t.entries.items ≡ s.trail.entries.items → t.positions.items ≡ s.trail.positions.items ++ 0 ∷ []
+pub state-widened : (s : State) (t : Trail) → IsState s → t.entries.items ≡ s.trail.entries.items → t.positions.items ≡ s.trail.positions.items ++ 0 ∷ []
     → IsState (record { clauses = s.clauses; chains = s.chains; trail = t; watches = s.watches; levels = s.levels; visited = s.visited; settled = s.settled; kept = s.kept })
-state-widened s t is fits entries positions =
+state-widened s t is entries positions =
     let ps : List ℕ = s.trail.positions.items in
     let size : length t.positions.items ≡ length ps + 1 = omega (arith, ap length positions, length-append ps (0 ∷ [])) in
     record {
-      some = omega arith;
-      fits = omega arith;
       chains = is.chains;
       trail = record {
         clauses = is.trail.clauses;
         covered = covered-more s.clauses ps t.positions.items (omega arith) is.trail.covered;
-        placed = subst (ArePlaced t.entries.items) (sym positions) (subst (λ (xs : List Entry). ArePlaced xs (ps ++ 0 ∷ [])) (sym entries) (placed-more s.trail.entries.items ps is.trail.placed));
         explained = subst (AreExplained s.clauses) (sym entries) is.trail.explained;
       };
       levelled = subst AreLevelled (sym entries) is.levelled;
@@ -215,11 +206,3 @@ state-widened s t is fits entries positions =
       now = subst (λ (es : List Entry). IsReached s.clauses s.watches es (record { entries = length es; visited = s.visited; settled = s.settled })) (sym entries) is.now;
       kept = subst (λ (es : List Entry). AreVisitsKept s.clauses s.watches es s.levels.items s.kept) (sym entries) is.kept;
     }
-
-pub kept-same : (old new : Watches) → new.lists ≡ old.lists → KeepsLists old new
-kept-same old new same = record {
-  listed = λ l i listed. subst (λ (ls : Lists). IsInList ls l i) (sym same) listed;
-}
-
-pub placed-same : (old new : Trail) → new.entries.items ≡ old.entries.items → new.positions.items ≡ old.positions.items → ArePlaced old.entries.items old.positions.items → ArePlaced new.entries.items new.positions.items
-placed-same old new entries positions placed = subst (ArePlaced new.entries.items) (sym positions) (subst (λ (es : List Entry). ArePlaced es old.positions.items) (sym entries) placed)

@@ -1,7 +1,6 @@
 -- What stays right of a search from turn to turn, and that less is left to do.
-use Rattle.std.proofs.Common.{◌≡◌, ℕ, ◌+◌, ◌<◌, ◌≤◌, List, [], ◌++◌, inl, inr, sym, ap, ◌∙◌, subst, arith, ℤ, neg_ℤ, unsigned_abs, length, length-append, take, Option, Some, None, IfSome, slice_get}
+use Rattle.std.proofs.Common.{◌≡◌, ℕ, ◌+◌, ◌<◌, ◌≤◌, List, [], ◌++◌, inl, inr, sym, ap, ◌∙◌, subst, arith, ℤ, neg_ℤ, unsigned_abs, length, length-append, take, Some, slice_get}
 use Rattle.std.specs.List.{AllByRecursion}
-use Rattle.std.specs.Option.{IfNone}
 use Rattle.std.proofs.Math.Seq.{take-append_seam}
 use Rattle.std.proofs.lemmas.Option.{slice_get_within}
 use Rattle.std.proofs.lemmas.List.{length_push, take-append-le}
@@ -13,9 +12,9 @@ use Rattle.mcs_engine.specs.declared.state.Reach.{Reach}
 use Rattle.mcs_engine.specs.declared.state.State.{State}
 use Rattle.mcs_engine.specs.declared.trail.Entry.{Entry}
 use Rattle.mcs_engine.specs.Learning.{IsLate}
-use Rattle.mcs_search.specs.Searches.{IsRun, IsSatSearch, work_left, work_of}
-use Rattle.mcs_engine.specs.States.{IsDecided, IsFull, IsState, SameClauses, reach_of}
-use Rattle.mcs_engine.specs.Trails.{AreAssigned, AreCovered, ArePlaced, GrowsOnLevel, IsFalse, IsFalseAt, IsOpen, IsClauseSatisfied}
+use Rattle.mcs_search.specs.Searches.{IsSatSearch, work_left, work_of}
+use Rattle.mcs_engine.specs.States.{IsDecided, IsFull, IsState, KeepsClauses, KeepsLevels, reach_of}
+use Rattle.mcs_engine.specs.Trails.{AreAssigned, AreCovered, ArePlaced, GrowsOnLevel, IsFalse, IsOpen, IsClauseSatisfied}
 use Rattle.mcs_engine.proofs.TrailLemmas.{not_both_on, on-back, placed-back, placed-most}
 use Rattle.mcs_search.proofs.WorkLemmas.{work_left-more, work_left-push}
 
@@ -42,28 +41,24 @@ all-satisfied s is assigned opened = all_from_among (IsClauseSatisfied s.trail.e
     open-satisfied s.trail.entries.items s.trail.positions.items c assigned (all_among IsClause s.clauses c is.trail.clauses among) (all_among (AreCovered s.trail.positions.items) s.clauses c is.trail.covered among) (all_among (IsOpen s.trail.entries.items) s.clauses c opened among))
 
 -- ---- runs
-pub run-is : (s : State) (found : Option ℕ) → IfNone found (AllByRecursion (IsOpen s.trail.entries.items) s.clauses) → IfSome found (IsFalseAt s.clauses s.trail.entries.items) → IsRun s found
-run-is s None opened conflict = opened
-run-is s (Some i) opened conflict = conflict
-
 front-same : (es new : List Entry) (n : ℕ) (more : List Entry) → new ≡ es ++ more → n ≤ length es → take n new ≡ take n es
 front-same es new n more e bound = ap (take n) e ∙ take-append-le n es more bound
 
-pub search-run : (old new : State) → IsSatSearch old → IsState new → SameClauses old new → new.levels.items ≡ old.levels.items → GrowsOnLevel (length old.levels.items) old.trail.entries.items new.trail.entries.items → IsFull new → IsSatSearch new
-search-run old new is kept same levels (more, e, all) full = record {
-  full = full;
-  state = kept;
+pub search-run : (old new : State) → IsSatSearch old → KeepsLevels old new → GrowsOnLevel (length old.levels.items) old.trail.entries.items new.trail.entries.items → IsSatSearch new
+search-run old new is same (more, e, all) = record {
+  full = same.same.full is.full;
+  state = same.same.state;
   before = λ k r at.
-      let at' : slice_get old.levels.items k ≡ Some r = subst (λ (ls : List Reach). slice_get ls k ≡ Some r) levels at in
+      let at' : slice_get old.levels.items k ≡ Some r = subst (λ (ls : List Reach). slice_get ls k ≡ Some r) same.levels at in
       let (below, none, count) = is.state.starts.start k r at' in
-      subst (λ (cs : List (List ℤ)). AllByRecursion (IsOpen (take r.entries new.trail.entries.items)) cs) (sym same.clauses)
+      subst (λ (cs : List (List ℤ)). AllByRecursion (IsOpen (take r.entries new.trail.entries.items)) cs) (sym same.same.clauses)
       (subst (λ (xs : List Entry). AllByRecursion (IsOpen xs) old.clauses) (sym (front-same old.trail.entries.items new.trail.entries.items r.entries more e (omega arith))) (is.before k r at'));
 }
 
-pub search-decided : (old new : State) (l : ℤ) → IsSatSearch old → AllByRecursion (IsOpen old.trail.entries.items) old.clauses → IsState new → SameClauses old new → IsDecided old new l → IsFull new → IsSatSearch new
-search-decided old new l is opened kept same decided full = record {
-  full = full;
-  state = kept;
+pub search-decided : (old new : State) (l : ℤ) → IsSatSearch old → AllByRecursion (IsOpen old.trail.entries.items) old.clauses → KeepsClauses old new → IsDecided old new l → IsSatSearch new
+search-decided old new l is opened same decided = record {
+  full = same.full is.full;
+  state = same.state;
   before = λ k r at. subst (λ (cs : List (List ℤ)). AllByRecursion (IsOpen (take r.entries new.trail.entries.items)) cs) (sym same.clauses)
       (elim (slice_get_push_at old.levels.items (reach_of old) k r (subst (λ (ls : List Reach). slice_get ls k ≡ Some r) decided.levels at)) [
         | inl at' ↦
@@ -77,24 +72,16 @@ search-decided old new l is opened kept same decided full = record {
 
 -- ---- less is left
 -- a literal was decided, and then a run came
-pub less-decided : (old between new : State) (l : ℤ) → IsSatSearch new → IsDecided old between l → GrowsOnLevel (length between.levels.items) between.trail.entries.items new.trail.entries.items → length new.trail.positions.items ≡ length old.trail.positions.items → work_of new < work_of old
-less-decided old between new l is decided (more, e, all) size =
+pub less-decided : (old between new : State) (l : ℤ) → IsDecided old between l → GrowsOnLevel (length between.levels.items) between.trail.entries.items new.trail.entries.items → length new.trail.positions.items ≡ length old.trail.positions.items → work_of new < work_of old
+less-decided old between new l decided (more, e, all) size =
     let n : ℕ = length old.trail.positions.items in
     let es : List Entry = old.trail.entries.items in
-    let bound : length new.trail.entries.items ≤ length new.trail.positions.items = placed-most new.trail.entries.items new.trail.positions.items is.state.trail.placed in
+    let bound : length new.trail.entries.items ≤ length new.trail.positions.items = placed-most new.trail.entries.items new.trail.positions.items new.trail.placed in
     let longer : length new.trail.entries.items ≡ length between.trail.entries.items + length more = ap length e ∙ length-append between.trail.entries.items more in
     let size' : length between.trail.entries.items ≡ length es + 1 = ap length decided.entries ∙ length_push es _ in
     let first : work_left n between.trail.entries.items < work_left n es = subst (λ (xs : List Entry). work_left n xs < work_left n es) (sym decided.entries) (work_left-push n es _ (omega arith)) in
     let rest : work_left n new.trail.entries.items ≤ work_left n between.trail.entries.items = subst (λ (xs : List Entry). work_left n xs ≤ work_left n between.trail.entries.items) (sym e) (work_left-more n between.trail.entries.items more (omega (arith, ap length e))) in
     subst (λ (m : ℕ). work_left m new.trail.entries.items < work_left n es) (sym size) (omega arith)
-
--- ---- all that was decided is taken back
-pub search-back : (old new : State) → IsSatSearch old → IsState new → SameClauses old new → new.levels.items ≡ [] → IsFull new → IsSatSearch new
-search-back old new is kept same none full = record {
-  full = full;
-  state = kept;
-  before = λ k r at. absurd (let less = slice_get_within new.levels.items k r at in omega (arith, ap length none));
-}
 
 -- where nothing is decided
 pub search-base : (s : State) → IsState s → IsFull s → s.levels.items ≡ [] → IsSatSearch s
@@ -103,3 +90,7 @@ search-base s kept full none = record {
   state = kept;
   before = λ k r at. absurd (let less = slice_get_within s.levels.items k r at in omega (arith, ap length none));
 }
+
+-- ---- all that was decided is taken back
+pub search-back : (old new : State) → IsSatSearch old → KeepsClauses old new → new.levels.items ≡ [] → IsSatSearch new
+search-back old new is same none = search-base new same.state (same.full is.full) none

@@ -1,9 +1,12 @@
 -- The trace that a store of clauses gives: the clauses that were given first, then the steps that are named, by it or by a step that is, each with the number that it has there.
 use Rattle.std.specs.Prelude.{◌≡◌, ℕ, ◌+◌, ◌-◌, ◌<◌, ◌≤◌, ◌⊎◌, List, [], ◌∷◌, ◌++◌, ℤ, Bool, true, false, IsTrue, length, map, take, get_or, Some, slice_get}
+use Rattle.std.specs.List.{AllByRecursion}
 use Rattle.mcs_base.specs.Listings.{IsAmong}
+use Rattle.mcs_trace.specs.Clauses.{IsClause}
 use Rattle.mcs_trace.specs.Traces.{AreRightSteps, clauses_of, inference_of, numbered_clause}
 use Rattle.mcs_trace.specs.declared.trace.Step.{Step}
 use Rattle.mcs_search.specs.declared.trace.Numbering.{Numbering}
+use Rattle.mcs_engine.specs.States.{AreChains}
 use Rattle.mcs_engine.specs.Stores.{given, given_count}
 
 -- the numbers, which go from 1 on, are at most the one
@@ -21,6 +24,18 @@ AreMarked needed numbers = (n : ℕ) → IsAmong n numbers → IsTrue (get_or ne
 -- from the index on, where a clause is marked, so are those that its chain names
 abbrev pub AreChainsMarked : List (List ℕ) → List Bool → ℕ → Type 0
 AreChainsMarked chains needed from = (i : ℕ) (ns : List ℕ) → from ≤ i → slice_get chains i ≡ Some ns → IsTrue (get_or needed i false) → AreMarked needed ns
+
+-- the clauses that the last chain needs are marked, one for each chain
+pub record AreNeeded (chains : List (List ℕ)) (last : List ℕ) (needed : List Bool) : Type 0 where
+  pub sized : length needed ≡ length chains
+  pub named : AreMarked needed last
+  pub closed : AreChainsMarked chains needed 0
+
+-- clauses with right chains, of which so many were given
+pub record IsStore (known : List (List ℤ)) (chains : List (List ℕ)) (count : ℕ) : Type 0 where
+  pub clauses : AllByRecursion IsClause known
+  pub right : AreChains known chains
+  pub counted : count ≡ given_count chains
 
 -- the new number of a clause
 abbrev pub number_now : List ℕ → ℕ → ℕ

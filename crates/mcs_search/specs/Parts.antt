@@ -10,6 +10,7 @@ AreNumbered part numbers known = (i : ℕ) (c : List ℤ) → i < length numbers
 
 -- a state over the same variables, where nothing is decided: its first clauses are those of the numbers, and the others were learnt
 pub record IsPartState (whole part : State) (numbers : List ℕ) : Type 0 where
+  pub sound : IsState whole
   pub state : IsState part
   pub base : part.levels.items ≡ []
   pub positions : SameRoom whole part

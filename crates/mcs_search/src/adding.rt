@@ -1,13 +1,14 @@
 //! Adding and removing given clauses at level 0, where nothing is decided.
 
-ghost use Rattle.std.specs.Prelude.{◌≡◌, ◌+◌, ◌<◌, ◌≤◌, ◌^◌, ◌++◌, ◌∷◌, [], ◌⊎◌, neg_ℤ, length};
+ghost use Rattle.std.specs.Prelude.{◌≡◌, ◌+◌, ◌<◌, ◌≤◌, ◌^◌, [], ◌⊎◌, neg_ℤ, length};
 ghost use Rattle.std.specs.Prelude.{take, IsTrue, MatchOption, OnOk, OnErr, IfSome, Some};
 ghost use Rattle.mcs_trace.specs.Clauses.{IsClause, IsLiteral};
 ghost use Rattle.mcs_trace.specs.Traces.{IsChainResolvent};
-ghost use Rattle.mcs_engine.specs.Trails.{AreCovered, ArePlaced, IsOn, IsOnBelow};
-ghost use Rattle.mcs_engine.specs.Trails.{IsClauseSatisfied};
+ghost use Rattle.mcs_engine.specs.Trails.{IsClauseOver, IsClauseSatisfied, IsOn, IsOnBelow};
 ghost use Rattle.mcs_engine.specs.Watching.{ArePair, AreUnwatched, IsFreshPair, IsLong};
-ghost use Rattle.mcs_engine.specs.States.{IsFull, IsState, SameClauses};
+ghost use Rattle.mcs_engine.specs.States.{IsFull, IsState, IsWider, KeepsLevels, KeepsLiterals};
+ghost use Rattle.mcs_engine.specs.States.{KeepsTrail, SameRoom};
+ghost use Rattle.mcs_engine.specs.Stores.{IsAdded, IsGround, SameStore};
 
 use crate::order::Order;
 use mcs_base::Memory;
@@ -23,9 +24,7 @@ pub(crate) struct Beginning {
 
 /// Two literals of the clause that are not false, if it has two.
 fn open_pair(trail: &Trail, literals: &[i64]) -> Option<Pair>
-    requires placed { ArePlaced trail.now.entries.items trail.now.positions.items }
-    requires clause { IsClause literals.now }
-    requires covered { AreCovered trail.now.positions.items literals.now }
+    requires { IsClauseOver trail.now.positions.items literals.now }
     ensures { IfSome result (λ p. ArePair literals.now p
         × (¬ IsOn trail.now.entries.items (neg_ℤ p.first))
         × (¬ IsOn trail.now.entries.items (neg_ℤ p.second))) }
@@ -51,7 +50,6 @@ fn first_pair(literals: &[i64]) -> Option<Pair>
 
 /// The place at which the literal became false, if it comes before `place`; otherwise `place`.
 fn false_before(trail: &Trail, literal: i64, place: usize) -> usize
-    requires placed { ArePlaced trail.now.entries.items trail.now.positions.items }
     ensures low { result ≤ place }
     ensures fresh { IsLiteral literal → ¬ IsOnBelow trail.now.entries.items result (neg_ℤ literal) }
 {
@@ -68,8 +66,7 @@ fn false_before(trail: &Trail, literal: i64, place: usize) -> usize
 /// For how many of the first `visited` literals the clauses are still visited, if a further clause
 /// watches the pair.
 fn fresh_below(trail: &Trail, pair: Pair, visited: usize) -> usize
-    requires placed { ArePlaced trail.now.entries.items trail.now.positions.items }
-    requires literals { IsLiteral pair.first × IsLiteral pair.second }
+    requires { IsLiteral pair.first × IsLiteral pair.second }
     ensures low { result ≤ visited }
     ensures fresh { IsFreshPair trail.now.entries.items result (Some pair) }
 {
@@ -81,9 +78,7 @@ fn fresh_below(trail: &Trail, pair: Pair, visited: usize) -> usize
 /// what was visited stays visited. Otherwise only what comes before the first false literal that it
 /// watches stays visited.
 fn beginning_of(trail: &Trail, visited: usize, literals: &[i64]) -> Beginning
-    requires placed { ArePlaced trail.now.entries.items trail.now.positions.items }
-    requires clause { IsClause literals.now }
-    requires covered { AreCovered trail.now.positions.items literals.now }
+    requires clause { IsClauseOver trail.now.positions.items literals.now }
     requires bound { visited ≤ length trail.now.entries.items }
     ensures fits { MatchOption result.pair (¬ IsLong literals.now) (ArePair literals.now) }
     ensures low { result.visited ≤ visited }
@@ -110,19 +105,12 @@ fn beginning_of(trail: &Trail, visited: usize, literals: &[i64]) -> Beginning
 /// Adds a clause with its chain. It watches nothing yet.
 pub fn push_unwatched(state: &mut State, literals: &[i64], chain: &[u64]) -> Result<(), Memory>
     requires state { IsState state.old }
-    requires clause { IsClause literals.now }
-    requires covered { AreCovered state.old.trail.positions.items literals.now }
+    requires clause { IsClauseOver state.old.trail.positions.items literals.now }
     requires chain { (chain.now ≡ []) ⊎ IsChainResolvent state.old.clauses chain.now literals.now }
-    ensures kept { IsState state.new }
-    ensures positions { length state.new.trail.positions.items
-        ≡ length state.old.trail.positions.items }
-    ensures entries { state.new.trail.entries.items ≡ state.old.trail.entries.items }
-    ensures levels { state.new.levels.items ≡ state.old.levels.items }
+    ensures kept { KeepsTrail state.old state.new }
     ensures pairs { state.new.watches.pairs ≡ state.old.watches.pairs }
-    ensures clauses { OnOk result (state.new.clauses ≡ state.old.clauses ++ literals.now ∷ []) }
-    ensures chains { OnOk result (state.new.chains ≡ state.old.chains ++ chain.now ∷ []) }
-    ensures err { OnErr result ((state.new.clauses ≡ state.old.clauses)
-        × (state.new.chains ≡ state.old.chains)) }
+    ensures ok { OnOk result (IsAdded state.old state.new literals.now chain.now) }
+    ensures err { OnErr result (SameStore state.old state.new) }
 {
     let count = state.clauses.len();
     state.clauses.push(literals)?;
@@ -135,32 +123,20 @@ pub fn push_unwatched(state: &mut State, literals: &[i64], chain: &[u64]) -> Res
 
 /// Adds a given clause at level 0. It watches nothing yet.
 pub fn add(state: &mut State, literals: &[i64]) -> Result<(), Memory>
-    requires state { IsState state.old }
-    requires clause { IsClause literals.now }
-    requires covered { AreCovered state.old.trail.positions.items literals.now }
-    requires base { state.old.levels.items ≡ [] }
-    ensures kept { IsState state.new }
-    ensures positions { length state.new.trail.positions.items
-        ≡ length state.old.trail.positions.items }
-    ensures entries { state.new.trail.entries.items ≡ state.old.trail.entries.items }
-    ensures levels { state.new.levels.items ≡ [] }
-    ensures clauses { OnOk result (state.new.clauses ≡ state.old.clauses ++ literals.now ∷ []) }
-    ensures chains { OnOk result (state.new.chains ≡ state.old.chains ++ [] ∷ []) }
-    ensures err { OnErr result ((state.new.clauses ≡ state.old.clauses)
-        × (state.new.chains ≡ state.old.chains)) }
+    requires ground { IsGround state.old }
+    requires clause { IsClauseOver state.old.trail.positions.items literals.now }
+    ensures kept { KeepsTrail state.old state.new }
+    ensures ok { OnOk result (IsAdded state.old state.new literals.now []) }
+    ensures err { OnErr result (SameStore state.old state.new) }
 {
     push_unwatched(state, literals, &[])
 }
 
 /// Makes the next clause watch two of its literals, if it has two.
 pub fn attach_next(state: &mut State) -> Result<(), Memory>
-    requires state { IsState state.old }
-    requires base { state.old.levels.items ≡ [] }
+    requires ground { IsGround state.old }
     requires next { length state.old.watches.pairs < length state.old.clauses }
-    ensures kept { IsState state.new }
-    ensures same { SameClauses state.old state.new }
-    ensures entries { state.new.trail.entries.items ≡ state.old.trail.entries.items }
-    ensures levels { state.new.levels.items ≡ state.old.levels.items }
+    ensures same { KeepsLiterals state.old state.new }
     ensures marked { state.new.kept ≡ state.old.kept }
     ensures next { OnOk result (length state.new.watches.pairs
         ≡ length state.old.watches.pairs + 1) }
@@ -175,12 +151,8 @@ pub fn attach_next(state: &mut State) -> Result<(), Memory>
 
 /// Makes each clause that watches nothing yet watch two of its literals, at level 0.
 pub fn attach(state: &mut State) -> Result<(), Memory>
-    requires state { IsState state.old }
-    requires base { state.old.levels.items ≡ [] }
-    ensures kept { IsState state.new }
-    ensures same { SameClauses state.old state.new }
-    ensures entries { state.new.trail.entries.items ≡ state.old.trail.entries.items }
-    ensures levels { state.new.levels.items ≡ state.old.levels.items }
+    requires { IsGround state.old }
+    ensures same { KeepsLiterals state.old state.new }
     ensures full { OnOk result (IsFull state.new) }
 {
     while state.watches.pairs.len() < state.clauses.len() {
@@ -193,11 +165,8 @@ pub fn attach(state: &mut State) -> Result<(), Memory>
 /// each true if all others are false. The clauses of a whole formula come after those of its parts.
 /// Returns the index of a clause that is false, if one is found.
 fn sweep(state: &mut State) -> Result<Option<usize>, Memory>
-    requires state { IsState state.old }
-    requires base { state.old.levels.items ≡ [] }
-    ensures kept { IsState state.new }
-    ensures same { SameClauses state.old state.new }
-    ensures levels { state.new.levels.items ≡ state.old.levels.items }
+    requires { IsGround state.old }
+    ensures { KeepsLevels state.old state.new }
 {
     let mut index = state.clauses.len();
     while index > state.watches.pairs.len() {
@@ -211,9 +180,7 @@ fn sweep(state: &mut State) -> Result<Option<usize>, Memory>
 
 /// Whether the clause has at least two literals, and one of them is true.
 fn is_spared(trail: &Trail, literals: &[i64]) -> bool
-    requires placed { ArePlaced trail.now.entries.items trail.now.positions.items }
-    requires clause { IsClause literals.now }
-    requires covered { AreCovered trail.now.positions.items literals.now }
+    requires { IsClauseOver trail.now.positions.items literals.now }
     ensures { IsTrue result
         → IsLong literals.now × IsClauseSatisfied trail.now.entries.items literals.now }
 {
@@ -230,14 +197,10 @@ fn is_spared(trail: &Trail, literals: &[i64]) -> bool
 
 /// The same as `attach_next`, but a clause with a true literal watches nothing.
 fn attach_open(state: &mut State) -> Result<(), Memory>
-    requires state { IsState state.old }
-    requires base { state.old.levels.items ≡ [] }
+    requires ground { IsGround state.old }
     requires next { length state.old.watches.pairs < length state.old.clauses }
     requires all { state.old.kept.entries ≡ length state.old.trail.entries.items }
-    ensures kept { IsState state.new }
-    ensures same { SameClauses state.old state.new }
-    ensures entries { state.new.trail.entries.items ≡ state.old.trail.entries.items }
-    ensures levels { state.new.levels.items ≡ state.old.levels.items }
+    ensures same { KeepsLiterals state.old state.new }
     ensures marked { state.new.kept ≡ state.old.kept }
     ensures next { OnOk result (length state.new.watches.pairs
         ≡ length state.old.watches.pairs + 1) }
@@ -255,11 +218,8 @@ fn attach_open(state: &mut State) -> Result<(), Memory>
 /// Makes true, at level 0, what `sweep` finds in the clauses that watch nothing yet. Then makes
 /// those that are not satisfied watch two of their literals.
 pub fn settle_all(state: &mut State) -> Result<(), Memory>
-    requires state { IsState state.old }
-    requires base { state.old.levels.items ≡ [] }
-    ensures kept { IsState state.new }
-    ensures same { SameClauses state.old state.new }
-    ensures levels { state.new.levels.items ≡ state.old.levels.items }
+    requires { IsGround state.old }
+    ensures same { KeepsLevels state.old state.new }
     ensures full { OnOk result (IsFull state.new) }
 {
     let _found = sweep(state)?;
@@ -272,12 +232,8 @@ pub fn settle_all(state: &mut State) -> Result<(), Memory>
 
 /// Keeps how much is visited now, at level 0. It is used when later clauses are removed.
 pub fn keep(state: &mut State)
-    requires state { IsState state.old }
-    requires base { state.old.levels.items ≡ [] }
-    ensures kept { IsState state.new }
-    ensures same { SameClauses state.old state.new }
-    ensures levels { state.new.levels.items ≡ state.old.levels.items }
-    ensures entries { state.new.trail.entries.items ≡ state.old.trail.entries.items }
+    requires { IsGround state.old }
+    ensures same { KeepsLiterals state.old state.new }
     ensures all { state.new.kept.entries ≡ length state.old.trail.entries.items }
     ensures pairs { state.new.watches.pairs ≡ state.old.watches.pairs }
 {
@@ -291,7 +247,6 @@ pub fn keep(state: &mut State)
 /// How many of the first `most` literals come before the first one that makes a literal false which
 /// a clause from the index `from` on watches.
 fn unwatched(trail: &Trail, pairs: &Pairs, from: usize, most: usize) -> usize
-    requires placed { ArePlaced trail.now.entries.items trail.now.positions.items }
     ensures low { result ≤ most }
     ensures fresh { AreUnwatched trail.now.entries.items pairs.now from (length pairs.now) result }
 {
@@ -306,7 +261,6 @@ fn unwatched(trail: &Trail, pairs: &Pairs, from: usize, most: usize) -> usize
 
 /// For how many literals the clauses are still visited, of those that were kept as visited.
 fn still_visited(trail: &Trail, pairs: &Pairs, kept: Kept) -> usize
-    requires placed { ArePlaced trail.now.entries.items trail.now.positions.items }
     ensures low { result ≤ kept.visited }
     ensures fresh { AreUnwatched trail.now.entries.items pairs.now kept.count
         (length pairs.now) result }
@@ -338,11 +292,9 @@ fn leave(trail: &mut Trail, order: &mut Order, stays: usize, visited: usize) -> 
 /// Keeps the first `count` clauses, at level 0. Takes back the literals from the first one on whose
 /// reason is removed, and releases their variables.
 pub fn cut(state: &mut State, order: &mut Order, count: usize)
-    requires state { IsState state.old }
-    requires base { state.old.levels.items ≡ [] }
-    ensures kept { IsState state.new }
-    ensures positions { state.new.trail.positions.items ≡ state.old.trail.positions.items }
-    ensures levels { state.new.levels.items ≡ [] }
+    requires { IsGround state.old }
+    ensures ground { IsGround state.new }
+    ensures positions { SameRoom state.old state.new }
     ensures clauses { state.new.clauses ≡ take count state.old.clauses }
     ensures chains { state.new.chains ≡ take count state.old.chains }
 {
@@ -366,14 +318,10 @@ pub fn cut(state: &mut State, order: &mut Order, count: usize)
 pub fn widen(state: &mut State) -> Result<(), Memory>
     requires state { IsState state.old }
     requires fits { length state.old.trail.positions.items < 2 ^ 63 }
-    ensures kept { IsState state.new }
-    ensures levels { state.new.levels.items ≡ state.old.levels.items }
-    ensures clauses { state.new.clauses ≡ state.old.clauses }
-    ensures chains { state.new.chains ≡ state.old.chains }
+    ensures wider { IsWider state.old state.new }
     ensures ok { OnOk result (length state.new.trail.positions.items
         ≡ length state.old.trail.positions.items + 1) }
-    ensures err { OnErr result (length state.new.trail.positions.items
-        ≡ length state.old.trail.positions.items) }
+    ensures err { OnErr result (SameRoom state.old state.new) }
 {
     state.trail.widen()?;
     Ok(())

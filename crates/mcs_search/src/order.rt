@@ -1,8 +1,7 @@
 //! The order of decisions: which variable is decided next, and with which value.
 
-ghost use Rattle.std.specs.Prelude.{◌≡◌, ◌<◌, length, unsigned_abs, IfSome};
-ghost use Rattle.mcs_trace.specs.Clauses.{IsLiteral};
-ghost use Rattle.mcs_engine.specs.Trails.{ArePlaced, StandsNowhere};
+ghost use Rattle.std.specs.Prelude.{◌≡◌, ◌<◌, length, IfSome};
+ghost use Rattle.mcs_engine.specs.Trails.{IsFree};
 
 use mcs_base::Memory;
 use mcs_engine::{Blocks, Entry, Trail};
@@ -34,9 +33,7 @@ fn shrink_all(activities: &mut [u64]) {
 /// The variable, negated if `value` is false, if it is a variable of the trail and has no value
 /// there.
 fn free_literal(trail: &Trail, variable: usize, value: bool) -> Option<i64>
-    requires placed { ArePlaced trail.now.entries.items trail.now.positions.items }
-    ensures { IfSome result (λ l. IsLiteral l × (unsigned_abs l < length trail.now.positions.items)
-        × StandsNowhere trail.now.entries.items (unsigned_abs l)) }
+    ensures { IfSome result (IsFree trail.now.entries.items trail.now.positions.items) }
 {
     if variable == 0 || variable >= trail.positions.len() {
         return None;
@@ -175,10 +172,7 @@ impl Order {
     /// with its last value. It and the variables before it are removed from the heap. `None` if no
     /// variable of the heap is without a value.
     pub fn next(&mut self, trail: &Trail) -> Option<i64>
-        requires placed { ArePlaced trail.now.entries.items trail.now.positions.items }
-        ensures { IfSome result (λ l. IsLiteral l
-            × (unsigned_abs l < length trail.now.positions.items)
-            × StandsNowhere trail.now.entries.items (unsigned_abs l)) }
+        ensures { IfSome result (IsFree trail.now.entries.items trail.now.positions.items) }
     {
         while let Some((variable, value)) = self.pop() {
             let literal = free_literal(trail, variable as usize, value);
@@ -216,9 +210,7 @@ impl Order {
     /// Begins another search, at level 0. The counts for restarts are reset. The variables that
     /// were not looked at yet are put into the heap, if they have no value. If memory runs out,
     /// they are left out.
-    pub fn begin(&mut self, trail: &Trail)
-        requires placed { ArePlaced trail.now.entries.items trail.now.positions.items }
-    {
+    pub fn begin(&mut self, trail: &Trail) {
         self.conflicts = 0;
         self.limit = FIRST_LIMIT;
         for variable in self.seen..trail.positions.len() {

@@ -1,9 +1,9 @@
 //! A search over some of the clauses. What it learns is learnt by the whole.
 
-ghost use Rattle.std.specs.Prelude.{◌≡◌, [], ◌+◌, ◌<◌, length, IfOk, OnOk};
+ghost use Rattle.std.specs.Prelude.{◌≡◌, ◌+◌, ◌<◌, length, IfOk, OnOk};
 ghost use Rattle.mcs_search.specs.Parts.{IsGathered, IsPartState};
 ghost use Rattle.mcs_engine.specs.States.{IsState};
-ghost use Rattle.mcs_engine.specs.Stores.{IsLater};
+ghost use Rattle.mcs_engine.specs.Stores.{IsGround, IsLater, IsLaterGround};
 
 use crate::adding::{add, attach, push_unwatched};
 use crate::order::Order;
@@ -32,10 +32,9 @@ pub(crate) struct Part {
 
 /// Adds the clause with this index to the part.
 fn take_in(part: &mut Part, whole: &State, index: usize) -> Result<(), Memory>
-    requires whole { IsState whole.now }
     requires gathered { IsGathered whole.now part.old.state part.old.numbers.items }
     requires within { index < length whole.now.clauses }
-    ensures gathered { OnOk result (IsGathered whole.now part.new.state part.new.numbers.items) }
+    ensures { OnOk result (IsGathered whole.now part.new.state part.new.numbers.items) }
 {
     prove!(index < whole.clauses.len());
     add(&mut part.state, whole.clauses.row(index))?;
@@ -45,9 +44,8 @@ fn take_in(part: &mut Part, whole: &State, index: usize) -> Result<(), Memory>
 
 /// Adds to the part the reasons of the literals on the trail.
 fn take_reasons(part: &mut Part, whole: &State) -> Result<(), Memory>
-    requires whole { IsState whole.now }
-    requires gathered { IsGathered whole.now part.old.state part.old.numbers.items }
-    ensures gathered { OnOk result (IsGathered whole.now part.new.state part.new.numbers.items) }
+    requires { IsGathered whole.now part.old.state part.old.numbers.items }
+    ensures { OnOk result (IsGathered whole.now part.new.state part.new.numbers.items) }
 {
     for entry in &whole.trail.entries {
         if let Some(index) = entry.reason.checked_sub(1)
@@ -63,9 +61,8 @@ fn take_reasons(part: &mut Part, whole: &State) -> Result<(), Memory>
 /// no variable that is left out. If recent clauses are marked, it also has to be given, short, or
 /// one of these.
 fn is_taken(whole: &State, left_out: &[bool], recent: &[bool], index: usize) -> bool
-    requires within { index < length whole.now.clauses }
+    requires whole { IsState whole.now }
     requires paired { index < length whole.now.watches.pairs }
-    requires chains { length whole.now.chains ≡ length whole.now.clauses }
 {
     if whole.watches.pairs.get(index).first == 0 {
         return false;
@@ -85,9 +82,8 @@ fn take_some(
     left_out: &[bool],
     recent: &[bool],
 ) -> Result<(), Memory>
-    requires whole { IsState whole.now }
-    requires gathered { IsGathered whole.now part.old.state part.old.numbers.items }
-    ensures gathered { OnOk result (IsGathered whole.now part.new.state part.new.numbers.items) }
+    requires { IsGathered whole.now part.old.state part.old.numbers.items }
+    ensures { OnOk result (IsGathered whole.now part.new.state part.new.numbers.items) }
 {
     for index in 0..whole.watches.pairs.len() {
         if is_taken(whole, left_out, recent, index) {
@@ -105,9 +101,8 @@ fn take_all(
     left_out: &[bool],
     recent: &[bool],
 ) -> Result<(), Memory>
-    requires whole { IsState whole.now }
-    requires gathered { IsGathered whole.now part.old.state part.old.numbers.items }
-    ensures gathered { OnOk result (IsGathered whole.now part.new.state part.new.numbers.items) }
+    requires { IsGathered whole.now part.old.state part.old.numbers.items }
+    ensures { OnOk result (IsGathered whole.now part.new.state part.new.numbers.items) }
 {
     take_reasons(part, whole)?;
     take_some(part, whole, left_out, recent)
@@ -116,7 +111,7 @@ fn take_all(
 /// The part with the reasons of the literals on the trail and the clauses for which `is_taken`
 /// holds.
 fn part_of(alloc: Global, whole: &State, left_out: &[bool], recent: &[bool]) -> Result<Part, Memory>
-    requires whole { IsState whole.now }
+    requires { IsState whole.now }
     ensures { IfOk result (λ p. IsGathered whole.now p.state p.numbers.items) }
 {
     let vars = whole.trail.positions.len() as u64 - 1;
@@ -141,9 +136,8 @@ fn explore(
     order: &mut Order,
     turns: usize,
 ) -> Result<bool, Memory>
-    requires state { IsState state.old }
-    requires base { state.old.levels.items ≡ [] }
-    ensures later { IsLater state.old state.new }
+    requires { IsGround state.old }
+    ensures { IsLater state.old state.new }
 {
     attach(state)?;
     let mut found = run(state)?;
@@ -168,12 +162,10 @@ fn adopt_next(
     part: &State,
     numbers: &mut Vec<u64>,
 ) -> Result<(), Memory>
-    requires state { IsState state.old }
-    requires base { state.old.levels.items ≡ [] }
+    requires ground { IsGround state.old }
     requires part { IsPartState state.old part.now numbers.old.items }
     requires next { length numbers.old.items < length part.now.clauses }
-    ensures later { IsLater state.old state.new }
-    ensures base { state.new.levels.items ≡ [] }
+    ensures later { IsLaterGround state.old state.new }
     ensures part { OnOk result (IsPartState state.new part.now numbers.new.items) }
     ensures next { OnOk result (length numbers.new.items ≡ length numbers.old.items + 1) }
 {
@@ -193,13 +185,10 @@ fn adopt(
     part: &State,
     numbers: &mut Vec<u64>,
 ) -> Result<(), Memory>
-    requires state { IsState state.old }
-    requires base { state.old.levels.items ≡ [] }
+    requires ground { IsGround state.old }
     requires part { IsPartState state.old part.now numbers.old.items }
-    ensures later { IsLater state.old state.new }
-    ensures base { state.new.levels.items ≡ [] }
-    ensures part { OnOk result (IsPartState state.new part.now numbers.new.items) }
-    ensures all { OnOk result (length numbers.new.items ≡ length part.now.clauses) }
+    ensures later { IsLaterGround state.old state.new }
+    ensures all { OnOk result (IsGathered state.new part.now numbers.new.items) }
 {
     while numbers.len() < part.clauses.len() {
         adopt_next(alloc, state, part, numbers)?;
@@ -215,11 +204,9 @@ fn adopt_explored(
     part: &mut Part,
     explored: Result<bool, Memory>,
 ) -> Result<bool, Memory>
-    requires state { IsState state.old }
-    requires base { state.old.levels.items ≡ [] }
+    requires ground { IsGround state.old }
     requires part { IsPartState state.old part.old.state part.old.numbers.items }
-    ensures later { IsLater state.old state.new }
-    ensures base { state.new.levels.items ≡ [] }
+    ensures { IsLaterGround state.old state.new }
 {
     let ended = explored?;
     adopt(alloc, state, &part.state, &mut part.numbers)?;
@@ -236,10 +223,8 @@ fn search_part(
     recent: &[bool],
     turns: usize,
 ) -> Result<bool, Memory>
-    requires state { IsState state.old }
-    requires base { state.old.levels.items ≡ [] }
-    ensures later { IsLater state.old state.new }
-    ensures base { state.new.levels.items ≡ [] }
+    requires { IsGround state.old }
+    ensures { IsLaterGround state.old state.new }
 {
     let alloc = *state.levels.allocator();
     let mut part = part_of(alloc, state, left_out, recent)?;
@@ -253,10 +238,8 @@ fn search_part(
 /// If variables are left out, searches the clauses that have none of these, before any question,
 /// and learns what this search learns.
 pub fn search_left(state: &mut State, order: &mut Order, left_out: &[bool]) -> Result<(), Memory>
-    requires state { IsState state.old }
-    requires base { state.old.levels.items ≡ [] }
-    ensures later { IsLater state.old state.new }
-    ensures base { state.new.levels.items ≡ [] }
+    requires { IsGround state.old }
+    ensures { IsLaterGround state.old state.new }
 {
     if !left_out.is_empty() {
         search_part(state, order, left_out, &[], MOST_TURNS)?;
@@ -279,10 +262,8 @@ fn recent_of(alloc: Global, state: &State, most: usize) -> Result<Vec<bool>, Mem
 /// Searches the given clauses with the recently learnt ones for some turns, at level 0, and learns
 /// what this search learns. Returns whether it has ended.
 pub(crate) fn search_recent(state: &mut State, order: &mut Order) -> Result<bool, Memory>
-    requires state { IsState state.old }
-    requires base { state.old.levels.items ≡ [] }
-    ensures later { IsLater state.old state.new }
-    ensures base { state.new.levels.items ≡ [] }
+    requires { IsGround state.old }
+    ensures { IsLaterGround state.old state.new }
 {
     let alloc = *state.levels.allocator();
     let recent = recent_of(alloc, state, MOST_RECENT)?;

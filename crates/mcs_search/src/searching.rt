@@ -1,12 +1,10 @@
 //! The search: decisions, conflicts and restarts.
 
-ghost use Rattle.std.specs.Prelude.{◌≡◌, [], IfOk, OnOk};
-ghost use Rattle.std.specs.List.{AllByRecursion};
-ghost use Rattle.mcs_trace.specs.Clauses.{IsClause};
+ghost use Rattle.std.specs.Prelude.{IfOk};
 ghost use Rattle.mcs_engine.specs.States.{IsState};
-ghost use Rattle.mcs_engine.specs.Stores.{IsLater};
-ghost use Rattle.mcs_search.specs.Searches.{IsEnd, IsRun, IsSatSearch, IsTurned};
-ghost use Rattle.mcs_engine.specs.Trails.{IsFalse, IsFalseAt, IsOpen};
+ghost use Rattle.mcs_engine.specs.Stores.{IsGround, IsLater, IsLaterGround};
+ghost use Rattle.mcs_engine.specs.Trails.{IsFalse};
+ghost use Rattle.mcs_search.specs.Searches.{HasRun, IsEnd, IsSatSearch, IsTurned};
 
 use crate::adding::attach;
 use crate::order::Order;
@@ -32,10 +30,8 @@ pub(crate) enum Turn {
 /// Decides a literal without a value and propagates. If there is no such literal, all clauses are
 /// satisfied.
 fn choose(state: &mut State, order: &mut Order) -> Result<Turn, Memory>
-    requires search { IsSatSearch state.old }
-    requires open { AllByRecursion (IsOpen state.old.trail.entries.items) state.old.clauses }
+    requires { HasRun state.old None }
     ensures later { IsLater state.old state.new }
-    ensures kept { OnOk result (IsSatSearch state.new) }
     ensures turn { IfOk result (IsTurned state.old state.new) }
 {
     let literal = match order.next(&state.trail) {
@@ -61,9 +57,7 @@ fn raise(state: &State, order: &mut Order, numbers: &[u64]) {
 
 /// Puts back into the order the variables that lose their value when the clause is learnt.
 fn release(state: &State, order: &mut Order, literals: &[i64])
-    requires state { IsState state.now }
-    requires clause { IsClause literals.now }
-    requires all_false { IsFalse state.now.trail.entries.items literals.now }
+    requires { IsFalse state.now.trail.entries.items literals.now }
 {
     let Some(latest) = latest_of(&state.trail, literals) else {
         return;
@@ -83,10 +77,8 @@ fn turn_back(
     order: &mut Order,
     index: usize,
 ) -> Result<Turn, Memory>
-    requires search { IsSatSearch state.old }
-    requires conflict { IsFalseAt state.old.clauses state.old.trail.entries.items index }
+    requires { HasRun state.old (Some index) }
     ensures later { IsLater state.old state.new }
-    ensures kept { OnOk result (IsSatSearch state.new) }
     ensures turn { IfOk result (IsTurned state.old state.new) }
 {
     let Some(reach) = state.levels.last() else {
@@ -116,8 +108,7 @@ pub(crate) fn release_decided(state: &State, order: &mut Order) {
 /// Takes back all decisions, and puts their variables back into the order.
 pub fn go_back(state: &mut State, order: &mut Order)
     requires { IsState state.old }
-    ensures later { IsLater state.old state.new }
-    ensures base { state.new.levels.items ≡ [] }
+    ensures { IsLaterGround state.old state.new }
 {
     release_decided(state, order);
     back(state, 0);
@@ -127,8 +118,7 @@ pub fn go_back(state: &mut State, order: &mut Order)
 pub(crate) fn begin_anew(state: &mut State, order: &mut Order) -> Result<Option<usize>, Memory>
     requires { IsSatSearch state.old }
     ensures later { IsLater state.old state.new }
-    ensures kept { OnOk result (IsSatSearch state.new) }
-    ensures run { IfOk result (IsRun state.new) }
+    ensures run { IfOk result (HasRun state.new) }
 {
     release_decided(state, order);
     back(state, 0);
@@ -141,8 +131,7 @@ pub(crate) fn begin_anew(state: &mut State, order: &mut Order) -> Result<Option<
 fn renew(state: &mut State, order: &mut Order) -> Result<Option<usize>, Memory>
     requires { IsSatSearch state.old }
     ensures later { IsLater state.old state.new }
-    ensures kept { OnOk result (IsSatSearch state.new) }
-    ensures run { IfOk result (IsRun state.new) }
+    ensures run { IfOk result (HasRun state.new) }
 {
     if !order.is_hard() {
         return begin_anew(state, order);
@@ -166,10 +155,8 @@ pub(crate) fn take_turn(
     order: &mut Order,
     found: Option<usize>,
 ) -> Result<Turn, Memory>
-    requires search { IsSatSearch state.old }
-    requires run { IsRun state.old found }
+    requires { HasRun state.old found }
     ensures later { IsLater state.old state.new }
-    ensures kept { OnOk result (IsSatSearch state.new) }
     ensures turn { IfOk result (IsTurned state.old state.new) }
 {
     match found {
@@ -181,10 +168,8 @@ pub(crate) fn take_turn(
 /// Takes turns until all clauses are satisfied or one is false at level 0. Returns the index of the
 /// latter. What was known before stays known: clauses are learnt, and none is added as given.
 pub fn search(alloc: Global, state: &mut State, order: &mut Order) -> Result<Option<usize>, Memory>
-    requires state { IsState state.old }
-    requires base { state.old.levels.items ≡ [] }
+    requires { IsGround state.old }
     ensures later { IsLater state.old state.new }
-    ensures kept { OnOk result (IsSatSearch state.new) }
     ensures end { IfOk result (IsEnd state.new) }
 {
     attach(state)?;

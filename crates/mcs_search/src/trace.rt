@@ -1,16 +1,14 @@
 //! The trace of a solver, once a clause is false at level 0.
 
-ghost use Rattle.std.specs.Prelude.{◌≡◌, ℕ, [], ◌+◌, ◌<◌, ◌≤◌, ◌^◌, ◌⊎◌, false, IsTrue, IfOk, Some};
+ghost use Rattle.std.specs.Prelude.{◌≡◌, ℕ, [], ◌+◌, ◌<◌, ◌≤◌, ◌^◌, ◌⊎◌, false, IsTrue, IfOk};
 ghost use Rattle.std.specs.Prelude.{get_or, length, map};
-ghost use Rattle.std.specs.List.{AllByRecursion};
 ghost use Rattle.mcs_base.specs.Listings.{IsAmong};
 ghost use Rattle.mcs_trace.specs.Clauses.{IsClause};
 ghost use Rattle.mcs_trace.specs.Traces.{IsAcceptedTrace, IsChainResolvent, inference_of};
 ghost use Rattle.mcs_trace.specs.Traces.{inferences_of};
-ghost use Rattle.mcs_search.specs.Numbering.{AreMarked, AreChainsMarked, IsNumbering, IsRead};
-ghost use Rattle.mcs_search.specs.Numbering.{NameBelow, NamesAt, number_now};
-ghost use Rattle.mcs_engine.specs.States.{AreChains, IsState};
-ghost use Rattle.mcs_engine.specs.Stores.{given, given_count};
+ghost use Rattle.mcs_search.specs.Numbering.{AreMarked, AreChainsMarked, AreNeeded, IsNumbering};
+ghost use Rattle.mcs_search.specs.Numbering.{IsRead, IsStore, NameBelow, NamesAt, number_now};
+ghost use Rattle.mcs_engine.specs.Stores.{IsGround, given, given_count};
 ghost use Rattle.mcs_engine.specs.Trails.{IsFalseAt};
 
 use mcs_base::{Memory, Rows};
@@ -38,9 +36,7 @@ fn mark(needed: &mut Vec<bool>, numbers: &[u64])
 fn needed_for(alloc: Global, chains: &Chains, last: &[u64]) -> Result<Vec<bool>, Memory>
     requires chains { NamesAt chains.now }
     requires last { NameBelow (length chains.now) last.now }
-    ensures len { IfOk result (λ needed. length needed.items ≡ length chains.now) }
-    ensures last { IfOk result (λ needed. AreMarked needed.items last.now) }
-    ensures closed { IfOk result (λ needed. AreChainsMarked chains.now needed.items 0) }
+    ensures { IfOk result (λ needed. AreNeeded chains.now last.now needed.items) }
 {
     let mut needed = vec![in alloc; false; chains.len()]?;
     mark(&mut needed, last);
@@ -136,11 +132,9 @@ fn numbering_of(
     needed: &[bool],
     count: usize,
 ) -> Result<Numbering, Memory>
-    requires clauses { AllByRecursion IsClause clauses.now }
-    requires chains { AreChains clauses.now chains.now }
+    requires store { IsStore clauses.now chains.now count }
     requires len { length needed.now ≡ length chains.now }
     requires closed { AreChainsMarked chains.now needed.now 0 }
-    requires count { count ≡ given_count chains.now }
     requires fits { length clauses.now < 2 ^ 63 }
     ensures { IfOk result (IsNumbering clauses.now chains.now needed.now (length clauses.now)) }
 {
@@ -172,9 +166,7 @@ fn trace_to(
     count: usize,
     last: &Step,
 ) -> Result<Trace, Memory>
-    requires clauses { AllByRecursion IsClause clauses.now }
-    requires chains { AreChains clauses.now chains.now }
-    requires count { count ≡ given_count chains.now }
+    requires store { IsStore clauses.now chains.now count }
     requires last { IsChainResolvent clauses.now last.now.chain.items [] }
     requires empty { last.now.clause ≡ [] }
     ensures { IfOk result (λ trace. IsAcceptedTrace (given clauses.now chains.now)
@@ -201,8 +193,7 @@ fn trace_to(
 /// The trace that follows from the clause with this index, which is false at level 0. Of all
 /// clauses `count` are given, and the steps are numbered after these.
 pub fn trace_of(alloc: Global, state: &State, count: usize, index: usize) -> Result<Trace, Memory>
-    requires state { IsState state.now }
-    requires base { state.now.levels.items ≡ [] }
+    requires ground { IsGround state.now }
     requires conflict { IsFalseAt state.now.clauses state.now.trail.entries.items index }
     requires count { count ≡ given_count state.now.chains }
     ensures { IfOk result (λ trace. IsAcceptedTrace (given state.now.clauses state.now.chains)

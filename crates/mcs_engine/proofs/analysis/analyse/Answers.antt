@@ -20,12 +20,12 @@ marking_at c =
     let es : List Entry = c.args.trail.now.entries.items in
     let row : List ℤ = c.row.result.now in
     let none : c.in_ok-marks.marks.items ≡ replicate c.len.result false = c.in_ok-marks.ensures.items_if_clones_equal (λ y e. e) in
-    let sized : length c.mark_all.new.marks.items ≡ length es = (let ok = c.args.trail.now.entries.ok.0 in let ok' = c.in_ok-marks.marks.ok.0 in omega (arith, c.mark_all.ensures.sized, c.in_ok-marks.ensures.len, c.len.ensures)) in
+    let sized : length c.in_ok-marks.marks.items ≡ length es = (let ok = c.args.trail.now.entries.ok.0 in let ok' = c.in_ok-marks.marks.ok.0 in omega (arith, c.in_ok-marks.ensures.len, c.len.ensures)) in
     let (d, at, off) = c.requires.conflict in
     let both : Some d ≡ Some row = sym at ∙ c.row.ensures in
     let same : d ≡ row = cc in
-    marked-start es c.args.trail.now.positions.items row c.in_ok-marks.marks.items c.mark_all.new.marks.items c.requires.trail.placed (all_get IsClause known c.args.index row c.requires.trail.clauses c.row.ensures)
-    (subst (IsFalse es) same off) sized (λ q. subst (λ (xs : List Bool). ¬ IsVariableMarked xs q) (sym none) (none-marked c.len.result q)) c.mark_all.ensures.exactly
+    marked-start es c.args.trail.now.positions.items row c.in_ok-marks.marks.items c.mark_all.new.marks.items c.args.trail.now.placed (all_get IsClause known c.args.index row c.requires.trail.clauses c.row.ensures)
+    (subst (IsFalse es) same off) sized (λ q. subst (λ (xs : List Bool). ¬ IsVariableMarked xs q) (sym none) (none-marked c.len.result q)) c.mark_all.ensures
 
 pub resolve_back-requires-clause-marked : goal.resolve_back-requires-clause-marked
 resolve_back-requires-clause-marked c =
@@ -40,17 +40,17 @@ pub resolve_back-requires-clause-late : goal.resolve_back-requires-clause-late
 resolve_back-requires-clause-late c = late-marked c.args.trail.now.entries.items c.mark_all.new.marks.items c.row.result.now c.args.start (marking_at c) (c.requires.late c.row.result.now c.row.ensures)
 
 -- the clause that is learnt is that of the marks
-same_at : (c : After-drop-marks-2) → c.in_ok-shorten.ensures.marked.clause ≡ c.in_ok-clause.clause
+same_at : (c : After-drop-marks-2) → c.in_ok-shorten.ensures.resolved.marked.clause ≡ c.in_ok-clause.clause
 same_at c =
     let es : List Entry = c.args.trail.now.entries.items in
     let marks : List Bool = c.shorten.new.marks.items in
-    let m = c.in_ok-shorten.ensures.marked in
+    let m = c.in_ok-shorten.ensures.resolved.marked in
     let listing : IsListing (IsOfMarks es marks (length marks)) LiteralBefore c.in_ok-clause.clause = subst (λ (xs : List Bool). IsListing (IsOfMarks es xs (length xs)) LiteralBefore c.in_ok-clause.clause) c.deref.ensures.value c.in_ok-clause.ensures in
     same-clause es marks m.clause c.in_ok-clause.clause m.marking listing
 
 pub returns-clause-learnt : goal.returns-clause-learnt
 returns-clause-learnt c =
-    let m = c.in_ok-shorten.ensures.marked in
+    let m = c.in_ok-shorten.ensures.resolved.marked in
     record {
       chain = subst (IsChainResolvent c.args.clauses.now c.shorten.new.chain.items) (same_at c) m.right;
       all_false = subst (IsFalse c.args.trail.now.entries.items) (same_at c) m.marking.all_false;
@@ -63,15 +63,15 @@ returns-clause-chain c =
     let n : ℕ = c.args.index + 1 in
     let chain : c.push.new.self.items ≡ n ∷ [] = c.in_ok-push.ensures.items ∙ ap (λ (x : List ℕ). x ++ n ∷ []) c.new-chain.ensures.items in
     subst (λ (ns : List ℕ). GoesOnByReasons known es ns c.shorten.new.chain.items) chain
-    (reasons-more known es c.push.new.self.items c.resolve_back.new.chain.items c.shorten.new.chain.items c.in_ok-resolve_back.ensures.reasons c.in_ok-shorten.ensures.reasons)
+    (reasons-more known es c.push.new.self.items c.resolve_back.new.chain.items c.shorten.new.chain.items c.in_ok-resolve_back.ensures.resolved.reasons c.in_ok-shorten.ensures.resolved.reasons)
 
 pub returns-clause-single : goal.returns-clause-single
 returns-clause-single c = λ some.
     let es : List Entry = c.args.trail.now.entries.items in
-    let m = c.in_ok-shorten.ensures.marked in
-    subst (IsSingle es c.args.start) (same_at c) (single-marked es c.args.trail.now.positions.items c.shorten.new.marks.items m.clause c.args.start c.requires.trail.placed m.marking (c.in_ok-shorten.ensures.single some))
+    let m = c.in_ok-shorten.ensures.resolved.marked in
+    subst (IsSingle es c.args.start) (same_at c) (single-marked es c.args.trail.now.positions.items c.shorten.new.marks.items m.clause c.args.start c.args.trail.now.placed m.marking (c.in_ok-shorten.ensures.single some))
 
 pub returns-clause-empty : goal.returns-clause-empty
 returns-clause-empty c = λ past.
-    let m = c.in_ok-shorten.ensures.marked in
+    let m = c.in_ok-shorten.ensures.resolved.marked in
     sym (same_at c) ∙ free-empty c.args.trail.now.entries.items c.shorten.new.marks.items m.clause m.marking (c.in_ok-shorten.ensures.past past)

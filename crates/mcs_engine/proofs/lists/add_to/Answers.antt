@@ -15,11 +15,11 @@ pub returns-clause-ok : goal.returns-clause-ok
 returns-clause-ok c =
     let at = (goal.at.returns-clause-ok c).After-index_mut in
     on_ok_weaker c.add_index.result
-    (λ pushed. row-set_same c.make_rows.new.rows.items c.args.at c.add_index.new.indices (within at) ∙ pushed ∙ ap (λ (row : List ℕ). row ++ c.args.index ∷ []) (sym (row_is at) ∙ c.make_rows.ensures.same c.args.at))
+    (λ pushed. record {
+      here = row-set_same c.make_rows.new.rows.items c.args.at c.add_index.new.indices (within at) ∙ pushed ∙ ap (λ (row : List ℕ). row ++ c.args.index ∷ []) (sym (row_is at) ∙ c.make_rows.ensures.same c.args.at);
+      others = λ p differ. row-set_other c.make_rows.new.rows.items c.args.at p c.add_index.new.indices differ ∙ c.make_rows.ensures.same p;
+    })
     c.add_index.ensures.ok
-
-pub returns-clause-others : goal.returns-clause-others
-returns-clause-others c = λ p differ. row-set_other c.make_rows.new.rows.items c.args.at p c.add_index.new.indices differ ∙ c.make_rows.ensures.same p
 
 pub returns-clause-err : goal.returns-clause-err
 returns-clause-err c =

@@ -16,7 +16,7 @@ pub loop-place-preserved : goal.loop-place-preserved
 loop-place-preserved c =
     let es : List Entry = c.args.trail.now.entries.items in
     let l : ℤ = c.negated.result in
-    let less : c.loop-place.place < length es = (let sized = c.requires.sized in omega arith) in
-    let is : IsLiteral l = subst IsLiteral (sym c.negated.ensures) (neg_literal (literal_at es c.loop-place.place) (c.requires.placed c.loop-place.place less).0) in
+    let less : c.loop-place.place < length es = (let sized = c.requires in omega arith) in
+    let is : IsLiteral l = subst IsLiteral (sym c.negated.ensures) (neg_literal (literal_at es c.loop-place.place) (c.args.trail.now.placed c.loop-place.place less).0) in
     of_marks-more es c.args.marks.now c.loop-place.place c.loop-place.clause c.insert.new.self c.if-not-marks-place.false c.loop-place.invariant
     (subst (λ (x : ℤ). IsListing (λ (k : ℤ). (k ≡ x) ⊎ IsAmong k c.loop-place.clause) LiteralBefore c.insert.new.self) (read_literal l is ∙ c.negated.ensures) c.in_ok-insert.ensures.ok)

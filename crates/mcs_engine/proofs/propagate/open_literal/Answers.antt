@@ -19,14 +19,14 @@ loop-literal-preserved c =
     let entries = c.args.trail.now.entries.items in
     let i : ℕ = c.loop-literal.literal-index in
     let x : ℤ = get_or c.args.literals.now i (pos 0) in
-    let read : to_z w64 (of_z w64 x) ≡ x = to_z-of_z (fits c.args.literals.now i c.requires.clause c.loop-literal-test.true) in
+    let read : to_z w64 (of_z w64 x) ≡ x = to_z-of_z (fits c.args.literals.now i c.requires.0 c.loop-literal-test.true) in
     let other : ℤ = to_z w64 (of_z w64 c.args.other) in
     let read' : other ≡ c.args.other = to_z-of_z c.ranges.other in
     elim c.else-literal-other.branch [
       | else-literal-other-via-then-literal-other+else-not-is_false w ↦
           false_below-more entries c.args.literals.now other i c.loop-literal-test.true (inr (subst (λ (k : ℤ). IsOn entries (neg_ℤ k)) read (w.is_false.ensures.0 w.if-not-is_false.false))) c.loop-literal.invariant
       | else-literal-other-via-else-literal-other w ↦
-          let same : x ≡ c.args.other = same_literal x c.args.other (fits c.args.literals.now i c.requires.clause c.loop-literal-test.true) c.ranges.other w.if-literal-other.false in
+          let same : x ≡ c.args.other = same_literal x c.args.other (fits c.args.literals.now i c.requires.0 c.loop-literal-test.true) c.ranges.other w.if-literal-other.false in
           false_below-more entries c.args.literals.now other i c.loop-literal-test.true (inl (same ∙ sym read')) c.loop-literal.invariant
     ]
 
@@ -34,7 +34,7 @@ pub returns-then-not-is_false : goal.returns-then-not-is_false
 returns-then-not-is_false c =
     let i : ℕ = c.loop-literal.literal-index in
     let x : ℤ = get_or c.args.literals.now i (pos 0) in
-    let read : to_z w64 (of_z w64 x) ≡ x = to_z-of_z (fits c.args.literals.now i c.requires.clause c.loop-literal-test.true) in (
+    let read : to_z w64 (of_z w64 x) ≡ x = to_z-of_z (fits c.args.literals.now i c.requires.0 c.loop-literal-test.true) in (
       subst (λ (k : ℤ). IsAmong k c.args.literals.now) (sym read) (among_at c.args.literals.now i (pos 0) c.loop-literal-test.true),
       λ e. c.if-literal-other.true (ap (of_z w64) (sym read ∙ e)),
       λ off. true≢false (sym (c.is_false.ensures.1 off) ∙ c.if-not-is_false.true),

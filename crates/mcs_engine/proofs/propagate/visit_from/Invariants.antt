@@ -1,13 +1,11 @@
 use Rattle.std.proofs.Common.{◌≤◌, ◌-◌, ℕ, length}
-use Rattle.mcs_engine.specs.Trails.{IsTrail}
-use Rattle.mcs_engine.specs.Watching.{IsReached}
-use Rattle.mcs_engine.proofs.Keeping.{Extends, KeepsWatches}
+use Rattle.mcs_engine.specs.Extending.{Extends}
+use Rattle.mcs_engine.specs.Watching.{IsReached, KeepsWatches}
 use Rattle.mcs_engine.proofs.propagate.visit_from.Given as goal
 
 abbrev pub invariant-loop-from : goal.invariant-loop-from
 invariant-loop-from l = record {
-  trail : IsTrail l.clauses l.trail;
-  kept : Extends l.level l.initial.trail l.trail;
+  trail : Extends l.clauses l.level l.initial.trail l.trail;
   watches : KeepsWatches l.clauses l.initial.watches l.watches l.initial.trail.entries.items;
   bound : l.from ≤ length l.trail.entries.items;
   now : (settled : ℕ) → IsReached l.clauses l.initial.watches l.initial.trail.entries.items (record { entries = length l.initial.trail.entries.items; visited = l.initial.from; settled = settled })

@@ -1,14 +1,13 @@
 use Rattle.std.proofs.Common.{◌-◌, length}
+use Rattle.mcs_engine.specs.Extending.{Extends}
 use Rattle.mcs_engine.specs.Lists.{list_at}
-use Rattle.mcs_engine.specs.Trails.{IsTrail}
+use Rattle.mcs_engine.specs.Watching.{KeepsWatches}
 use Rattle.mcs_engine.proofs.WatchLemmas.{ArePassed}
-use Rattle.mcs_engine.proofs.Keeping.{Extends, KeepsWatches}
 use Rattle.mcs_engine.proofs.propagate.visit_list.Given as goal
 
 abbrev pub invariant-loop-at : goal.invariant-loop-at
 invariant-loop-at l = record {
-  trail : IsTrail l.clauses l.trail;
-  kept : Extends l.level l.initial.trail l.trail;
+  trail : Extends l.clauses l.level l.initial.trail l.trail;
   watches : KeepsWatches l.clauses l.initial.watches l.watches l.initial.trail.entries.items;
   passed : ArePassed l.clauses (list_at l.watches.lists l.list) l.trail.entries.items l.at;
 }

@@ -1,12 +1,11 @@
-use Rattle.std.proofs.Common.{◌≡◌, ◌≤◌, [], length}
+use Rattle.std.proofs.Common.{◌≤◌, length}
 use Rattle.mcs_engine.specs.States.{IsFull}
-use Rattle.mcs_engine.specs.Stores.{IsLater}
+use Rattle.mcs_engine.specs.Stores.{IsLaterGround}
 use Rattle.mcs_sat.proofs.flatten.flatten_from.Given as goal
 
 abbrev pub invariant-loop-index : goal.invariant-loop-index
 invariant-loop-index l = record {
-  later : IsLater l.fn.state l.state;
-  base : l.state.levels.items ≡ [];
+  later : IsLaterGround l.fn.state l.state;
   full : IsFull l.state;
   longer : length l.fn.state.clauses ≤ length l.state.clauses;
 }

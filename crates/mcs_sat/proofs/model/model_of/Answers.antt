@@ -13,7 +13,7 @@ loop-variable-preserved c =
     let es = c.args.trail.now.entries.items in
     let v : ℕ = c.loop-variable.variable in
     let b : Bool = c.is_true.result in
-    let bound : v < 2 ^ 63 = (let ok = c.args.trail.now.positions.ok.0 in omega arith) in
+    let bound : v < 2 ^ 63 = (let ok = c.args.trail.now.positions.ok.0 in let fits = c.args.trail.now.fits in omega arith) in
     let new : c.push.new.self.items ≡ c.loop-variable.model.items ++ b ∷ [] = c.in_ok-push.ensures.items in
     let here : IsTrue b ↔ IsOn es (pos v) = subst (λ (l : ℤ). IsTrue b ↔ IsOn es l) (to_z_pos w64 v bound) c.is_true.ensures in
     record {

@@ -19,10 +19,10 @@ returns-in_ok-model_of-in-None-clause-exact c =
     let same = later-given old s c.requires.state c.search.ensures.later in
     let all : AllByRecursion (IsClauseSatisfied es) (given old.clauses old.chains) = subst (AllByRecursion (IsClauseSatisfied es)) same (given-all (IsClauseSatisfied es) s.clauses s.chains end) in
     let model = c.in_ok-model_of-in-None in
-    (model.ensures.len, all-on es s.trail.positions.items (assignment_of model.field-0.items) c.args.vars c.in_ok-search.ensures.kept.state.trail.placed model.ensures.values (given old.clauses old.chains) c.requires.within all)
+    (model.ensures.len, all-on es s.trail.positions.items (assignment_of model.field-0.items) c.args.vars s.trail.placed model.ensures.values (given old.clauses old.chains) c.requires.within all)
 
 pub returns-in-Some-clause-exact : goal.returns-in-Some-clause-exact
 returns-in-Some-clause-exact c =
     let s = c.search.new.state in
     let (off, base) = subst (IsEnd s) c.in-Some.is c.in_ok-search.ensures.end in
-    subst IsUnsatisfiable (later-given c.args.state.now s c.requires.state c.search.ensures.later) (refuted-given s c.in-Some._index c.in_ok-search.ensures.kept.state base off)
+    subst IsUnsatisfiable (later-given c.args.state.now s c.requires.state c.search.ensures.later) (refuted-given s c.in-Some._index c.search.ensures.later.state base off)

@@ -1,5 +1,5 @@
 use Rattle.std.proofs.Common.{◌-◌, length}
-use Rattle.mcs_engine.proofs.Keeping.{KeepsLiterals}
+use Rattle.mcs_engine.specs.States.{KeepsLiterals}
 use Rattle.mcs_search.proofs.adding.attach.Given as goal
 
 abbrev pub invariant-loop-state : goal.invariant-loop-state

@@ -8,5 +8,5 @@ returns-clause-fresh c =
     let es : List Entry = c.args.trail.now.entries.items in
     let one = c.false_before-first.ensures in
     let two = c.false_before.ensures in
-    fresh-pair es c.false_before-first.result c.false_before.result c.args.pair c.requires.literals.0 c.requires.literals.1 two.low
+    fresh-pair es c.false_before-first.result c.false_before.result c.args.pair c.requires.0 c.requires.1 two.low
     (as-read es c.false_before-first.result c.args.pair.first one.fresh) (as-read es c.false_before.result c.args.pair.second two.fresh)

@@ -1,10 +1,10 @@
 use Rattle.std.proofs.Common.{◌≡◌, ◌-◌, length}
-use Rattle.mcs_engine.proofs.Keeping.{KeepsState}
+use Rattle.mcs_engine.specs.States.{KeepsLevels}
 use Rattle.mcs_search.proofs.adding.settle_all.Given as goal
 
 abbrev pub invariant-loop-state : goal.invariant-loop-state
 invariant-loop-state l = record {
-  state : KeepsState l.fn.state l.state;
+  state : KeepsLevels l.fn.state l.state;
   all : l.state.kept.entries ≡ length l.state.trail.entries.items;
 }
 

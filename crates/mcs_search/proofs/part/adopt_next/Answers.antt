@@ -1,9 +1,9 @@
 use Rattle.std.proofs.Common.{◌≡◌, ◌∙◌, ◌++◌, ◌∷◌, [], List, ℕ, inr, map, subst, sym, ap, arith, Some, length, slice_get}
 use Rattle.mcs_trace.specs.Traces.{IsChainResolvent}
 use Rattle.mcs_search.specs.Numbering.{NameBelow, number_now}
-use Rattle.mcs_engine.specs.Stores.{IsLater}
-use Rattle.mcs_search.proofs.PartLemmas.{next-below, next-covered, next-right, part-adopted}
-use Rattle.mcs_engine.proofs.StoreLemmas.{later-learnt}
+use Rattle.mcs_engine.specs.Stores.{IsLaterGround}
+use Rattle.mcs_search.proofs.PartLemmas.{next-below, next-over, next-right, part-adopted}
+use Rattle.mcs_engine.proofs.StoreLemmas.{keeps-store, later-learnt, later-same}
 use Rattle.mcs_search.proofs.part.adopt_next.Goals.{After-deref-2, After-row, After-row-2, In_ok-learnt}
 use Rattle.mcs_search.proofs.part.adopt_next.Goals as goal
 
@@ -27,23 +27,36 @@ right c row chain =
     subst (λ (ns : List ℕ). IsChainResolvent c.args.state.now.clauses ns c.row-2.result.now) (sym (c.deref-2.ensures.value ∙ renumbered))
     (next-right c.args.state.now c.args.part.now c.args.numbers.now.items c.row-2.result.now c.row.result.now c.requires.part row chain)
 
-later : (c : In_ok-learnt) → IsChainResolvent c.args.state.now.clauses c.deref-2.result.now c.row-2.result.now → IsLater c.args.state.now c.push_unwatched-learnt.new.state
+later : (c : In_ok-learnt) → IsChainResolvent c.args.state.now.clauses c.deref-2.result.now c.row-2.result.now → IsLaterGround c.args.state.now c.push_unwatched-learnt.new.state
 later c right =
-    let e = c.push_unwatched-learnt.ensures in
-    later-learnt c.args.state.now c.push_unwatched-learnt.new.state c.row-2.result.now c.deref-2.result.now e.kept e.positions c.in_ok-learnt.ensures.clauses c.in_ok-learnt.ensures.chains right
+    let k = c.push_unwatched-learnt.ensures.kept in
+    let e = c.in_ok-learnt.ensures.ok in
+    record {
+      later = later-learnt c.args.state.now c.push_unwatched-learnt.new.state c.row-2.result.now c.deref-2.result.now k.state k.positions e.clauses e.chains right;
+      base = k.levels ∙ c.requires.ground.base;
+    }
 
 pub renumbered-requires : goal.renumbered-requires
 renumbered-requires c =
     subst (λ (ns : List ℕ). NameBelow (length ns) c.row.result.now) (sym c.deref.ensures.value)
     (next-below c.args.state.now c.args.part.now c.args.numbers.now.items c.row.result.now c.requires.part (chain_at c))
 
-pub push_unwatched-learnt-requires-clause-covered : goal.push_unwatched-learnt-requires-clause-covered
-push_unwatched-learnt-requires-clause-covered c =
-    let at = goal.at.push_unwatched-learnt-requires-clause-covered c in
-    next-covered c.args.state.now c.args.part.now c.args.numbers.now.items c.row-2.result.now c.row.result.now c.requires.part (row_at at.After-row-2) (chain_at at.After-row)
+pub push_unwatched-learnt-requires-clause-clause : goal.push_unwatched-learnt-requires-clause-clause
+push_unwatched-learnt-requires-clause-clause c =
+    let at = goal.at.push_unwatched-learnt-requires-clause-clause c in
+    next-over c.args.state.now c.args.part.now c.args.numbers.now.items c.row-2.result.now c.row.result.now c.requires.part (row_at at.After-row-2) (chain_at at.After-row)
 
 pub push_unwatched-learnt-requires-clause-chain : goal.push_unwatched-learnt-requires-clause-chain
 push_unwatched-learnt-requires-clause-chain c = let at = goal.at.push_unwatched-learnt-requires-clause-chain c in inr (right c (row_at at.After-row-2) (chain_at at.After-row))
+
+pub returns-in_err-learnt-clause-later : goal.returns-in_err-learnt-clause-later
+returns-in_err-learnt-clause-later c =
+    let k = c.push_unwatched-learnt.ensures.kept in
+    let e = c.in_err-learnt.ensures.err in
+    record {
+      later = later-same c.args.state.now c.push_unwatched-learnt.new.state (keeps-store c.args.state.now c.push_unwatched-learnt.new.state k e c.push_unwatched-learnt.ensures.pairs);
+      base = k.levels ∙ c.requires.ground.base;
+    }
 
 pub returns-in_err-push-clause-later : goal.returns-in_err-push-clause-later
 returns-in_err-push-clause-later c =
@@ -59,4 +72,4 @@ pub returns-clause-part : goal.returns-clause-part
 returns-clause-part c =
     let new = c.push_unwatched-learnt.new.state in
     let numbers : c.push.new.self.items ≡ c.args.numbers.now.items ++ length new.clauses ∷ [] = c.in_ok-push.ensures.items ∙ ap (λ (n : ℕ). c.args.numbers.now.items ++ n ∷ []) c.len.ensures in
-    part-adopted c.args.state.now new c.args.part.now c.args.numbers.now.items c.push.new.self.items c.row-2.result.now c.requires.part c.push_unwatched-learnt.ensures.positions c.in_ok-learnt.ensures.clauses (row_at (goal.at.returns-clause-part c).After-row-2) numbers
+    part-adopted c.args.state.now new c.args.part.now c.args.numbers.now.items c.push.new.self.items c.row-2.result.now c.deref-2.result.now c.requires.part c.push_unwatched-learnt.ensures.kept c.in_ok-learnt.ensures.ok (row_at (goal.at.returns-clause-part c).After-row-2) numbers

@@ -3,19 +3,20 @@ use Rattle.mcs_search.specs.declared.searching.Turn.TheVariants as turn
 use Rattle.mcs_search.specs.Searches.{IsTurned, work_left, work_of}
 use Rattle.mcs_base.proofs.NumberCases.{rounds_fall}
 use Rattle.mcs_search.proofs.WorkLemmas.{work_left-bound}
-use Rattle.mcs_search.proofs.SearchLemmas.{run-is, search-base, search-run}
+use Rattle.mcs_search.proofs.SearchLemmas.{search-base, search-run}
 use Rattle.mcs_engine.proofs.StoreLemmas.{later-same, later-then}
 use Rattle.mcs_search.proofs.searching.search.Goals as goal
 
 pub loop-left-init : goal.loop-left-init
 loop-left-init c =
-    let a = c.attach.ensures in
+    let a = c.attach.ensures.same.same in
     let r = c.in_ok-found.ensures in
-    let full = c.in_ok-attach.ensures.full in
     record {
-      later = later-then c.args.state.now c.attach.new.state c.run.new.state (later-same c.args.state.now c.attach.new.state a.kept a.same) (later-same c.attach.new.state c.run.new.state r.kept r.same);
-      kept = search-run c.attach.new.state c.run.new.state (search-base c.attach.new.state a.kept full (a.levels ∙ c.requires.base)) r.kept r.same r.levels r.grows r.full;
-      run = run-is c.run.new.state c.in_ok-found.found r.open r.conflict;
+      later = later-then c.args.state.now c.attach.new.state c.run.new.state (later-same c.args.state.now c.attach.new.state a.same) (later-same c.attach.new.state c.run.new.state r.same.same);
+      run = record {
+        search = search-run c.attach.new.state c.run.new.state (search-base c.attach.new.state a.same.state c.in_ok-attach.ensures.full (a.levels ∙ c.requires.base)) r.same r.grows;
+        run = r.run;
+      };
     }
 
 pub loop-left-smaller-then-is_due : goal.loop-left-smaller-then-is_due
@@ -33,7 +34,6 @@ returns-in_err-found-2-clause-later c = later-then c.args.state.now c.loop-left.
 pub loop-left-preserved-then-is_due : goal.loop-left-preserved-then-is_due
 loop-left-preserved-then-is_due c = record {
   later = later-then c.args.state.now c.loop-left.state c.renew.new.state c.loop-left.invariant.later c.renew.ensures.later;
-  kept = c.in_ok-found-2.ensures.kept;
   run = c.in_ok-found-2.ensures.run;
 }
 
@@ -51,6 +51,5 @@ loop-left-preserved c =
     let turn : IsTurned c.loop-left.state c.take_turn.new.state (turn.Goes c.in-Goes.next) = subst (IsTurned c.loop-left.state c.take_turn.new.state) c.in-Goes.is c.in_ok-next.ensures.turn in
     record {
       later = later-then c.args.state.now c.loop-left.state c.take_turn.new.state c.loop-left.invariant.later c.take_turn.ensures.later;
-      kept = c.in_ok-next.ensures.kept;
       run = turn.0;
     }

@@ -37,7 +37,11 @@ loop-index-preserved c =
           (subst (AreChainsMarked c.args.chains.now c.loop-index.needed.items) back before.closed);
     }
 
-pub returns-clause-closed : goal.returns-clause-closed
-returns-clause-closed c =
+pub returns : goal.returns
+returns c =
     let end : c.loop-index.index ≡ 0 = omega arith in
-    subst (AreChainsMarked c.args.chains.now c.loop-index.needed.items) end c.loop-index.invariant.closed
+    record {
+      sized = c.loop-index.invariant.sized;
+      named = c.loop-index.invariant.last;
+      closed = subst (AreChainsMarked c.args.chains.now c.loop-index.needed.items) end c.loop-index.invariant.closed;
+    }

@@ -14,9 +14,6 @@ within c = c.in_ok-make_rows.ensures.within
 block_is : (c : After-index_mut) → row_at c.make_rows.new.rows.items (c.args.place / 512) ≡ c.index_mut.result.now.items
 block_is c = row-read c.make_rows.new.rows.items (c.args.place / 512) c.index_mut.result.now (within c) c.index_mut.ensures.value
 
-pub returns-in_err-make_rows-clause-others : goal.returns-in_err-make_rows-clause-others
-returns-in_err-make_rows-clause-others c = λ p differ. list-same c.args.self.now _ c.make_rows.ensures.same p
-
 pub returns-in_err-make_rows-clause-err : goal.returns-in_err-make_rows-clause-err
 returns-in_err-make_rows-clause-err c =
     elim c.from_residual.result as (λ r. OnErr r ((p : ℕ) → list_at (record { blocks = c.make_rows.new.rows }) p ≡ list_at c.args.self.now p)) [
@@ -29,17 +26,14 @@ returns-clause-ok c =
     let at = (goal.at.returns-clause-ok c).After-index_mut in
     let before : Lists = record { blocks = c.make_rows.new.rows } in
     on_ok_weaker c.add_to.result
-    (λ pushed. list-set_same before _ c.args.place c.add_to.new.block (within at) refl ∙ pushed ∙ ap (λ (list : List ℕ). list ++ c.args.index ∷ [])
-    (ap (λ (rows : List (Vec ℕ Global)). row_at rows (c.args.place % 512)) (sym (block_is at)) ∙ list-is before c.args.place ∙ list-same c.args.self.now before c.make_rows.ensures.same c.args.place))
+    (λ pushed. record {
+      here = list-set_same before _ c.args.place c.add_to.new.block (within at) refl ∙ pushed.here ∙ ap (λ (list : List ℕ). list ++ c.args.index ∷ [])
+          (ap (λ (rows : List (Vec ℕ Global)). row_at rows (c.args.place % 512)) (sym (block_is at)) ∙ list-is before c.args.place ∙ list-same c.args.self.now before c.make_rows.ensures.same c.args.place);
+      others = λ p differ. list-set_other before _ c.args.place c.add_to.new.block (within at) refl
+          (λ j apart. pushed.others j apart ∙ ap (λ (rows : List (Vec ℕ Global)). row_at rows j) (sym (block_is at))) p differ
+          ∙ list-same c.args.self.now before c.make_rows.ensures.same p;
+    })
     c.add_to.ensures.ok
-
-pub returns-clause-others : goal.returns-clause-others
-returns-clause-others c = λ p differ.
-    let at = (goal.at.returns-clause-others c).After-index_mut in
-    let before : Lists = record { blocks = c.make_rows.new.rows } in
-    list-set_other before _ c.args.place c.add_to.new.block (within at) refl
-    (λ j apart. c.add_to.ensures.others j apart ∙ ap (λ (rows : List (Vec ℕ Global)). row_at rows j) (sym (block_is at))) p differ
-    ∙ list-same c.args.self.now before c.make_rows.ensures.same p
 
 pub returns-clause-err : goal.returns-clause-err
 returns-clause-err c =

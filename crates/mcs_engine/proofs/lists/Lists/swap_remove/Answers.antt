@@ -44,13 +44,11 @@ pub returns-clause-list : goal.returns-clause-list
 returns-clause-list c =
     let at = (goal.at.returns-clause-list c).After-index_mut in
     let is = list-read c.args.self.now c.args.place c.index_mut.result.now c.index_mut-2.result.now (block_at at) (list_within at) c.index_mut-2.ensures.value in
-    list-set_same c.args.self.now _ c.args.place _ (block_within at) refl
-    ∙ row-set_same c.index_mut.result.now.items (c.args.place % 512) c.swap_remove.new.self (list_within at)
-    ∙ c.swap_remove.ensures.items
-    ∙ ap (λ (xs : List ℕ). swap_remove xs c.args.at c.swap_remove.result) (sym is)
-
-pub returns-clause-others : goal.returns-clause-others
-returns-clause-others c = λ p differ.
-    let at = (goal.at.returns-clause-others c).After-index_mut in
-    list-set_other c.args.self.now _ c.args.place _ (block_within at) refl
-    (λ j apart. row-set_other c.index_mut.result.now.items (c.args.place % 512) j c.swap_remove.new.self apart ∙ ap (λ (rows : List (Vec ℕ Global)). row_at rows j) (sym (block_at at))) p differ
+    record {
+      here = list-set_same c.args.self.now _ c.args.place _ (block_within at) refl
+          ∙ row-set_same c.index_mut.result.now.items (c.args.place % 512) c.swap_remove.new.self (list_within at)
+          ∙ c.swap_remove.ensures.items
+          ∙ ap (λ (xs : List ℕ). swap_remove xs c.args.at c.swap_remove.result) (sym is);
+      others = λ p differ. list-set_other c.args.self.now _ c.args.place _ (block_within at) refl
+          (λ j apart. row-set_other c.index_mut.result.now.items (c.args.place % 512) j c.swap_remove.new.self apart ∙ ap (λ (rows : List (Vec ℕ Global)). row_at rows j) (sym (block_at at))) p differ;
+    }

@@ -16,10 +16,10 @@ neg_fits l is =
 
 pub overflow_sub-result : goal.overflow_sub-result
 overflow_sub-result c =
-    let read : c.index.result.now.literal ≡ literal_at c.args.self.now.entries.items c.args.place = literal-read c.args.self.now.entries.items c.args.place c.index.result.now c.requires.within c.index.ensures in
-    neg_fits c.index.result.now.literal (subst IsLiteral (sym read) (c.requires.placed c.args.place c.requires.within).0)
+    let read : c.index.result.now.literal ≡ literal_at c.args.self.now.entries.items c.args.place = literal-read c.args.self.now.entries.items c.args.place c.index.result.now c.requires c.index.ensures in
+    neg_fits c.index.result.now.literal (subst IsLiteral (sym read) (c.args.self.now.placed c.args.place c.requires).0)
 
 pub returns : goal.returns
 returns c =
-    let read : c.index.result.now.literal ≡ literal_at c.args.self.now.entries.items c.args.place = literal-read c.args.self.now.entries.items c.args.place c.index.result.now c.requires.within c.index.ensures in
-    turned c.index.result.now.literal (subst IsLiteral (sym read) (c.requires.placed c.args.place c.requires.within).0) ∙ ap neg_ℤ read
+    let read : c.index.result.now.literal ≡ literal_at c.args.self.now.entries.items c.args.place = literal-read c.args.self.now.entries.items c.args.place c.index.result.now c.requires c.index.ensures in
+    turned c.index.result.now.literal (subst IsLiteral (sym read) (c.args.self.now.placed c.args.place c.requires).0) ∙ ap neg_ℤ read

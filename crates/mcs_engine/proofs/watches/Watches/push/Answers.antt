@@ -1,22 +1,23 @@
-use Rattle.std.proofs.Common.{◌∙◌, ◌++◌, ◌∷◌, [], List, ℤ, Option, IfSome, ap, sym, subst}
+use Rattle.std.proofs.Common.{ℤ, Option, IfSome, refl, sym, subst}
 use Rattle.mcs_trace.specs.Clauses.{IsLiteral}
 use Rattle.mcs_trace.proofs.OrderLemmas.{read_literal}
 use Rattle.mcs_engine.specs.declared.watches.Pair.{Pair}
-use Rattle.mcs_engine.specs.Watching.{IsInList, IsPushed}
+use Rattle.mcs_engine.specs.Lists.{IsInList}
+use Rattle.mcs_engine.specs.Watching.{IsPushed}
 use Rattle.mcs_engine.proofs.watches.Watches.push.Goals as goal
 
-pub returns-in_err-list-in-Some-2-clause-kept : goal.returns-in_err-list-in-Some-2-clause-kept
-returns-in_err-list-in-Some-2-clause-kept c = record { listed = λ l i listed. c.list-in-Some.ensures.kept l i (c.list.ensures.kept l i listed) }
+pub returns-in_err-add-in-Some-2-clause-kept : goal.returns-in_err-add-in-Some-2-clause-kept
+returns-in_err-add-in-Some-2-clause-kept c = record { listed = λ l i listed. c.add-in-Some.ensures.kept.listed l i (c.add.ensures.kept.listed l i listed) }
 
 pub returns-in_err-push-in-Some-clause-kept : goal.returns-in_err-push-in-Some-clause-kept
-returns-in_err-push-in-Some-clause-kept c = record { listed = λ l i listed. c.list-in-Some.ensures.kept l i (c.list.ensures.kept l i listed) }
+returns-in_err-push-in-Some-clause-kept c = record { listed = λ l i listed. c.add-in-Some.ensures.kept.listed l i (c.add.ensures.kept.listed l i listed) }
 
 pub returns-in_ok-push-in-Some-clause-kept : goal.returns-in_ok-push-in-Some-clause-kept
-returns-in_ok-push-in-Some-clause-kept c = record { listed = λ l i listed. c.list-in-Some.ensures.kept l i (c.list.ensures.kept l i listed) }
+returns-in_ok-push-in-Some-clause-kept c = record { listed = λ l i listed. c.add-in-Some.ensures.kept.listed l i (c.add.ensures.kept.listed l i listed) }
 
 -- ---- what stays as it is
-pub returns-in_err-list-in-Some-clause-kept : goal.returns-in_err-list-in-Some-clause-kept
-returns-in_err-list-in-Some-clause-kept c = record { listed = c.list.ensures.kept }
+pub returns-in_err-add-in-Some-clause-kept : goal.returns-in_err-add-in-Some-clause-kept
+returns-in_err-add-in-Some-clause-kept c = c.add.ensures.kept
 
 pub returns-in-Err-clause-kept : goal.returns-in-Err-clause-kept
 returns-in-Err-clause-kept c = record { listed = λ l i listed. listed }
@@ -33,11 +34,11 @@ returns-in_ok-push-in-Some-clause-pushed c =
     let p : Pair = c.in-Some.pair in
     let last = c.len-index.ensures in
     let literals = subst (λ (o : Option Pair). IfSome o (λ q. IsLiteral q.first × IsLiteral q.second)) c.in-Some.is c.requires.literals in
-    let first : IsInList c.list.new.self.lists p.first c.len-index.result = subst (λ (l : ℤ). IsInList c.list.new.self.lists l c.len-index.result) (read_literal p.first literals.0) c.in_ok-list-in-Some.ensures.listed in
-    let second : IsInList c.list-in-Some.new.self.lists p.second c.len-index.result = subst (λ (l : ℤ). IsInList c.list-in-Some.new.self.lists l c.len-index.result) (read_literal p.second literals.1) c.in_ok-list-in-Some-2.ensures.listed in
-    subst (IsPushed old (record { pairs = c.push.new.self; lists = c.list-in-Some.new.self.lists; short = c.list-in-Some.new.self.short })) (sym c.in-Some.is) (
-      c.in_ok-push-in-Some.ensures.ok ∙ ap (λ (ps : List Pair). ps ++ p ∷ []) (c.list-in-Some.ensures.pairs ∙ c.list.ensures.pairs),
-      c.list-in-Some.ensures.short ∙ c.list.ensures.short,
-      subst (IsInList c.list-in-Some.new.self.lists p.first) last (c.list-in-Some.ensures.kept p.first c.len-index.result first),
-      subst (IsInList c.list-in-Some.new.self.lists p.second) last second,
+    let first : IsInList c.add.new.self p.first c.len-index.result = subst (λ (l : ℤ). IsInList c.add.new.self l c.len-index.result) (read_literal p.first literals.0) c.in_ok-add-in-Some.ensures.listed in
+    let second : IsInList c.add-in-Some.new.self p.second c.len-index.result = subst (λ (l : ℤ). IsInList c.add-in-Some.new.self l c.len-index.result) (read_literal p.second literals.1) c.in_ok-add-in-Some-2.ensures.listed in
+    subst (IsPushed old (record { pairs = c.push.new.self; lists = c.add-in-Some.new.self; short = old.short })) (sym c.in-Some.is) (
+      c.in_ok-push-in-Some.ensures.ok,
+      refl,
+      subst (IsInList c.add-in-Some.new.self p.first) last (c.add-in-Some.ensures.kept.listed p.first c.len-index.result first),
+      subst (IsInList c.add-in-Some.new.self p.second) last second,
     )

@@ -21,7 +21,7 @@ pub unreachable-requires : goal.unreachable-requires
 unreachable-requires c =
     let s : State = c.self.inside.state in
     let none : slice_get s.levels.items (length s.levels.items - 1) ≡ None = subst (λ (xs : List Reach). slice_get xs (length xs - 1) ≡ None) c.deref.ensures.value (sym c.last.ensures.value ∙ ap option_copied c.in-None.is) in
-    omega (arith, slice_get_none s.levels.items (length s.levels.items - 1) none, some-levels s c.args.self.now c.self.invariant.0 c.self.view_is c.requires.level)
+    omega (arith, slice_get_none s.levels.items (length s.levels.items - 1) none, some-levels s c.args.self.now c.self.invariant.state c.self.view_is c.requires.level)
 
 pub analyse-requires-clause-conflict : goal.analyse-requires-clause-conflict
 analyse-requires-clause-conflict c = (number-false c.self.inside.state c.args.conflict (subst (λ (v : SolverView). IsFalseNumber v c.args.conflict) (sym c.self.view_is) c.requires.conflict)).1
@@ -29,27 +29,27 @@ analyse-requires-clause-conflict c = (number-false c.self.inside.state c.args.co
 pub analyse-requires-clause-late : goal.analyse-requires-clause-late
 analyse-requires-clause-late c = λ clause at.
     let s : State = c.self.inside.state in
-    let some : 0 < length s.levels.items = some-levels s c.args.self.now c.self.invariant.0 c.self.view_is c.requires.level in
+    let some : 0 < length s.levels.items = some-levels s c.args.self.now c.self.invariant.state c.self.view_is c.requires.level in
     let last : IsLastLevel s.levels.items c.in-Some.reach.now = last-found s.levels.items c.deref.result.now c.last.result c.in-Some.reach c.deref.ensures.value c.last.ensures.value c.in-Some.is in
-    last-late s c.in-Some.reach.now c.self.invariant.0 some last clause
+    last-late s c.in-Some.reach.now c.self.invariant.state some last clause
     (subst (λ (v : SolverView). AllByRecursion (IsOpenUnder (trues_below v.levels (last_level v))) v.clauses) (sym c.self.view_is) c.requires.before)
     (among_get clause s.clauses (c.args.conflict - 1) at)
 
 pub analyse-requires-clause-implied : goal.analyse-requires-clause-implied
 analyse-requires-clause-implied c =
     let s : State = c.self.inside.state in
-    let some : 0 < length s.levels.items = some-levels s c.args.self.now c.self.invariant.0 c.self.view_is c.requires.level in
+    let some : 0 < length s.levels.items = some-levels s c.args.self.now c.self.invariant.state c.self.view_is c.requires.level in
     let last : IsLastLevel s.levels.items c.in-Some.reach.now = last-found s.levels.items c.deref.result.now c.last.result c.in-Some.reach c.deref.ensures.value c.last.ensures.value c.in-Some.is in
-    last-implied s c.in-Some.reach.now c.self.invariant.0 some last
+    last-implied s c.in-Some.reach.now c.self.invariant.state some last
 
 pub returns-clause-step : goal.returns-clause-step
 returns-clause-step c =
     let s : State = c.self.inside.state in
-    let some : 0 < length s.levels.items = some-levels s c.args.self.now c.self.invariant.0 c.self.view_is c.requires.level in
+    let some : 0 < length s.levels.items = some-levels s c.args.self.now c.self.invariant.state c.self.view_is c.requires.level in
     let last : IsLastLevel s.levels.items c.in-Some.reach.now = last-found s.levels.items c.deref.result.now c.last.result c.in-Some.reach c.deref.ensures.value c.last.ensures.value c.in-Some.is in
     let r : Reach = c.in-Some.reach.now in
     IfOk-both (IsLearnt s.clauses s.trail.entries.items) (λ (step : Step). r.entries + 1 ≤ length s.trail.entries.items → IsSingle s.trail.entries.items r.entries step.clause) (IsAsserting c.args.self.now)
-    (λ step learnt single. subst (λ (v : SolverView). IsAsserting v step) c.self.view_is (asserting s r step c.self.invariant.0 some last learnt single))
+    (λ step learnt single. subst (λ (v : SolverView). IsAsserting v step) c.self.view_is (asserting s r step c.self.invariant.state some last learnt single))
     c.analyse.result c.analyse.ensures.learnt c.analyse.ensures.single
 
 pub returns-clause-begins : goal.returns-clause-begins

@@ -1,10 +1,9 @@
-use Rattle.std.proofs.Common.{ℕ, ◌+◌, ◌↔◌, List, ℤ, Option, Some, None, IfSome, is_some, IsTrue, true≢false, refl, sym, subst}
-use Rattle.std.specs.List.{AllByRecursion}
-use Rattle.std.specs.Option.{IfNone}
+use Rattle.std.proofs.Common.{ℕ, ◌+◌, ◌↔◌, List, ℤ, Option, Some, None, is_some, IsTrue, true≢false, refl, sym, subst}
 use Rattle.mcs_base.proofs.Results.{IfOk-from_ok, IfOk-from_is_err}
 use Rattle.mcs_engine.specs.declared.state.State.{State}
 use Rattle.mcs_sat.specs.Solvers.{GoesOn, IsUnitRun, LeadsToConflict, SolverView, trues}
-use Rattle.mcs_engine.specs.Trails.{IsFalseAt, IsOpen, levels_of}
+use Rattle.mcs_engine.specs.Trails.{levels_of}
+use Rattle.mcs_search.specs.Searches.{IsRun}
 use Rattle.mcs_sat.proofs.SolverLemmas.{false-number, grown-conflict, grown-goes_on, grown-no_conflict, opens-under}
 use Rattle.mcs_sat.proofs.solver.Solver.propagate.Goals as goal
 use Rattle.mcs_sat.proofs.solver.Solver.propagate.Goals.{in-Ok-Some+else-prove, in-Ok-None, in-Err}
@@ -18,8 +17,8 @@ returns-clause-run c =
     let s : State = c.self.inside.state in
     let new : State = c.run_or_restore.new.state in
     elim c.match-run_or_restore.branch [
-      | in-Ok-Some+else-prove w ↦ IfOk-from_ok (λ o. IsRunOn new c.args.self.now) c.match-run_or_restore.result (Some (w.in-Ok-Some.index + 1)) w.result-is (subst (IsRunOn new) c.self.view_is (grown-goes_on s new (w.in-Ok-Some.ensures.kept, w.in-Ok-Some.ensures.same.clauses, w.in-Ok-Some.ensures.grows)))
-      | in-Ok-None w ↦ IfOk-from_ok (λ o. IsRunOn new c.args.self.now) c.match-run_or_restore.result None w.result-is (subst (IsRunOn new) c.self.view_is (grown-goes_on s new (w.in-Ok-None.ensures.kept, w.in-Ok-None.ensures.same.clauses, w.in-Ok-None.ensures.grows)))
+      | in-Ok-Some+else-prove w ↦ IfOk-from_ok (λ o. IsRunOn new c.args.self.now) c.match-run_or_restore.result (Some (w.in-Ok-Some.index + 1)) w.result-is (subst (IsRunOn new) c.self.view_is (grown-goes_on s new (w.in-Ok-Some.ensures.same.state, w.in-Ok-Some.ensures.same.clauses, w.in-Ok-Some.ensures.grows)))
+      | in-Ok-None w ↦ IfOk-from_ok (λ o. IsRunOn new c.args.self.now) c.match-run_or_restore.result None w.result-is (subst (IsRunOn new) c.self.view_is (grown-goes_on s new (w.in-Ok-None.ensures.same.state, w.in-Ok-None.ensures.same.clauses, w.in-Ok-None.ensures.grows)))
       | in-Err w ↦ IfOk-from_is_err (λ o. IsRunOn new c.args.self.now) c.match-run_or_restore.result w.in-Err.error w.result-is
     ]
 
@@ -29,7 +28,7 @@ returns-clause-open c =
     let new : State = c.run_or_restore.new.state in
     elim c.match-run_or_restore.branch [
       | in-Ok-Some+else-prove w ↦ IfOk-from_ok _ c.match-run_or_restore.result (Some (w.in-Ok-Some.index + 1)) w.result-is tt
-      | in-Ok-None w ↦ IfOk-from_ok _ c.match-run_or_restore.result None w.result-is (opens-under new (subst (λ (o : Option ℕ). IfNone o (AllByRecursion (IsOpen new.trail.entries.items) new.clauses)) w.in-Ok-None.field-0-is w.in-Ok-None.ensures.«open»))
+      | in-Ok-None w ↦ IfOk-from_ok _ c.match-run_or_restore.result None w.result-is (opens-under new (subst (IsRun new) w.in-Ok-None.field-0-is w.in-Ok-None.ensures.run))
       | in-Err w ↦ IfOk-from_is_err _ c.match-run_or_restore.result w.in-Err.error w.result-is
     ]
 
@@ -37,7 +36,7 @@ pub returns-clause-conflict : goal.returns-clause-conflict
 returns-clause-conflict c =
     let new : State = c.run_or_restore.new.state in
     elim c.match-run_or_restore.branch [
-      | in-Ok-Some+else-prove w ↦ IfOk-from_ok _ c.match-run_or_restore.result (Some (w.in-Ok-Some.index + 1)) w.result-is (false-number new w.in-Ok-Some.index (w.in-Ok-Some.index + 1) refl (subst (λ (o : Option ℕ). IfSome o (IsFalseAt new.clauses new.trail.entries.items)) w.in-Ok-Some.field-0-is w.in-Ok-Some.ensures.conflict))
+      | in-Ok-Some+else-prove w ↦ IfOk-from_ok _ c.match-run_or_restore.result (Some (w.in-Ok-Some.index + 1)) w.result-is (false-number new w.in-Ok-Some.index (w.in-Ok-Some.index + 1) refl (subst (IsRun new) w.in-Ok-Some.field-0-is w.in-Ok-Some.ensures.run))
       | in-Ok-None w ↦ IfOk-from_ok _ c.match-run_or_restore.result None w.result-is tt
       | in-Err w ↦ IfOk-from_is_err _ c.match-run_or_restore.result w.in-Err.error w.result-is
     ]
@@ -52,14 +51,14 @@ returns-clause-exact c =
     let new : State = c.run_or_restore.new.state in
     elim c.match-run_or_restore.branch [
       | in-Ok-Some+else-prove w ↦ IfOk-from_ok (IsExactly c.args.self.now) c.match-run_or_restore.result (Some (w.in-Ok-Some.index + 1)) w.result-is (
-        λ yes. subst (λ (v : SolverView). LeadsToConflict v.clauses (trues v)) c.self.view_is (grown-conflict s new w.in-Ok-Some.index (w.in-Ok-Some.ensures.kept, w.in-Ok-Some.ensures.same.clauses, w.in-Ok-Some.ensures.grows)
-            (subst (λ (o : Option ℕ). IfSome o (IsFalseAt new.clauses new.trail.entries.items)) w.in-Ok-Some.field-0-is w.in-Ok-Some.ensures.conflict)),
+        λ yes. subst (λ (v : SolverView). LeadsToConflict v.clauses (trues v)) c.self.view_is (grown-conflict s new w.in-Ok-Some.index (w.in-Ok-Some.ensures.same.state, w.in-Ok-Some.ensures.same.clauses, w.in-Ok-Some.ensures.grows)
+            (subst (IsRun new) w.in-Ok-Some.field-0-is w.in-Ok-Some.ensures.run)),
         λ leads. refl,
       )
       | in-Ok-None w ↦ IfOk-from_ok (IsExactly c.args.self.now) c.match-run_or_restore.result None w.result-is (
         λ yes. absurd (true≢false (sym yes)),
-        λ leads. absurd (grown-no_conflict s new (w.in-Ok-None.ensures.kept, w.in-Ok-None.ensures.same.clauses, w.in-Ok-None.ensures.grows)
-            (subst (λ (o : Option ℕ). IfNone o (AllByRecursion (IsOpen new.trail.entries.items) new.clauses)) w.in-Ok-None.field-0-is w.in-Ok-None.ensures.«open»)
+        λ leads. absurd (grown-no_conflict s new (w.in-Ok-None.ensures.same.state, w.in-Ok-None.ensures.same.clauses, w.in-Ok-None.ensures.grows)
+            (subst (IsRun new) w.in-Ok-None.field-0-is w.in-Ok-None.ensures.run)
             (subst (λ (v : SolverView). LeadsToConflict v.clauses (trues v)) (sym c.self.view_is) leads)),
       )
       | in-Err w ↦ IfOk-from_is_err (IsExactly c.args.self.now) c.match-run_or_restore.result w.in-Err.error w.result-is

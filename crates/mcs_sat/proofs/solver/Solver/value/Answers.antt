@@ -18,4 +18,4 @@ returns-clause-value c =
     (value-seen es l c.value.result (subst (λ (k : ℤ). MatchOption c.value.result (StandsNowhere es (unsigned_abs k)) (λ v. MatchBool v (IsOn es k) (IsOn es (neg_ℤ k)))) read c.value.ensures))
 
 pub returns-clause-kept : goal.returns-clause-kept
-returns-clause-kept c = subst IsSolver c.self.view_is (is-solver c.self.inside.state c.self.invariant.0)
+returns-clause-kept c = subst IsSolver c.self.view_is (is-solver c.self.inside.state c.self.invariant.state)
