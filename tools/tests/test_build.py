@@ -134,7 +134,7 @@ esac
         status, _, noted = self.built(SAYS + MAKES)
         first, *lines, last = noted.splitlines()
         self.assertEqual(status, 0)
-        self.assertRegex(first, "^build: 4 crates to prove; ")
+        self.assertRegex(first, "^build: 4 crates to prove$")
         self.assertEqual(lines, [
             "build: 1 of 4 crates, 23 % of the work, 0:00 minutes: low was proved by an earlier run",
             "build: 2 of 4 crates, 46 % of the work, 0:00 minutes: sums is proved, 12 functions",
@@ -211,7 +211,7 @@ exit 1""")
             run.stderr.close()
             self.assertEqual(run.wait(), 130)
             self.assertRegex(lines[1], "^build: 1 of 4 crates.*: low was proved by an earlier run\n$")
-            self.assertRegex(lines[-1], "^build: stopped; ")
+            self.assertRegex(lines[-1], "^build: stopped$")
             with open(os.path.join(self.room, "process")) as file:
                 self.assertFalse(os.path.exists(f"/proc/{file.read().strip()}"))
             self.assertNothingIsLeft()
