@@ -7,3 +7,5 @@ pub mod QuestionLemmas
 pub mod CountLemmas
 pub mod RuleCounts
 pub mod AllNear
+pub mod SetTable
+pub mod FewestLemmas

@@ -22,7 +22,7 @@ module _ (rules removable forcible : ℕ) (sets : List ℕ) (inside : AllByRecur
   abbrev pub Step : ℕ → ℕ → Type 0
   Step s x = IsChanged removable (common forcible rules) s x
 
-  near_listed : (x : ℕ) → IsAmong x sets → Near 0 x
+  abbrev pub near_listed : (x : ℕ) → IsAmong x sets → Near 0 x
   near_listed x among = record {
     of_rules = all_among (λ s. Within s rules) sets x inside among;
     set = x;
@@ -37,7 +37,7 @@ module _ (rules removable forcible : ℕ) (sets : List ℕ) (inside : AllByRecur
       (within_where_none h.set x (none_from_size (minus h.set x) (omega (arith, h.near))))
       (within_where_none x h.set (none_from_size (minus x h.set) (omega (arith, h.near))))) h.listed
 
-  near_without : (n m y r : ℕ) → n < m → Near n y → has removable r ≡ true → Near m (minus y (single r))
+  abbrev pub near_without : (n m y r : ℕ) → n < m → Near n y → has removable r ≡ true → Near m (minus y (single r))
   near_without n m y r less h may = record {
     of_rules = λ k is. h.of_rules k (minus_within y (single r) k is);
     set = h.set;
@@ -54,7 +54,7 @@ module _ (rules removable forcible : ℕ) (sets : List ℕ) (inside : AllByRecur
     );
   }
 
-  near_with : (n m y r : ℕ) → n < m → Near n y → has forcible r ≡ true → has rules r ≡ true → Near m (union y (single r))
+  abbrev pub near_with : (n m y r : ℕ) → n < m → Near n y → has forcible r ≡ true → has rules r ≡ true → Near m (union y (single r))
   near_with n m y r less h may known = record {
     of_rules = with_within y r rules h.of_rules known;
     set = h.set;
@@ -78,7 +78,7 @@ module _ (rules removable forcible : ℕ) (sets : List ℕ) (inside : AllByRecur
       subst (λ (z : ℕ). Near m z) (sym e) (near_with n m y r less h may known)
 
   -- a removed rule is put back
-  put_back : (n x : ℕ) (h : Near (suc n) x) (r : ℕ) → has (minus h.set x) r ≡ true → Near n (union x (single r)) × Step (union x (single r)) x
+  abbrev pub put_back : (n x : ℕ) (h : Near (suc n) x) (r : ℕ) → has (minus h.set x) r ≡ true → Near n (union x (single r)) × Step (union x (single r)) x
   put_back n x h r is = (
     record {
       of_rules = with_within x r rules h.of_rules (all_among (λ s. Within s rules) sets h.set inside h.listed r member);
@@ -107,7 +107,7 @@ module _ (rules removable forcible : ℕ) (sets : List ℕ) (inside : AllByRecur
       ]
 
   -- a forced rule is taken out
-  taken_out : (n x : ℕ) (h : Near (suc n) x) (r : ℕ) → has (minus x h.set) r ≡ true → Near n (minus x (single r)) × Step (minus x (single r)) x
+  abbrev pub taken_out : (n x : ℕ) (h : Near (suc n) x) (r : ℕ) → has (minus x h.set) r ≡ true → Near n (minus x (single r)) × Step (minus x (single r)) x
   taken_out n x h r is = (
     record {
       of_rules = λ k is'. h.of_rules k (minus_within x (single r) k is');

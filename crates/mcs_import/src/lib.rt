@@ -3,6 +3,7 @@
 #![tactic(auto, using(mcs_sets::proofs::SetLemmas::sets_fit))]
 
 mod context_set;
+mod fewest;
 mod laws;
 mod near;
 mod order;

@@ -6,11 +6,12 @@ ghost use Rattle.mcs_sets.specs.Sets.{union, minus, single, size, Within};
 ghost use Rattle.mcs_base.specs.Listings.{IsAmong, IsAscending, IsListing};
 ghost use Rattle.mcs_import.specs.Near.{IsMadeBy, IsNextNear, IsNear};
 
+use crate::fewest::{MOST_IN_TABLE, near_by_table};
 use mcs_base::{Active, Memory, list_rule_sets};
 use std::alloc::Global;
 
 /// Whether the set is among these, which are ascending as numbers.
-fn is_listed(sets: &[Active], set: Active) -> bool
+pub(crate) fn is_listed(sets: &[Active], set: Active) -> bool
     requires { IsAscending (λ (a b : ℕ). a < b) sets.now }
     ensures { IsTrue result ↔ IsAmong set sets.now }
 {
@@ -95,11 +96,10 @@ fn are_all(count: usize, rules: Active) -> bool
     rules < 32 && 1 << rules <= count as u64
 }
 
-/// The sets that at most `level` changes make of one of the sets: each once, ascending as numbers.
-/// A change removes one of the removable rules, or forces one of the forcible ones. Only the sets
-/// that the last change reached are changed again, and none once all sets of the rules were
+/// The sets that at most `level` changes make of one of the sets, as `near_sets` gives them. Only the
+/// sets that the last change reached are changed again, and none once all sets of the rules were
 /// reached.
-pub(crate) fn near_sets(
+fn near_by_walk(
     alloc: Global,
     rules: Active,
     removable: Active,
@@ -128,4 +128,46 @@ pub(crate) fn near_sets(
         list_rule_sets(&mut reached);
     }
     Ok(reached)
+}
+
+/// Whether a table is likely to be cheaper than a walk: where the rules are few, and the walk would
+/// come to many of their sets, but has not come to all. A step is taken to reach eight times as many.
+fn is_for_table(count: usize, rules: Active, level: u32) -> bool
+    ensures { IsTrue result → size rules ≤ 16 }
+{
+    let most = rules.count();
+    if most > MOST_IN_TABLE {
+        return false;
+    }
+    let reach = match level {
+        0 => 1,
+        1 => 8,
+        2 => 64,
+        3 => 512,
+        _ => 4096,
+    };
+    let all = 1 << most;
+    count < all && count.saturating_mul(reach) > all
+}
+
+/// The sets that at most `level` changes make of one of the sets: each once, ascending as numbers.
+/// A change removes one of the removable rules, or forces one of the forcible ones.
+pub(crate) fn near_sets(
+    alloc: Global,
+    rules: Active,
+    removable: Active,
+    forcible: Active,
+    sets: Vec<Active>,
+    level: u32,
+) -> Result<Vec<Active>, Memory>
+    requires ascending { IsAscending (λ (a b : ℕ). a < b) sets.items }
+    requires of_rules { AllByRecursion (λ s. Within s rules) sets.items }
+    ensures { IfOk result (λ near.
+        IsListing (IsNear rules removable forcible sets.items level) (λ a b. a < b) near.items) }
+{
+    if is_for_table(sets.len(), rules, level) {
+        near_by_table(alloc, rules, removable, forcible, &sets, level)
+    } else {
+        near_by_walk(alloc, rules, removable, forcible, sets, level)
+    }
 }

@@ -6,7 +6,7 @@ use Rattle.mcs_import.specs.Near.{IsNear, IsChanged}
 use Rattle.mcs_import.proofs.NearLemmas.{near_begins, near_levels, next_same}
 use Rattle.mcs_base.proofs.Walks.{walk_goes_on, walk_ends}
 use Rattle.mcs_import.proofs.AllNear.{all_near}
-use Rattle.mcs_import.proofs.near.near_sets.Goals as goal
+use Rattle.mcs_import.proofs.near.near_by_walk.Goals as goal
 
 pub loop-init : goal.loop-init
 loop-init c = near_begins c.args.rules c.args.removable c.args.forcible c.args.sets.items c.requires.of_rules c.requires.ascending c.extend_from_slice.new.self.items c.args.sets.items
