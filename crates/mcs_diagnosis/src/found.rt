@@ -1,11 +1,10 @@
 //! The diagnoses of one level.
 
-ghost use Rattle.std.specs.Prelude.{◌≡◌, false, IfOk, IfErr, OnOk};
-ghost use Rattle.mcs_states.specs.Evaluators.{KeepsRest, HasDone, HasHalted, HasHaltCause};
-ghost use Rattle.mcs_states.specs.Evaluators.{IsHaltOf};
+ghost use Rattle.std.specs.Prelude.{◌≡◌, IfOk};
+ghost use Rattle.mcs_states.specs.Calls.{CanEvaluate, Evaluates, AsksEvaluator};
 ghost use Rattle.mcs_sets.specs.Sets.{size};
 ghost use Rattle.mcs_system.specs.Repairs.{IsDiagnosis};
-ghost use Rattle.mcs_diagnosis.specs.Diagnoses.{AreShownDiagnoses, ShowsFirstState, active_in};
+ghost use Rattle.mcs_diagnosis.specs.Diagnoses.{AreShownDiagnoses, IsShownOf, active_in};
 
 use crate::diagnosis::Diagnosis;
 use mcs_base::{Active, Pair, Vars};
@@ -33,16 +32,10 @@ fn show<E: Evaluator>(
     system: &System,
     pair: Pair,
 ) -> Result<Diagnosis, Halt>
-    requires going { (E.stands evaluator.old).halted ≡ false }
-    requires same { (E.stands evaluator.old).system ≡ system.now }
+    requires can { CanEvaluate system.now (E.stands evaluator.old) }
     requires diagnosis { IsDiagnosis system.now pair }
-    ensures pair { IfOk result (λ shown. shown.pair ≡ pair) }
-    ensures shown { IfOk result (λ shown. ShowsFirstState system.now shown) }
-    ensures done { OnOk result (HasDone (E.stands evaluator.old) (E.stands evaluator.new)
-        (size pair)) }
-    ensures halt { IfErr result (HasHalted (E.stands evaluator.old) (E.stands evaluator.new)
-        (size pair)) }
-    ensures rest { KeepsRest (E.stands evaluator.old) (E.stands evaluator.new) }
+    ensures shown { IfOk result (IsShownOf system.now pair) }
+    ensures call { Evaluates (size pair) (E.stands evaluator.old) (E.stands evaluator.new) result }
 {
     let state = least_state(alloc, evaluator, pair)?.unwrap();
     Ok(Diagnosis {
@@ -60,13 +53,9 @@ pub fn diagnoses_of<E: Evaluator>(
     system: &System,
     level: u32,
 ) -> Result<Vec<Diagnosis>, Halt>
-    requires going { (E.stands evaluator.old).halted ≡ false }
-    requires same { (E.stands evaluator.old).system ≡ system.now }
+    requires { CanEvaluate system.now (E.stands evaluator.old) }
     ensures found { IfOk result (λ found. AreShownDiagnoses system.now level found.items) }
-    ensures done { OnOk result (HasDone (E.stands evaluator.old) (E.stands evaluator.new) level) }
-    ensures cause { IfErr result (HasHaltCause (E.stands evaluator.old) level) }
-    ensures told { IfErr result (IsHaltOf (E.stands evaluator.new)) }
-    ensures rest { KeepsRest (E.stands evaluator.old) (E.stands evaluator.new) }
+    ensures call { AsksEvaluator level (E.stands evaluator.old) (E.stands evaluator.new) result }
 {
     let pairs = evaluator.repairs(alloc, level)?;
     let mut found = Vec::new(alloc);

@@ -1,10 +1,11 @@
 //! Minimal diagnoses, level by level.
 
-ghost use Rattle.std.specs.Prelude.{◌≡◌, ◌↔◌, false, IsTrue, IfOk, IfErr, OnErr};
+ghost use Rattle.std.specs.Prelude.{◌≡◌, ◌↔◌, false, IsTrue, IfOk, IfErr};
 ghost use Rattle.std.specs.Arc.{arc_value};
-ghost use Rattle.mcs_states.specs.Evaluators.{KeepsRest, HasHaltCause, IsHaltOf};
+ghost use Rattle.mcs_states.specs.Calls.{CanEvaluate};
+ghost use Rattle.mcs_states.specs.Evaluators.{KeepsRest};
 ghost use Rattle.mcs_diagnosis.specs.Courses.{IsPast};
-ghost use Rattle.mcs_diagnosis.specs.Taken.{IsLevel, HasTaken};
+ghost use Rattle.mcs_diagnosis.specs.Taken.{HasTaken, HasHaltedAt};
 
 use crate::diagnosis::Level;
 use crate::found::diagnoses_of;
@@ -39,8 +40,7 @@ impl<E: Evaluator> Model for Levels<E> {
 impl<E: Evaluator> Levels<E> {
     /// The levels of the system, from level 0 on, found by an evaluator of this system.
     pub fn new(evaluator: E, system: Arc<System>) -> Levels<E>
-        requires same { (E.stands evaluator).system ≡ arc_value system }
-        requires going { (E.stands evaluator).halted ≡ false }
+        requires { CanEvaluate (arc_value system) (E.stands evaluator) }
         ensures { result ≡ record { evaluator = evaluator; level = 0 } }
     {
         let _few = system.bridges();
@@ -65,13 +65,8 @@ impl<E: Evaluator> Levels<E> {
     /// call of this level has; the evaluator has then halted with them.
     pub fn next(&mut self, alloc: Global) -> Result<Level, Halt>
         requires { (E.stands self.old.evaluator).halted ≡ false }
-        ensures level { IfOk result (IsLevel (E.stands self.old.evaluator).system self.old.level) }
         ensures taken { IfOk result (HasTaken E.stands self.old self.new) }
-        ensures cause { IfErr result (HasHaltCause (E.stands self.old.evaluator) self.old.level) }
-        ensures not_past { OnErr result (¬ IsPast
-            (E.stands self.old.evaluator).system self.old.level) }
-        ensures told { IfErr result (IsHaltOf (E.stands self.new.evaluator)) }
-        ensures stays { OnErr result (self.new.level ≡ self.old.level) }
+        ensures halted { IfErr result (HasHaltedAt E.stands self.old self.new) }
         ensures rest { KeepsRest (E.stands self.old.evaluator) (E.stands self.new.evaluator) }
     {
         if self.is_past() {

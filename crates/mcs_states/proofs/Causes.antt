@@ -38,10 +38,3 @@ pub told : (a b : EvaluatorState) (level : ℕ) (halt : Halt) → HasHalted a b 
 told a b level (Spent at drawn) h = (h.told, h.over)
 told a b level (Missing context active) h = (h.told, h.over)
 told a b level Memory h = tt
-
--- the same, where the level of the later call is known to be this one
-pub halted_before : (a b c : EvaluatorState) (level k : ℕ) (halt : Halt) → k ≡ level → KeepsRest a b → HasHalted b c k halt → HasHaltCause a level halt
-halted_before a b c level k halt e h halted = cause_before a b h level halt (subst (λ (n : ℕ). HasHaltCause b n halt) e halted.cause)
-
-pub done_again : (a b c : EvaluatorState) (level k : ℕ) → k ≡ level → HasDone a b level → HasDone b c k → HasDone a c level
-done_again a b c level k e h again = done_twice a b c level h (subst (λ (n : ℕ). HasDone b c n) e again)

@@ -1,4 +1,5 @@
 pub mod Oracles
 pub mod Evaluators
+pub mod Calls
 pub mod Codes
 pub mod First
