@@ -25,11 +25,6 @@ pub record ShowsFirstState (m : System) (d : code.Diagnosis) : Type 0 where
   pub state : IsFirstState m d.pair d.state
   pub active : d.active ≡ active_in m d.pair d.state
 
--- the same, of this pair
-pub record IsShownOf (m : System) (pair : ℕ) (d : code.Diagnosis) : Type 0 where
-  pub same : d.pair ≡ pair
-  pub shows : ShowsFirstState m d
-
 abbrev pub pairs_of : List code.Diagnosis → List ℕ
 pairs_of ds = map (λ (d : code.Diagnosis). d.pair) ds
 

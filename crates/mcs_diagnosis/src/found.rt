@@ -4,7 +4,7 @@ ghost use Rattle.std.specs.Prelude.{◌≡◌, IfOk};
 ghost use Rattle.mcs_states.specs.Calls.{CanEvaluate, Evaluates, AsksEvaluator};
 ghost use Rattle.mcs_sets.specs.Sets.{size};
 ghost use Rattle.mcs_system.specs.Repairs.{IsDiagnosis};
-ghost use Rattle.mcs_diagnosis.specs.Diagnoses.{AreShownDiagnoses, IsShownOf, active_in};
+ghost use Rattle.mcs_diagnosis.specs.Diagnoses.{AreShownDiagnoses, ShowsFirstState, active_in};
 
 use crate::diagnosis::Diagnosis;
 use mcs_base::{Active, Pair, Vars};
@@ -34,7 +34,8 @@ fn show<E: Evaluator>(
 ) -> Result<Diagnosis, Halt>
     requires can { CanEvaluate system.now (E.stands evaluator.old) }
     requires diagnosis { IsDiagnosis system.now pair }
-    ensures shown { IfOk result (IsShownOf system.now pair) }
+    ensures pair { IfOk result (λ shown. shown.pair ≡ pair) }
+    ensures shown { IfOk result (ShowsFirstState system.now) }
     ensures call { Evaluates (size pair) (E.stands evaluator.old) (E.stands evaluator.new) result }
 {
     let state = least_state(alloc, evaluator, pair)?.unwrap();

@@ -6,6 +6,9 @@ use Rattle.mcs_states.specs.Evaluators.{EvaluatorState, KeepsRest, HasDone, HasH
 use Rattle.mcs_states.specs.declared.halt.Halt.{Halt}
 use Rattle.mcs_states.specs.declared.halt.Halt.TheVariants.{Spent, Missing, Memory}
 
+pub rest_same : (e : EvaluatorState) → KeepsRest e e
+rest_same e = record { system = refl; budget = refl; workers = refl; oracles = refl }
+
 pub rest_kept : (a b c : EvaluatorState) → KeepsRest a b → KeepsRest b c → KeepsRest a c
 rest_kept a b c h k = record { system = k.system ∙ h.system; budget = k.budget ∙ h.budget; workers = k.workers ∙ h.workers; oracles = k.oracles ∙ h.oracles }
 

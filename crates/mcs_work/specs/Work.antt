@@ -57,6 +57,14 @@ HasStopped task so_far e e' before now (stops.Spent level) = (now.faults ≡ bef
 HasStopped task so_far e e' before now (stops.Missing context active) = (now.faults ≡ before.faults) × IsMissing task so_far e e' context active before.written now.written
 HasStopped task so_far e e' before now stops.Memory = (now.faults ≡ before.faults) × LeavesStage task e.system so_far before.written now.written
 
+-- a part of the work came to its end and no write failed, or the work stopped in it; nothing else was changed
+pub record Proceeds {T : Type 0} (task : Task) (so_far : List ℕ) (e e' : EvaluatorState) (before now : Device) (r : Result T WorkStop) : Type 0 where
+  pub later : before.faults ≤ now.faults
+  pub notes : now.notes ≡ before.notes
+  pub rest : KeepsRest e e'
+  pub quiet : OnOk r (now.faults ≡ before.faults)
+  pub stop : IfErr r (HasStopped task so_far e e' before now)
+
 -- the work was done and no write failed, or it stopped; nothing else was changed
 pub record Works (task : Task) (so_far : List ℕ) (e e' : EvaluatorState) (before now : Device) (r : Result (Unit {0}) WorkStop) : Type 0 where
   pub later : before.faults ≤ now.faults

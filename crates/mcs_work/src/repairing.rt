@@ -1,19 +1,17 @@
 //! The diagnoses and explanations of a system: found level by level, and printed.
 
-ghost use Rattle.std.specs.Prelude.{◌≡◌, ℕ, ◌≤◌, List, [], false, None, length, IfOk, IfErr, OnOk};
+ghost use Rattle.std.specs.Prelude.{◌≡◌, ℕ, List, [], length, IfOk};
 ghost use Rattle.std.specs.Arc.{arc_value};
-ghost use Rattle.mcs_ports.specs.Pieces.{appended};
 ghost use Rattle.mcs_sets.specs.Orders.{PairBefore};
 ghost use Rattle.mcs_base.specs.Listings.{IsListing};
 ghost use Rattle.mcs_base.specs.Minimal.{IsMinimal};
 ghost use Rattle.mcs_base.specs.Transversals.{IsTransversalOf};
-ghost use Rattle.mcs_states.specs.Evaluators.{KeepsRest};
-ghost use Rattle.mcs_diagnosis.specs.Courses.{IsPast};
+ghost use Rattle.mcs_states.specs.Calls.{CanBegin};
 ghost use Rattle.mcs_diagnosis.specs.Diagnoses.{pairs_of};
 ghost use Rattle.mcs_report.specs.Solutions.{AreEquilibria};
-ghost use Rattle.mcs_work.specs.Course.{IsUnderWay, HasGone};
-ghost use Rattle.mcs_work.specs.Extents.{task_of, front_part, diagnoses_part};
-ghost use Rattle.mcs_work.specs.Work.{HasStopped, Works};
+ghost use Rattle.mcs_work.specs.Course.{IsUnderWay, HasBegun, HasGoneOn, HasEnded};
+ghost use Rattle.mcs_work.specs.Extents.{task_of, front_part};
+ghost use Rattle.mcs_work.specs.Work.{Proceeds, Works};
 
 use crate::extent::Extent;
 use crate::printing::{print_diagnoses_part, print_rest, print_states_part};
@@ -36,9 +34,7 @@ pub(crate) fn solve<E: Evaluator, K: Sink>(
     system: Arc<System>,
     sink: &mut K,
 ) -> (Result<(), WorkStop>, E)
-    requires same { (E.stands evaluator).system ≡ arc_value system }
-    requires fresh { (E.stands evaluator).done ≡ None }
-    requires going { (E.stands evaluator).halted ≡ false }
+    requires { CanBegin (arc_value system) (E.stands evaluator) }
     ensures { Works (task_of extent) [] (E.stands evaluator) (E.stands result.1)
         (K.device sink.old) (K.device sink.new) result.0 }
 {
@@ -58,20 +54,11 @@ fn print_equilibria<E: Evaluator, K: Sink>(
     system: &System,
     sink: &mut K,
 ) -> Result<u64, WorkStop>
-    requires same { (E.stands evaluator.old).system ≡ system.now }
-    requires fresh { (E.stands evaluator.old).done ≡ None }
-    requires going { (E.stands evaluator.old).halted ≡ false }
-    ensures later { (K.device sink.old).faults ≤ (K.device sink.new).faults }
-    ensures quiet { OnOk result ((K.device sink.new).faults ≡ (K.device sink.old).faults) }
-    ensures notes { (K.device sink.new).notes ≡ (K.device sink.old).notes }
-    ensures rest { KeepsRest (E.stands evaluator.old) (E.stands evaluator.new) }
-    ensures under_way { OnOk result (IsUnderWay (E.stands evaluator.new) 0 []) }
-    ensures written { IfOk result (λ count. (states : List ℕ) × AreEquilibria system.now states
-        × (length states ≡ count)
-        × ((K.device sink.new).written
-        ≡ appended (K.device sink.old).written (front_part extent system.now states []))) }
-    ensures stop { IfErr result (HasStopped (task_of extent) [] (E.stands evaluator.old)
-        (E.stands evaluator.new) (K.device sink.old) (K.device sink.new)) }
+    requires { CanBegin system.now (E.stands evaluator.old) }
+    ensures part { Proceeds (task_of extent) [] (E.stands evaluator.old) (E.stands evaluator.new)
+        (K.device sink.old) (K.device sink.new) result }
+    ensures begun { IfOk result (HasBegun extent system.now (E.stands evaluator.new)
+        (K.device sink.old).written (K.device sink.new).written) }
 {
     let states = find_states(alloc, evaluator, extent.task(), system, sink)?;
     print_states_part(alloc, extent, system, &states, sink)?;
@@ -87,8 +74,7 @@ fn repair<E: Evaluator, K: Sink>(
     states: u64,
     sink: &mut K,
 ) -> (Result<(), WorkStop>, E)
-    requires same { (E.stands evaluator).system ≡ arc_value system }
-    requires under_way { IsUnderWay (E.stands evaluator) 0 [] }
+    requires { IsUnderWay (arc_value system) (E.stands evaluator) 0 [] }
     ensures { (σs : List ℕ) → AreEquilibria (arc_value system) σs → length σs ≡ states
         → Works (task_of extent) (front_part extent (arc_value system) σs []) (E.stands evaluator)
         (E.stands result.1) (K.device sink.old) (K.device sink.new) result.0 }
@@ -111,9 +97,7 @@ fn print_repairs<E: Evaluator, K: Sink>(
     states: u64,
     sink: &mut K,
 ) -> Result<(), WorkStop>
-    requires same { (E.stands levels.old.evaluator).system ≡ system.now }
-    requires under_way { IsUnderWay (E.stands levels.old.evaluator) levels.old.level [] }
-    requires first { levels.old.level ≡ 0 }
+    requires { IsUnderWay system.now (E.stands levels.old.evaluator) levels.old.level [] }
     ensures { (σs : List ℕ) → AreEquilibria system.now σs → length σs ≡ states
         → Works (task_of extent) (front_part extent system.now σs [])
         (E.stands levels.old.evaluator) (E.stands levels.new.evaluator) (K.device sink.old)
@@ -143,21 +127,14 @@ fn print_levels<E: Evaluator, K: Sink>(
     system: &System,
     sink: &mut K,
 ) -> Result<Vec<Diagnosis>, WorkStop>
-    requires same { (E.stands levels.old.evaluator).system ≡ system.now }
-    requires under_way { IsUnderWay (E.stands levels.old.evaluator) levels.old.level [] }
-    ensures later { (K.device sink.old).faults ≤ (K.device sink.new).faults }
-    ensures quiet { OnOk result ((K.device sink.new).faults ≡ (K.device sink.old).faults) }
-    ensures notes { (K.device sink.new).notes ≡ (K.device sink.old).notes }
-    ensures rest { KeepsRest (E.stands levels.old.evaluator) (E.stands levels.new.evaluator) }
-    ensures under_way { IfOk result (λ found. IsUnderWay
-        (E.stands levels.new.evaluator) levels.new.level found.items) }
-    ensures past { OnOk result (IsPast system.now levels.new.level) }
-    ensures written { IfOk result (λ found. (K.device sink.new).written
-        ≡ appended (K.device sink.old).written (diagnoses_part extent system.now 1 found.items)) }
-    ensures stop { (σs : List ℕ) → AreEquilibria system.now σs
-        → IfErr result (HasStopped (task_of extent) (front_part extent system.now σs [])
+    requires { IsUnderWay system.now (E.stands levels.old.evaluator) levels.old.level [] }
+    ensures part { (σs : List ℕ) → AreEquilibria system.now σs
+        → Proceeds (task_of extent) (front_part extent system.now σs [])
         (E.stands levels.old.evaluator) (E.stands levels.new.evaluator) (K.device sink.old)
-        (K.device sink.new)) }
+        (K.device sink.new) result }
+    ensures ended { IfOk result (λ found. HasEnded extent system.now
+        (E.stands levels.new.evaluator) levels.new.level (K.device sink.old).written
+        (K.device sink.new).written found.items) }
 {
     let mut found = Vec::new(alloc);
     loop {
@@ -177,21 +154,15 @@ fn print_level<E: Evaluator, K: Sink>(
     found: &mut Vec<Diagnosis>,
     sink: &mut K,
 ) -> Result<bool, WorkStop>
-    requires same { (E.stands levels.old.evaluator).system ≡ system.now }
-    requires under_way { IsUnderWay (E.stands levels.old.evaluator) levels.old.level
+    requires { IsUnderWay system.now (E.stands levels.old.evaluator) levels.old.level
         found.old.items }
-    ensures later { (K.device sink.old).faults ≤ (K.device sink.new).faults }
-    ensures quiet { OnOk result ((K.device sink.new).faults ≡ (K.device sink.old).faults) }
-    ensures notes { (K.device sink.new).notes ≡ (K.device sink.old).notes }
-    ensures rest { KeepsRest (E.stands levels.old.evaluator) (E.stands levels.new.evaluator) }
-    ensures under_way { OnOk result (IsUnderWay (E.stands levels.new.evaluator) levels.new.level
-        found.new.items) }
-    ensures gone { IfOk result (HasGone extent system.now levels.old.level levels.new.level
-        found.old.items found.new.items (K.device sink.old).written (K.device sink.new).written) }
-    ensures stop { (σs : List ℕ) → AreEquilibria system.now σs
-        → IfErr result (HasStopped (task_of extent)
-        (front_part extent system.now σs found.old.items) (E.stands levels.old.evaluator)
-        (E.stands levels.new.evaluator) (K.device sink.old) (K.device sink.new)) }
+    ensures part { (σs : List ℕ) → AreEquilibria system.now σs
+        → Proceeds (task_of extent) (front_part extent system.now σs found.old.items)
+        (E.stands levels.old.evaluator) (E.stands levels.new.evaluator) (K.device sink.old)
+        (K.device sink.new) result }
+    ensures gone { IfOk result (HasGoneOn extent system.now (E.stands levels.new.evaluator)
+        levels.old.level levels.new.level found.old.items found.new.items
+        (K.device sink.old).written (K.device sink.new).written) }
 {
     match levels.next(alloc)? {
         Level::Over => Ok(false),

@@ -1,7 +1,8 @@
 //! The work of a task.
 
-ghost use Rattle.std.specs.Prelude.{◌≡◌, [], false, None};
+ghost use Rattle.std.specs.Prelude.{[]};
 ghost use Rattle.std.specs.Arc.{arc_value};
+ghost use Rattle.mcs_states.specs.Calls.{CanBegin};
 ghost use Rattle.mcs_work.specs.Work.{Works};
 
 use crate::extent::Extent;
@@ -37,9 +38,7 @@ pub fn work<E: Evaluator, K: Sink>(
     task: Task,
     sink: &mut K,
 ) -> (Result<(), WorkStop>, E)
-    requires same { (E.stands evaluator).system ≡ arc_value system }
-    requires fresh { (E.stands evaluator).done ≡ None }
-    requires going { (E.stands evaluator).halted ≡ false }
+    requires { CanBegin (arc_value system) (E.stands evaluator) }
     ensures { Works task [] (E.stands evaluator) (E.stands result.1) (K.device sink.old)
         (K.device sink.new) result.0 }
 {

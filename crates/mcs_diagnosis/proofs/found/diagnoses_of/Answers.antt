@@ -21,8 +21,8 @@ returns-in_err-shown-clause-call g c = asks_cut c.args.level _ _ _ _ c.from_resi
 pub loop-marks-preserved : goal.loop-marks-preserved
 loop-marks-preserved g c = elim c.if-count-level.branch [
   | then-count-level+in_ok-shown+in_ok-push w ↦ let both = evaluates_then c.args.level _ _ _ _ _ _ (ap size w.new.ensures ∙ sym c.count.ensures.number ∙ w.if-count-level.true) c.loop-marks.invariant.call w.in_ok-shown.ensures.call in record {
-    pairs = rw (w.found-is, w.in_ok-push.ensures.items) (pairs-more c.args.level c.loop-marks.found.items c.deref-marks-items.result.now c.loop-marks.marks-index c.marks-item.result _ c.loop-marks-test.true c.marks-item.is (sym c.count.ensures.number ∙ w.if-count-level.true) (w.in_ok-shown.ensures.shown.same ∙ w.new.ensures) c.loop-marks.invariant.pairs);
-    shown = rw (w.found-is, w.in_ok-push.ensures.items) (all_push (ShowsFirstState c.args.system.now) _ _ c.loop-marks.invariant.shown w.in_ok-shown.ensures.shown.shows);
+    pairs = rw (w.found-is, w.in_ok-push.ensures.items) (pairs-more c.args.level c.loop-marks.found.items c.deref-marks-items.result.now c.loop-marks.marks-index c.marks-item.result _ c.loop-marks-test.true c.marks-item.is (sym c.count.ensures.number ∙ w.if-count-level.true) (w.in_ok-shown.ensures.pair ∙ w.new.ensures) c.loop-marks.invariant.pairs);
+    shown = rw (w.found-is, w.in_ok-push.ensures.items) (all_push (ShowsFirstState c.args.system.now) _ _ c.loop-marks.invariant.shown w.in_ok-shown.ensures.shown);
     call = rw w.evaluator-is (record { done = both.done; halt = tt; rest = both.rest });
   }
   | else-count-level w ↦ record {
