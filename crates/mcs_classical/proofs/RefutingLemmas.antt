@@ -1,14 +1,14 @@
 -- An assignment of variables, read as a set of places of atoms, is a model of formulas, and refutes that another one follows.
-use Rattle.std.proofs.Common.{◌≡◌, ℕ, ◌+◌, ◌-◌, ◌<◌, zero, suc, Bool, true, false, ◌&&◌, ◌||◌, ltb, cond, List, [], ◌∷◌, ◌++◌, length, get_or, arith, refl, sym, ap, ◌∙◌, subst, true≢false}
-use Rattle.std.proofs.lemmas.Bool.{and_parts, or_parts}
+use Rattle.std.proofs.Common.{◌≡◌, ℕ, ◌+◌, ◌-◌, ◌<◌, zero, suc, Bool, true, false, not, ◌&&◌, ◌||◌, ltb, cond, List, [], ◌∷◌, ◌++◌, length, get_or, arith, refl, sym, ap, ◌∙◌, subst, true≢false}
+use Rattle.std.proofs.lemmas.Bool.{and_parts, and_from, or_parts, not_from_false, true_from_ne_false}
 use Rattle.std.proofs.lemmas.Bool.Decides.{nat_tests}
 use Rattle.mcs_sets.specs.Sets.{has, such_that}
 use Rattle.mcs_sets.proofs.SetLemmas.{has-such_that}
 use Rattle.mcs_system.specs.Plain.{Name, Formula, Not}
-use Rattle.mcs_system.specs.Logic.{same_name, is_in, holds_all, true_names}
+use Rattle.mcs_system.specs.Logic.{same_name, is_in, holds, holds_all, true_names, Entails}
 use Rattle.mcs_system.specs.Faults.{has_twins}
 use Rattle.mcs_system.proofs.Sameness.{same_name-is}
-use Rattle.mcs_trace.specs.Clauses.{ClauseList, all_hold}
+use Rattle.mcs_trace.specs.Clauses.{ClauseList, IsUnsatisfiable, all_hold}
 use Rattle.mcs_trace.specs.Traces.{Inference, IsAcceptedTrace}
 use Rattle.mcs_cnf.specs.ClauseLists.{atom_number, with_formulas, clause_list, IsOver, AreOver}
 use Rattle.mcs_cnf.specs.Meaning.{Extends}
@@ -17,6 +17,8 @@ use Rattle.mcs_cnf.proofs.NumberLemmas.{atom_positive, atom_within}
 use Rattle.mcs_cnf.proofs.GrowingLemmas.{grown_clauses}
 use Rattle.mcs_cnf.proofs.MeaningLemmas.{satisfied}
 use Rattle.mcs_cnf.proofs.EntailmentLemmas.{over_with, parts_with}
+use Rattle.mcs_meant.specs.Meanings.{AreMeantBy}
+use Rattle.mcs_meant.proofs.MeaningLemmas.{last_too}
 use Rattle.mcs_sat.specs.Answers.{assignment_of}
 
 -- ---- the names at places
@@ -112,6 +114,19 @@ answer_no fs g names known new values read s is pushed single over over' h same 
 pub answer_yes : (fs : List Formula) (g : Formula) (names : List Name) (known new : ClauseList) (steps : List Inference) → known ≡ clause_list names fs → new ≡ with_formulas names known (Not g ∷ [])
     → IsAcceptedTrace new.clauses steps → IsAcceptedTrace (clause_list names (with_negated fs g)).clauses steps
 answer_yes fs g names known new steps is pushed accepted = subst (λ (x : ClauseList). IsAcceptedTrace x.clauses steps) (with_goal fs g names known new is pushed) accepted
+
+-- of clauses that mean the formulas and the negated goal
+pub meant_no : (fs : List Formula) (g : Formula) (names : List Name) (new : ClauseList) (values read : List Bool) (s : ℕ) → has_twins names ≡ false → AreMeantBy names (with_negated fs g) new → all_hold (assignment_of values) new.clauses ≡ true → read ≡ values → s ≡ places names read
+    → IsRefuted names fs g s
+meant_no fs g names new values read s single meant h same e =
+    let model : IsModelAt names (with_negated fs g) s = modelled names (with_negated fs g) values read s single (λ a extends. meant.satisfied a (assignment_of values) extends h) same e in
+    let parts = parts_with (true_names 0 names s) fs g model.formulas in
+    record { model = record { in_range = model.in_range; formulas = parts.0 }; goal = parts.1 }
+
+pub meant_yes : (fs : List Formula) (g : Formula) (names : List Name) (new : ClauseList) → AreMeantBy names (with_negated fs g) new → IsUnsatisfiable new.clauses → Entails fs g
+meant_yes fs g names new meant none a h = true_from_ne_false (holds a g) (λ out.
+    let (v, extends, all) = meant.extends a (last_too a fs (Not g) ∙ and_from (holds_all a fs) (not (holds a g)) h (not_from_false (holds a g) out)) in
+    none v all)
 
 -- ---- clauses that are made apart
 pub formulas_apart : (names : List Name) (fs : List Formula) (known more new : ClauseList) → more ≡ with_formulas names (record { vars = known.vars; clauses = [] }) fs → new ≡ record { vars = more.vars; clauses = known.clauses ++ more.clauses } → new ≡ with_formulas names known fs

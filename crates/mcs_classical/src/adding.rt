@@ -1,14 +1,16 @@
-//! Adding the clauses of formulas to known ones.
+//! Adding clauses of formulas to known ones.
 
 ghost use Rattle.std.specs.Prelude.{◌≡◌, ◌≤◌, length, map, OnOk, OnErr};
 ghost use Rattle.mcs_system.specs.Seen.{formula_of};
-ghost use Rattle.mcs_cnf.specs.ClauseLists.{AreOver, with_formulas};
+ghost use Rattle.mcs_cnf.specs.ClauseLists.{IsOver, AreOver, with_formulas};
+ghost use Rattle.mcs_meant.specs.Meanings.{AddsFormula};
 ghost use Rattle.mcs_classical.specs.Given.{given_names, given_with};
 
 use crate::assumptions::assumed;
 use crate::given::Given;
 use mcs_base::{Active, Memory};
 use mcs_cnf::push_all;
+use mcs_meant::clauses_for;
 use mcs_sat::ClauseBase;
 use mcs_system::{Formula, Name};
 use mcs_trace::Cnf;
@@ -29,6 +31,25 @@ pub fn add_formulas(
 {
     let mut more = Cnf::new(alloc, known.vars());
     push_all(alloc, &mut more, formulas, atoms)?;
+    let added = known.append(&more);
+    drop(more);
+    added
+}
+
+/// Adds clauses that mean the formula too, with a variable only for each subformula that is no atom
+/// and no denial. If memory runs out, `known` is as before.
+pub fn add_meant(
+    alloc: Global,
+    known: &mut ClauseBase,
+    formula: &Formula,
+    atoms: &[Name],
+) -> Result<(), Memory>
+    requires over { IsOver atoms.now (formula_of formula.now) }
+    requires room { length atoms.now ≤ known.old.vars }
+    ensures ok { OnOk result (AddsFormula atoms.now (formula_of formula.now) known.old known.new) }
+    ensures err { OnErr result (known.new ≡ known.old) }
+{
+    let more = clauses_for(alloc, known.vars(), atoms, formula)?;
     let added = known.append(&more);
     drop(more);
     added

@@ -10,6 +10,7 @@ ghost use Rattle.mcs_cnf.specs.ClauseLists.{clause_list, with_formulas, IsOver, 
 ghost use Rattle.mcs_cnf.specs.Entailments.{entailment_of, says_yes, IsModelAt};
 ghost use Rattle.mcs_cnf.specs.Entailments.{IsAcceptedEntailment};
 ghost use Rattle.mcs_classical.specs.Given.{given_names};
+ghost use Rattle.mcs_meant.specs.Meanings.{AreMeantBy};
 ghost use Rattle.mcs_classical.specs.Models.{IsCounterexample};
 
 use crate::given::Given;
@@ -78,8 +79,9 @@ pub fn entails_in(
     }
 }
 
-/// The same without a trace: the places of the atoms that are true under an assignment under which
-/// the formulas hold and the goal does not, or `None` exactly if the goal follows.
+/// The same without a trace, for clauses that mean the formulas: the places of the atoms that are
+/// true under an assignment under which the formulas hold and the goal does not, or `None` exactly
+/// if the goal follows.
 pub fn counterexample_in(
     alloc: Global,
     known: &mut ClauseBase,
@@ -90,8 +92,7 @@ pub fn counterexample_in(
     requires room { length (given_names given.now) ≤ known.old.vars }
     ensures kept { known.new ≡ known.old }
     ensures exact { IfOk result
-        (λ found. (fs : List plain.Formula) → known.old ≡ clause_list (given_names given.now) fs
-        → AreOver (given_names given.now) fs
+        (λ found. (fs : List plain.Formula) → AreMeantBy (given_names given.now) fs known.old
         → IsCounterexample (given_names given.now) fs (formula_of goal.now) found) }
 {
     let vars = known.vars();

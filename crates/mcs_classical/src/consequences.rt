@@ -7,8 +7,8 @@ ghost use Rattle.mcs_system.specs.Logic.{Theory, true_names};
 ghost use Rattle.mcs_system.specs.Plain as plain;
 ghost use Rattle.mcs_system.specs.Seen.{formula_of};
 ghost use Rattle.mcs_system.specs.Views.{Shows};
-ghost use Rattle.mcs_cnf.specs.ClauseLists.{clause_list, AreOver};
 ghost use Rattle.mcs_asked.specs.Questions.{asked_beliefs};
+ghost use Rattle.mcs_meant.specs.Meanings.{AreMeantBy};
 ghost use Rattle.mcs_classical.specs.Consequences.{holds_goal, with_assumed, AreConsequences};
 ghost use Rattle.mcs_classical.specs.Consequences.{IsGoalAnswer, AreGoalsTold, IsUpperConsequence};
 ghost use Rattle.mcs_classical.specs.Given.{given_names, given_beliefs, with_given};
@@ -83,10 +83,9 @@ fn goals_holding(asked: &Asked<'_>, values: Vars) -> Vars
     places
 }
 
-/// Searches whether the belief at the place follows from the formulas whose clauses are `known`.
-/// `None` is returned if it does, and otherwise the places of the beliefs that hold in the model
-/// that was found: no others can follow, and this one is none of them. The model is kept as an
-/// upper bound.
+/// Searches whether the belief at the place follows from the formulas that `known` means. `None` is
+/// returned if it does, and otherwise the places of the beliefs that hold in the model that was
+/// found: no others can follow, and this one is none of them. The model is kept as an upper bound.
 fn ask(
     alloc: Global,
     known: &mut ClauseBase,
@@ -98,14 +97,13 @@ fn ask(
     requires place { place < length given.now.asked.now.beliefs.now }
     ensures kept { known.new ≡ known.old }
     ensures right { (fs : List plain.Formula) (set : ℕ)
-        → known.old ≡ clause_list (given_names given.now) (with_given fs given.now set)
-        → AreOver (given_names given.now) (with_given fs given.now set)
+        → AreMeantBy (given_names given.now) (with_given fs given.now set) known.old
         → AllByRecursion (IsUpperConsequence fs given.now.assumptions.now
         (given_beliefs given.now)) upper.old.items
         → AllByRecursion (IsUpperConsequence fs given.now.assumptions.now
         (given_beliefs given.now)) upper.new.items }
     ensures answer { IfOk result (λ answer. (fs : List plain.Formula)
-        → known.old ≡ clause_list (given_names given.now) fs → AreOver (given_names given.now) fs
+        → AreMeantBy (given_names given.now) fs known.old
         → IsGoalAnswer fs (given_beliefs given.now) place answer) }
 {
     let goals = given.asked.beliefs;
@@ -152,14 +150,13 @@ fn ask_left(
     requires { length (given_names given.now) ≤ known.old.vars }
     ensures kept { known.new ≡ known.old }
     ensures right { (fs : List plain.Formula) (set : ℕ)
-        → known.old ≡ clause_list (given_names given.now) (with_given fs given.now set)
-        → AreOver (given_names given.now) (with_given fs given.now set)
+        → AreMeantBy (given_names given.now) (with_given fs given.now set) known.old
         → AllByRecursion (IsUpperConsequence fs given.now.assumptions.now
         (given_beliefs given.now)) upper.old.items
         → AllByRecursion (IsUpperConsequence fs given.now.assumptions.now
         (given_beliefs given.now)) upper.new.items }
     ensures exact { IfOk result (λ view. (fs : List plain.Formula)
-        → known.old ≡ clause_list (given_names given.now) fs → AreOver (given_names given.now) fs
+        → AreMeantBy (given_names given.now) fs known.old
         → AreGoalsTold fs (given_beliefs given.now) 0 before
         → Shows (Theory fs) (given_beliefs given.now) view) }
 {
@@ -234,12 +231,10 @@ impl Consequences {
     ) -> Result<Vars, Memory>
         requires { length (given_names given.now) ≤ known.old.vars }
         ensures kept { known.new ≡ known.old }
-        ensures right { (fs : List plain.Formula)
-            → known.old ≡ clause_list (given_names given.now) fs
-            → AreOver (given_names given.now) fs
+        ensures right { (fs : List plain.Formula) → AreMeantBy (given_names given.now) fs known.old
             → AreConsequencesOf given.now fs self.old → AreConsequencesOf given.now fs self.new }
-        ensures exact { IfOk result (λ view. (fs : List plain.Formula) → known.old
-            ≡ clause_list (given_names given.now) fs → AreOver (given_names given.now) fs
+        ensures exact { IfOk result (λ view. (fs : List plain.Formula)
+            → AreMeantBy (given_names given.now) fs known.old
             → AreConsequencesOf given.now fs self.old
             → Shows (Theory (with_given fs given.now set)) (given_beliefs given.now) view) }
     {

@@ -12,7 +12,7 @@ mod given;
 mod refuting;
 mod satisfying;
 
-pub use adding::add_formulas;
+pub use adding::{add_formulas, add_meant};
 pub use assumptions::{Assumption, assumed, holding};
 pub use beliefs::{outputs, outputs_from, outputs_in};
 pub use consequence::{counterexample_in, entails, entails_beside, entails_from, entails_in};

@@ -1,28 +1,23 @@
--- What clauses over the variables of atoms say, and clauses that mean one formula more.
-use Rattle.std.proofs.Common.{◌≡◌, ℕ, ◌+◌, ◌-◌, ◌^◌, ◌<◌, ◌≤◌, zero, suc, Bool, true, false, not, ◌&&◌, ◌||◌, ltb, cond, List, [], ◌∷◌, ◌++◌, map, length, get_or, arith, refl, sym, ap, ◌∙◌, subst, ℤ, pos, negsuc}
-use Rattle.std.proofs.lemmas.Bool.{and_parts, and_from}
-use Rattle.std.proofs.lemmas.Bool.Decides.{nat_tests}
-use Rattle.std.proofs.lemmas.List.Folds.{list_all-append, list_any-append}
-use Rattle.std.proofs.Math.Bool.{and-true, or-false}
-use Rattle.std.specs.Int.RustNames.{unsigned_abs}
+-- What clauses over the variables of atoms alone say.
+use Rattle.std.proofs.Common.{◌≡◌, ℕ, ◌+◌, ◌^◌, ◌<◌, ◌≤◌, zero, suc, Bool, true, false, not, ◌&&◌, ◌||◌, cond, List, [], ◌∷◌, ◌++◌, map, length, arith, refl, sym, ap, ◌∙◌, ℤ}
+use Rattle.std.proofs.lemmas.List.Folds.{list_any-append}
+use Rattle.std.proofs.Math.Bool.{or-false}
 use Rattle.std.specs.List.{AllByRecursion, list_any}
 use Rattle.mcs_sets.specs.Sets.{has}
-use Rattle.mcs_base.proofs.Clausal.{Reads}
-use Rattle.mcs_base.proofs.Each.{all_append, all_weaker}
+use Rattle.mcs_base.proofs.Each.{all_append}
 use Rattle.mcs_system.specs.Plain.{Name, Formula, Atom, Not, ProgramRule}
 use Rattle.mcs_system.specs.Logic.{is_in, holds, holds_all}
-use Rattle.mcs_trace.specs.Clauses.{ClauseList, IsLiteral, IsWithin, IsClauseList, literal_holds, clause_holds, all_hold}
-use Rattle.mcs_cnf.specs.ClauseLists.{atom_number, with_literal, clause_of, with_clause, with_formulas, list_clauses, IsThere, IsOver}
+use Rattle.mcs_trace.specs.Clauses.{ClauseList, IsLiteral, literal_holds, clause_holds}
+use Rattle.mcs_cnf.specs.ClauseLists.{atom_number, with_literal, clause_of, IsThere}
 use Rattle.mcs_cnf.specs.Meaning.{Extends}
-use Rattle.mcs_cnf.proofs.ListLemmas.{all_take_grow}
-use Rattle.mcs_cnf.proofs.MeaningLemmas.{all_hold-parts, all_hold-both, list_says, extended}
 use Rattle.mcs_cnf.proofs.NumberLemmas.{atom_positive, atom_within}
-use Rattle.mcs_cnf.proofs.Tables.{clause_of-holds, non-holds}
-use Rattle.mcs_cnf.proofs.Values.{all_values}
+use Rattle.mcs_cnf.proofs.Tables.{non-holds}
+use Rattle.mcs_meant.specs.Meanings.{AddsFormula}
+use Rattle.mcs_meant.proofs.MeaningLemmas.{adds_clause}
 use Rattle.mcs_evidence.specs.Programs.{literals_of_state, rule_formula, other_formula, IsOverRule}
 use Rattle.mcs_evidence.specs.Pushing.{AreNamesOf}
 use Rattle.mcs_evidence.proofs.Models.{all_in, any_in, conjunction-holds, rule_formula-holds}
-use Rattle.mcs_program.specs.Clauses.{literal_of, literals_of_names, rule_literals, other_literals, AreMeantBy, AddsFormula}
+use Rattle.mcs_program.specs.Clauses.{literal_of, literals_of_names, rule_literals, other_literals}
 use Rattle.mcs_program.specs.Splitting.{value_formula}
 
 -- ---- literals
@@ -113,29 +108,6 @@ module _ (v : ℕ → Bool) (names a : List Name) (extends : Extends names a v) 
   pub other_says : (ns : List Name) (state : ℕ) → AreNamesOf names ns → clause_holds v (other_literals names 0 ns state) ≡ holds a (other_formula (map Atom ns) state)
   other_says ns state all = others_say 0 ns state all ∙ ap not (sym (conjunction-holds a (literals_of_state 0 (map Atom ns) state)))
 
--- ---- one formula more
-pub last_too : (a : List Name) (fs : List Formula) (f : Formula) → holds_all a (fs ++ f ∷ []) ≡ (holds_all a fs && holds a f)
-last_too a fs f = list_all-append (holds a) fs (f ∷ []) ∙ ap (λ b. holds_all a fs && b) (and-true (holds a f))
-
-pub meant_same : (names : List Name) (fs gs : List Formula) (c : ClauseList) → ((a : List Name) → holds_all a fs ≡ holds_all a gs) → AreMeantBy names fs c → AreMeantBy names gs c
-meant_same names fs gs c same m = record {
-  room = m.room;
-  extends = λ a h. m.extends a (same a ∙ h);
-  satisfied = λ a v e h. sym (same a) ∙ m.satisfied a v e h;
-}
-
-pub adds_clause : (names : List Name) (f : Formula) (ls : List ℤ) (old new : ClauseList) → new ≡ with_clause old ls → ((a : List Name) (v : ℕ → Bool) → Extends names a v → clause_holds v ls ≡ holds a f) → AddsFormula names f old new
-adds_clause names f ls old new is says fs m = subst (AreMeantBy names (fs ++ f ∷ [])) (sym is) (record {
-  room = m.room;
-  extends = λ a h.
-      let (h1, h2) = and_parts (holds_all a fs) (holds a f) (sym (last_too a fs f) ∙ h) in
-      let (v, e, all) = m.extends a h1 in
-      (v, e, all_hold-both v old.clauses (clause_of ls ∷ []) all (and-true (clause_holds v (clause_of ls)) ∙ clause_of-holds v ls ∙ says a v e ∙ h2));
-  satisfied = λ a v e h.
-      let (h1, h2) = all_hold-parts v old.clauses (clause_of ls ∷ []) h in
-      last_too a fs f ∙ and_from (holds_all a fs) (holds a f) (m.satisfied a v e h1) (sym (says a v e) ∙ sym (clause_of-holds v ls) ∙ sym (and-true (clause_holds v (clause_of ls))) ∙ h2);
-})
-
 one_literal : (l : ℤ) → l ∷ [] ≡ clause_of (l ∷ [])
 unfolding clause_of with_literal
 one_literal l = refl
@@ -146,72 +118,3 @@ pub adds_value : (names : List Name) (n : Name) (value : Bool) (old new : Clause
 adds_value names n value old new known is = adds_clause names (value_formula (Atom n) value) (literal_of value (atom_number names n) ∷ []) old new
     (is ∙ ap (λ (c : List ℤ). (let f : ClauseList = record { vars = old.vars; clauses = old.clauses ++ c ∷ [] } in f)) (one_literal (literal_of value (atom_number names n))))
     (λ a v extends. value_says v names a extends value n known)
-
--- assignments that are the same for the variables of clauses
-literal_same : (v w : ℕ → Bool) (n : ℕ) → ((k : ℕ) → k ≤ n → v k ≡ w k) → (l : ℤ) → unsigned_abs l ≤ n → literal_holds v l ≡ literal_holds w l
-literal_same v w n same (pos k) within = same k within
-literal_same v w n same (negsuc k) within = ap not (same (k + 1) (omega arith))
-
-clause_same : (v w : ℕ → Bool) (n : ℕ) → ((k : ℕ) → k ≤ n → v k ≡ w k) → (c : List ℤ) → IsWithin n c → clause_holds v c ≡ clause_holds w c
-clause_same v w n same [] within = refl
-clause_same v w n same (l ∷ c) within = ap (λ b. b || clause_holds v c) (literal_same v w n same l within.0) ∙ ap (λ b. literal_holds w l || b) (clause_same v w n same c within.1)
-
-clauses_same : (v w : ℕ → Bool) (n : ℕ) → ((k : ℕ) → k ≤ n → v k ≡ w k) → (cs : List (List ℤ)) → AllByRecursion (IsWithin n) cs → all_hold v cs ≡ all_hold w cs
-clauses_same v w n same [] within = refl
-clauses_same v w n same (c ∷ cs) within = ap (λ b. b && all_hold v cs) (clause_same v w n same c within.0) ∙ ap (λ b. clause_holds w c && b) (clauses_same v w n same cs within.1)
-
-reads_by : (w : ℕ → Bool) (k : ℕ) (bs : List Bool) → ((i : ℕ) → i < length bs → w (k + 1 + i) ≡ get_or bs i false) → Reads w k bs
-reads_by w k [] each = tt
-reads_by w k (b ∷ bs) each =
-    let e : k + 1 ≡ k + 1 + 0 = omega arith in (
-      ap w e ∙ each 0 (omega arith),
-      reads_by w (k + 1) bs (λ i less. let e : k + 1 + 1 + i ≡ k + 1 + suc i = omega arith in ap w e ∙ each (suc i) (omega arith)),
-    )
-
--- beyond n these values
-beyond : (ℕ → Bool) → ℕ → List Bool → ℕ → Bool
-beyond v n bs k = cond (ltb n k) (get_or bs (k - 1 - n) false) (v k)
-
-beyond-below : (v : ℕ → Bool) (n : ℕ) (bs : List Bool) (k : ℕ) → k ≤ n → v k ≡ beyond v n bs k
-unfolding beyond
-beyond-below v n bs k le = let past : ltb n k ≡ false = grind (arith, nat_tests) in ap (λ b. cond b (get_or bs (k - 1 - n) false) (v k)) (sym past)
-
-beyond-reads : (v : ℕ → Bool) (n : ℕ) (bs : List Bool) → Reads (beyond v n bs) n bs
-unfolding beyond
-beyond-reads v n bs = reads_by (beyond v n bs) n bs (λ i less.
-    let past : ltb n (n + 1 + i) ≡ true = grind (arith, nat_tests) in
-    let e : n + 1 + i - 1 - n ≡ i = omega arith in
-    ap (λ b. cond b (get_or bs (n + 1 + i - 1 - n) false) (v (n + 1 + i))) past ∙ ap (λ j. get_or bs j false) e)
-
-pub adds_formula : (names : List Name) (f : Formula) (old new : ClauseList) → IsClauseList old → IsOver names f → new ≡ with_formulas names old (f ∷ []) → AddsFormula names f old new
-adds_formula names f old new kept over is fs m = subst (AreMeantBy names (fs ++ f ∷ [])) (sym is) (record {
-  room = omega (arith, m.room, all_take_grow old.vars (f ∷ []));
-  extends = λ a h.
-      let (h1, h2) = and_parts (holds_all a fs) (holds a f) (sym (last_too a fs f) ∙ h) in
-      let (v, e, all) = m.extends a h1 in
-      let bs : List Bool = all_values a (f ∷ []) in
-      let w : ℕ → Bool = beyond v old.vars bs in
-      let e' : Extends names a w = λ n known. sym (beyond-below v old.vars bs (atom_number names n) (omega (arith, atom_within names n known, m.room))) ∙ e n known in
-      let within : AllByRecursion (IsWithin old.vars) old.clauses = all_weaker _ (IsWithin old.vars) (λ c both. both.1) old.clauses kept.1 in (
-        w,
-        e',
-        all_hold-both w old.clauses (list_clauses names old.vars (f ∷ []))
-            (sym (clauses_same v w old.vars (λ k le. beyond-below v old.vars bs k le) old.clauses within) ∙ all)
-            ((list_says w names a e' old.vars (f ∷ []) (over, tt)).1 (beyond-reads v old.vars bs, and-true (holds a f) ∙ h2)),
-      );
-  satisfied = λ a v e h.
-      let (h1, h2) = all_hold-parts v old.clauses (list_clauses names old.vars (f ∷ [])) h in
-      last_too a fs f ∙ and_from (holds_all a fs) (holds a f) (m.satisfied a v e h1) (sym (and-true (holds a f)) ∙ ((list_says v names a e old.vars (f ∷ []) (over, tt)).0 h2).1);
-})
-
--- no clauses
-pub no_clauses : (names : List Name) (c : ClauseList) → c ≡ record { vars = length names; clauses = [] } → AreMeantBy names [] c
-no_clauses names c is = subst (AreMeantBy names []) (sym is) (record {
-  room = omega arith;
-  extends = λ a h. let (v, e, all) = extended [] names a tt refl in (v, e, refl);
-  satisfied = λ a v e h. refl;
-})
-
--- ---- clauses that are made apart
-pub clause_apart : (known more new : ClauseList) (ls : List ℤ) → more ≡ with_clause (record { vars = known.vars; clauses = [] }) ls → new ≡ record { vars = more.vars; clauses = known.clauses ++ more.clauses } → new ≡ with_clause known ls
-clause_apart known more new ls made added = added ∙ ap (λ (m : ClauseList). (let f : ClauseList = record { vars = m.vars; clauses = known.clauses ++ m.clauses } in f)) made

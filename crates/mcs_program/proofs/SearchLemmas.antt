@@ -23,10 +23,10 @@ use Rattle.mcs_cnf.specs.Entailments.{IsModelAt}
 use Rattle.mcs_evidence.specs.Programs.{rule_formula, beside_formula, other_formula, smaller_formulas, rest_formulas, model_shown_of, AreAtomsOf, IsInRange, IsAcceptedModel}
 use Rattle.mcs_evidence.specs.Pushing.{AreNamesOf}
 use Rattle.mcs_evidence.proofs.Models.{shows-below, own_state, smaller_places, beside_excludes}
-use Rattle.mcs_program.specs.Clauses.{AreMeantBy, AddsFormula}
+use Rattle.mcs_meant.specs.Meanings.{AreMeantBy, AddsFormula}
 use Rattle.mcs_program.specs.declared.search.Search.{Search}
 use Rattle.mcs_program.specs.Searches.{IsProgramKnown, IsProgramSearch, IsExcluded, IsViewListed, count_below, sets_left}
-use Rattle.mcs_program.proofs.ClauseLemmas.{last_too, meant_same}
+use Rattle.mcs_meant.proofs.MeaningLemmas.{last_too, meant_same}
 
 -- ---- names as beliefs
 pub atoms_of_names : (names ns : List Name) → AreNamesOf names ns → AreAtomsOf names (map Atom ns)

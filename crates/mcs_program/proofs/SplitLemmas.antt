@@ -21,7 +21,7 @@ use Rattle.mcs_evidence.specs.Supports.{IsBased}
 use Rattle.mcs_evidence.proofs.Models.{true_names-known, shows-holds, shows-below}
 use Rattle.mcs_program.specs.Listings.{first_formulas}
 use Rattle.mcs_program.specs.Splitting.{value_formula, AgreeWith, AreModelViews, AreModelViewsAdded, IsModelView}
-use Rattle.mcs_program.proofs.ClauseLemmas.{last_too}
+use Rattle.mcs_meant.proofs.MeaningLemmas.{last_too}
 use Rattle.mcs_program.proofs.ListingLemmas.{first_parts, first_hold, tight_answer_set}
 
 -- ---- a formula with a value

@@ -1,11 +1,8 @@
--- Clauses over the variables of atoms alone, and when clauses mean formulas.
-use Rattle.std.specs.Prelude.{ℕ, ◌+◌, ◌≤◌, cond, Bool, true, false, not, IsTrue, List, [], ◌∷◌, ◌++◌, length, map, ℤ, pos}
+-- Clauses over the variables of atoms alone.
+use Rattle.std.specs.Prelude.{ℕ, ◌+◌, cond, Bool, true, false, not, List, [], ◌∷◌, ◌++◌, map, ℤ, pos}
 use Rattle.mcs_sets.specs.Sets.{has}
-use Rattle.mcs_system.specs.Plain.{Name, Formula, ProgramRule}
-use Rattle.mcs_system.specs.Logic.{holds_all}
-use Rattle.mcs_trace.specs.Clauses.{ClauseList, all_hold}
+use Rattle.mcs_system.specs.Plain.{Name, ProgramRule}
 use Rattle.mcs_cnf.specs.ClauseLists.{non, atom_number}
-use Rattle.mcs_cnf.specs.Meaning.{Extends}
 
 -- the literal that says that the variable is true, or that it is false
 abbrev pub literal_of : Bool → ℕ → ℤ
@@ -23,13 +20,3 @@ rule_literals names r = literals_of_names names false r.pos ++ (literals_of_name
 abbrev pub other_literals : List Name → ℕ → List Name → ℕ → List ℤ
 other_literals names k [] state = []
 other_literals names k (n ∷ ns) state = literal_of (not (has state k)) (atom_number names n) ∷ other_literals names (k + 1) ns state
-
--- an assignment satisfies the formulas exactly where it extends to one of the variables that satisfies the clauses
-pub record AreMeantBy (names : List Name) (fs : List Formula) (c : ClauseList) : Type 0 where
-  pub room : length names ≤ c.vars
-  pub extends : (a : List Name) → IsTrue (holds_all a fs) → (v : ℕ → Bool) × Extends names a v × IsTrue (all_hold v c.clauses)
-  pub satisfied : (a : List Name) (v : ℕ → Bool) → Extends names a v → IsTrue (all_hold v c.clauses) → IsTrue (holds_all a fs)
-
--- the new clauses mean one formula more, whatever the old ones mean
-abbrev pub AddsFormula : List Name → Formula → ClauseList → ClauseList → Type 0
-AddsFormula names f old new = (fs : List Formula) → AreMeantBy names fs old → AreMeantBy names (fs ++ f ∷ []) new

@@ -8,7 +8,7 @@ use Rattle.mcs_system.specs.Logic.{holds, holds_all, true_names, IsAnswerSet}
 use Rattle.mcs_system.specs.Views.{IsAcceptedView}
 use Rattle.mcs_evidence.specs.Programs.{rule_formula, other_formula}
 use Rattle.mcs_evidence.specs.Supports.{support_formula}
-use Rattle.mcs_program.specs.Clauses.{AreMeantBy, AddsFormula}
+use Rattle.mcs_meant.specs.Meanings.{AreMeantBy, AddsFormula}
 use Rattle.mcs_program.specs.Searches.{count_below}
 use Rattle.mcs_program.specs.declared.listing.Listing.{Listing}
 

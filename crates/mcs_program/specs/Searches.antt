@@ -10,7 +10,7 @@ use Rattle.mcs_trace.specs.Clauses.{ClauseList}
 use Rattle.mcs_trace.specs.Traces.{Inference}
 use Rattle.mcs_cnf.specs.Entailments.{IsModelAt}
 use Rattle.mcs_evidence.specs.Programs.{model_shown_of, rest_formulas, beside_formula, other_formula, IsInRange, IsAcceptedModel}
-use Rattle.mcs_program.specs.Clauses.{AreMeantBy, AddsFormula}
+use Rattle.mcs_meant.specs.Meanings.{AreMeantBy, AddsFormula}
 use Rattle.mcs_program.specs.declared.search.Search.{Search}
 
 -- what is found for formulas: a model, or that they have none

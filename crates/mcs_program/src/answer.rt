@@ -3,7 +3,7 @@
 ghost use Rattle.std.specs.Prelude.{◌≡◌, ◌≤◌, List, length, IfOk};
 ghost use Rattle.mcs_system.specs.Plain as plain;
 ghost use Rattle.mcs_program.specs.Asked.{program_names};
-ghost use Rattle.mcs_program.specs.Clauses.{AreMeantBy};
+ghost use Rattle.mcs_meant.specs.Meanings.{AreMeantBy};
 ghost use Rattle.mcs_program.specs.Searches.{IsFoundFor};
 
 use crate::asked::LogicProgram;

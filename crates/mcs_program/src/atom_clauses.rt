@@ -10,8 +10,9 @@ ghost use Rattle.mcs_evidence.specs.Programs.{rule_formula, other_formula, IsOve
 ghost use Rattle.mcs_evidence.specs.Pushing.{AreNamesOf};
 ghost use Rattle.mcs_program.specs.Asked.{program_names, program_rules, program_beliefs};
 ghost use Rattle.mcs_program.specs.Asked.{belief_names};
+ghost use Rattle.mcs_meant.specs.Meanings.{AddsFormula, AreMeantBy};
 ghost use Rattle.mcs_program.specs.Clauses.{literal_of, literals_of_names, rule_literals};
-ghost use Rattle.mcs_program.specs.Clauses.{other_literals, AddsFormula, AreMeantBy};
+ghost use Rattle.mcs_program.specs.Clauses.{other_literals};
 ghost use Rattle.mcs_program.specs.Splitting.{value_formula};
 
 use crate::asked::LogicProgram;

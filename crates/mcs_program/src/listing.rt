@@ -10,7 +10,7 @@ ghost use Rattle.mcs_evidence.specs.Pushing.{AreNamesOf};
 ghost use Rattle.mcs_evidence.specs.Supports.{support_formula};
 ghost use Rattle.mcs_program.specs.Asked.{program_names, program_rules, AreAllViews, IsListingFor};
 ghost use Rattle.mcs_program.specs.Asked.{IsTight, listing_left, listing_rest};
-ghost use Rattle.mcs_program.specs.Clauses.{AddsFormula, AreMeantBy};
+ghost use Rattle.mcs_meant.specs.Meanings.{AddsFormula, AreMeantBy};
 ghost use Rattle.mcs_program.specs.Listings.{first_formulas, IsPartListing, IsUnfounded};
 ghost use Rattle.mcs_program.specs.Listings.{IsSupported};
 

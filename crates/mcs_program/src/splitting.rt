@@ -3,7 +3,7 @@
 ghost use Rattle.std.specs.Prelude.{◌≡◌, ◌≤◌, List, length, IfOk, OnOk};
 ghost use Rattle.mcs_system.specs.Plain as plain;
 ghost use Rattle.mcs_program.specs.Asked.{program_names, program_beliefs};
-ghost use Rattle.mcs_program.specs.Clauses.{AreMeantBy};
+ghost use Rattle.mcs_meant.specs.Meanings.{AreMeantBy};
 ghost use Rattle.mcs_program.specs.Splitting.{AgreeWith, AreModelViews, AreModelViewsAdded};
 ghost use Rattle.mcs_program.specs.Splitting.{IsModelView, IsViewFoundFor};
 

@@ -13,7 +13,7 @@ use mcs_trace::{Clause, Cnf};
 use std::alloc::Global;
 
 /// Whether the clauses have these literals.
-fn are_those(clauses: &[Clause], expected: &[&[i64]]) -> bool {
+pub(crate) fn are_those(clauses: &[Clause], expected: &[&[i64]]) -> bool {
     let mut same = clauses.len() == expected.len();
     for (clause, literals) in clauses.iter().zip(expected) {
         same = same && clause.literals() == *literals;
@@ -197,7 +197,7 @@ fn formulas_are_over_the_atoms_of_all_their_parts(rt: HostRuntime) {
 }
 
 /// The text of a context with one formula, that has so many negations.
-fn nested(alloc: Global, count: u32) -> Result<Vec<u8>, Memory> {
+pub(crate) fn nested(alloc: Global, count: u32) -> Result<Vec<u8>, Memory> {
     let mut text = Vec::from_slice(alloc, b"context c classical { ")?;
     for _ in 0..count {
         text.push(b'~')?;

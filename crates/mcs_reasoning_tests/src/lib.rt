@@ -1,5 +1,6 @@
-//! Tests of mcs_trace, mcs_sat, mcs_cnf and mcs_classical, and of what evaluates systems and is
-//! called by no crate yet: mcs_import, mcs_table and mcs_transversal; over the libraries alone.
+//! Tests of mcs_trace, mcs_sat, mcs_cnf, mcs_meant and mcs_classical, and of what evaluates systems
+//! and is called by no crate yet: mcs_import, mcs_table and mcs_transversal; over the libraries
+//! alone.
 #![tactic(auto)]
 
 #[cfg(test)]
@@ -14,6 +15,8 @@ mod contexts;
 mod entailments;
 #[cfg(test)]
 mod formulas;
+#[cfg(test)]
+mod meanings;
 #[cfg(test)]
 mod plans;
 #[cfg(test)]

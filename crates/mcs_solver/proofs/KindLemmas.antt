@@ -11,7 +11,7 @@ use Rattle.mcs_system.specs.Seen.{formula_of}
 use Rattle.mcs_system.specs.Systems.{variables_of, heads_from, heads_into}
 use Rattle.mcs_system.specs.Views.{beliefs_at}
 use Rattle.mcs_trace.specs.Clauses.{ClauseList}
-use Rattle.mcs_cnf.specs.ClauseLists.{clause_list}
+use Rattle.mcs_meant.specs.Meanings.{AreMeantBy}
 use Rattle.mcs_classical.specs.Assumptions.{assumed}
 use Rattle.mcs_classical.specs.Consequences.{AreConsequences, DoFollow, NoOthersFollow, IsLowerConsequence, IsUpperConsequence}
 use Rattle.mcs_classical.specs.declared.assumptions.Assumption.{Assumption}
@@ -82,8 +82,8 @@ found_of fs goals xs found are ys same = same_found fs goals xs ys found same ar
 
 -- where the clauses are as they were, and what is found is still right
 pub still_made : (names : List Name) (fs goals : List Formula) (xs : List Assumption) (clauses' clauses : ClauseList) (found' found : Consequences) → clauses' ≡ clauses
-    → (clauses ≡ clause_list names fs → AreConsequences fs xs goals found → AreConsequences fs xs goals found') → IsMadeOfFormulas names fs (λ set. assumed set xs) goals clauses found → IsMadeOfFormulas names fs (λ set. assumed set xs) goals clauses' found'
-still_made names fs goals xs clauses' clauses found' found kept right made = (kept ∙ made.0, found_of fs goals xs found' (right made.0 (made.1 xs (λ set. refl))))
+    → (AreMeantBy names fs clauses → AreConsequences fs xs goals found → AreConsequences fs xs goals found') → IsMadeOfFormulas names fs (λ set. assumed set xs) goals clauses found → IsMadeOfFormulas names fs (λ set. assumed set xs) goals clauses' found'
+still_made names fs goals xs clauses' clauses found' found kept right made = (subst (AreMeantBy names fs) (sym kept) made.0, found_of fs goals xs found' (right made.0 (made.1 xs (λ set. refl))))
 
 -- ---- what was found of a default theory
 same_base : (names : List Name) (items : List Item) (xs ys : List Assumption) (base : TheoryBase) → ((set : ℕ) → assumed set ys ≡ assumed set xs) → IsTheoryBase names items xs base → IsTheoryBase names items ys base
@@ -103,9 +103,11 @@ module _ (names : List Name) (heads heads' : ℕ → List Formula) (beliefs : Li
   pub made_for : (kb : Kb) (known : Option Known) → IsMadeOf names kb heads beliefs known → IsMadeOf names kb heads' beliefs known
   made_for (Classical fs) None made = made
   made_for (Classical fs) (Some (variants.Classical clauses found)) made = (made.0, λ xs is. made.1 xs (λ set. is set ∙ sym (same set)))
+  made_for (Classical fs) (Some (variants.Certified clauses)) made = made
   made_for (Classical fs) (Some (variants.Theory base)) made = tt
   made_for (DefaultTheory items) None made = tt
   made_for (DefaultTheory items) (Some (variants.Classical clauses found)) made = tt
+  made_for (DefaultTheory items) (Some (variants.Certified clauses)) made = tt
   made_for (DefaultTheory items) (Some (variants.Theory base)) made = λ xs is. made xs (λ set. is set ∙ sym (same set))
   made_for (Program rules) known made = tt
 

@@ -11,6 +11,7 @@ use Rattle.mcs_trace.specs.Clauses.{ClauseList}
 use Rattle.mcs_cnf.specs.Classical.{IsAcceptedClassical}
 use Rattle.mcs_cnf.specs.ClauseLists.{AreOver, clause_list}
 use Rattle.mcs_cnf.specs.Entailments.{Entailment}
+use Rattle.mcs_meant.specs.Meanings.{AreMeantBy}
 use Rattle.mcs_classical.specs.Assumptions.{assumed}
 use Rattle.mcs_classical.specs.Consequences.{AreConsequences}
 use Rattle.mcs_classical.specs.declared.assumptions.Assumption as declared
@@ -37,9 +38,9 @@ abbrev pub AreRightConsequences : List Formula → (ℕ → List Formula) → Li
 AreRightConsequences formulas heads beliefs found = (assumptions : List declared.Assumption)
     → ((rules : ℕ) → assumed rules assumptions ≡ heads rules) → AreConsequences formulas assumptions beliefs found
 
--- the clauses are those of the formulas, and what was found is right of these
+-- the clauses mean the formulas, and what was found is right of these
 abbrev pub IsMadeOfFormulas : List Name → List Formula → (ℕ → List Formula) → List Formula → ClauseList → consequences.Consequences → Type 0
-IsMadeOfFormulas names formulas heads beliefs clauses found = (clauses ≡ clause_list names formulas) × AreRightConsequences formulas heads beliefs found
+IsMadeOfFormulas names formulas heads beliefs clauses found = AreMeantBy names formulas clauses × AreRightConsequences formulas heads beliefs found
 
 -- ---- what was found of a default theory
 -- it was found of these items with any assumptions that are the heads of each set of rules
@@ -51,9 +52,11 @@ IsMadeOfItems names items heads base = (assumptions : List declared.Assumption)
 abbrev pub IsMadeOf : List Name → Kb → (ℕ → List Formula) → List Formula → Option known.Known → Type 0
 IsMadeOf names (Classical formulas) heads beliefs None = Unit {0}
 IsMadeOf names (Classical formulas) heads beliefs (Some (variants.Classical clauses found)) = IsMadeOfFormulas names formulas heads beliefs clauses found
+IsMadeOf names (Classical formulas) heads beliefs (Some (variants.Certified clauses)) = clauses ≡ clause_list names formulas
 IsMadeOf names (Classical formulas) heads beliefs (Some (variants.Theory base)) = Unit {0}
 IsMadeOf names (DefaultTheory items) heads beliefs None = Unit {0}
 IsMadeOf names (DefaultTheory items) heads beliefs (Some (variants.Classical clauses found)) = Unit {0}
+IsMadeOf names (DefaultTheory items) heads beliefs (Some (variants.Certified clauses)) = Unit {0}
 IsMadeOf names (DefaultTheory items) heads beliefs (Some (variants.Theory base)) = IsMadeOfItems names items heads base
 IsMadeOf names (Program rules) heads beliefs known = Unit {0}
 

@@ -1,7 +1,7 @@
 //! What a knowledge base accepts with heads, as views of beliefs, by the logic of its kind.
 
-ghost use Rattle.std.specs.Prelude.{◌≡◌, ◌≤◌, ℕ, List, [], ◌∷◌, None, length, map, IfOk, OnOk};
-ghost use Rattle.std.specs.Prelude.{IsTrue};
+ghost use Rattle.std.specs.Prelude.{◌≡◌, ◌≤◌, ℕ, List, [], ◌∷◌, ◌++◌, None, length, map, IfOk};
+ghost use Rattle.std.specs.Prelude.{OnOk, IsTrue};
 ghost use Rattle.std.specs.List.{AllByRecursion};
 ghost use Rattle.mcs_sets.specs.Orders.{StateBefore};
 ghost use Rattle.mcs_base.specs.Listings.{IsListing};
@@ -10,9 +10,10 @@ ghost use Rattle.mcs_system.specs.Plain.{Classical, DefaultTheory, Program};
 ghost use Rattle.mcs_system.specs.Plain as plain;
 ghost use Rattle.mcs_system.specs.Seen.{formula_of, item_of, rule_of, kb_of};
 ghost use Rattle.mcs_system.specs.Views.{IsAcceptedView};
-ghost use Rattle.mcs_cnf.specs.Classical.{certificate_of};
+ghost use Rattle.mcs_cnf.specs.Classical.{IsAcceptedClassical, certificate_of};
 ghost use Rattle.mcs_cnf.specs.ClauseLists.{AreOver, clause_list, with_formulas};
-ghost use Rattle.mcs_classical.specs.Given.{given_names, given_beliefs, AreConsequencesOf};
+ghost use Rattle.mcs_meant.specs.Meanings.{AreMeantBy};
+ghost use Rattle.mcs_classical.specs.Given.{given_names, given_beliefs};
 ghost use Rattle.mcs_evidence.specs.Defaults.{AreOverItems, defaults_of};
 ghost use Rattle.mcs_evidence.specs.Programs.{AreOverRules};
 ghost use Rattle.mcs_asking.specs.Certificates.{IsAcceptedFor};
@@ -28,7 +29,7 @@ use crate::question::Question;
 use mcs_asked::Asked;
 use mcs_asking::AnswerCert;
 use mcs_base::{Memory, Vars};
-use mcs_classical::{Consequences, Given, add_formulas, assumed, outputs_in};
+use mcs_classical::{Consequences, Given, add_formulas, add_meant, assumed, outputs_in};
 use mcs_default::{TheoryBase, extensions_from};
 use mcs_program::{answer_sets_from, list_answer_sets};
 use mcs_sat::ClauseBase;
@@ -98,7 +99,88 @@ fn made_clauses(alloc: Global, formulas: &[Formula], atoms: &[Name]) -> Result<C
     }
 }
 
-/// The clauses of the formulas, and what was found to follow from them. They are taken out of
+/// The clauses of the formulas, as a certificate numbers them. They are taken out of `known`, or
+/// made.
+fn kept_clauses(
+    alloc: Global,
+    known: &mut Option<Known>,
+    formulas: &[Formula],
+    atoms: &[Name],
+) -> Result<ClauseBase, Memory>
+    requires { AreOver atoms.now (map formula_of formulas.now) }
+    ensures made { IfOk result (λ c. (heads : ℕ → List plain.Formula) (beliefs : List plain.Formula)
+        → IsMadeOf atoms.now (Classical (map formula_of formulas.now)) heads beliefs known.old
+        → c ≡ clause_list atoms.now (map formula_of formulas.now)) }
+    ensures none { known.new ≡ None }
+{
+    match known.take() {
+        Some(Known::Certified(clauses)) => Ok(clauses),
+        other => {
+            drop(other);
+            made_clauses(alloc, formulas, atoms)
+        }
+    }
+}
+
+/// The one view that a classical context accepts, with its certificate. The clauses of its formulas
+/// are kept.
+fn shown_view(
+    alloc: Global,
+    known: &mut Option<Known>,
+    formulas: &[Formula],
+    question: &Question<'_>,
+) -> Result<(Vars, ClassicalCert), Memory>
+    requires formulas { AreOver (asked_names question.now) (map formula_of formulas.now) }
+    requires made { IsMadeFor question.now (Classical (map formula_of formulas.now)) known.old }
+    ensures made { IsMadeFor question.now (Classical (map formula_of formulas.now)) known.new }
+    ensures exact { IfOk result (λ r. AreAnswer question.now
+        (Classical (map formula_of formulas.now)) (r.0 ∷ [])) }
+    ensures shown { IfOk result (λ r. IsAcceptedClassical (asked_names question.now)
+        (map formula_of formulas.now ++ asked_heads question.now) (asked_beliefs question.now)
+        (r.0 ∷ []) (certificate_of r.1)) }
+{
+    let given = question.given;
+    let heads = assumed(alloc, given.assumptions, question.rules)?;
+    let mut clauses = kept_clauses(alloc, known, formulas, given.asked.atoms)?;
+    let shown = view_with(alloc, &mut clauses, &heads, given);
+    *known = Some(Known::Certified(clauses));
+    shown
+}
+
+/// Adds clauses that mean the formulas, one formula after the other, and preprocesses them.
+fn keep_meanings(
+    alloc: Global,
+    known: &mut ClauseBase,
+    formulas: &[Formula],
+    atoms: &[Name],
+) -> Result<(), Memory>
+    requires over { AreOver atoms.now (map formula_of formulas.now) }
+    requires meant { AreMeantBy atoms.now [] known.old }
+    ensures { OnOk result (AreMeantBy atoms.now (map formula_of formulas.now) known.new) }
+{
+    for formula in formulas {
+        add_meant(alloc, known, formula, atoms)?;
+    }
+    known.settle()
+}
+
+/// Clauses that mean the formulas, preprocessed for many searches. They are fewer than those that a
+/// certificate numbers.
+fn made_meanings(alloc: Global, formulas: &[Formula], atoms: &[Name]) -> Result<ClauseBase, Memory>
+    requires { AreOver atoms.now (map formula_of formulas.now) }
+    ensures { IfOk result (AreMeantBy atoms.now (map formula_of formulas.now)) }
+{
+    let mut known = ClauseBase::new(alloc, atoms.len() as u64)?;
+    match keep_meanings(alloc, &mut known, formulas, atoms) {
+        Ok(()) => Ok(known),
+        Err(error) => {
+            drop(known);
+            Err(error)
+        }
+    }
+}
+
+/// Clauses that mean the formulas, and what was found to follow from these. They are taken out of
 /// `known`, or made. If they are made, it is found at once that the beliefs follow that are
 /// literally among the formulas.
 fn kept_formulas(
@@ -120,7 +202,7 @@ fn kept_formulas(
         other => {
             drop(other);
             let found = Consequences::of(alloc, formulas, asked)?;
-            match made_clauses(alloc, formulas, asked.atoms) {
+            match made_meanings(alloc, formulas, asked.atoms) {
                 Ok(clauses) => Ok((clauses, found)),
                 Err(error) => {
                     drop(found);
@@ -131,35 +213,47 @@ fn kept_formulas(
     }
 }
 
-/// The one view that a classical context accepts. `clauses` are those of its formulas. Without a
-/// certificate, what was found before is used as far as possible, and what is found is kept.
+/// The one view that a classical context accepts. What was found before is used as far as possible,
+/// and what is found is kept.
 fn followed_view(
     alloc: Global,
-    clauses: &mut ClauseBase,
-    found: &mut Consequences,
+    known: &mut Option<Known>,
+    formulas: &[Formula],
     question: &Question<'_>,
-) -> Result<(Vars, Option<AnswerCert>), Memory>
-    requires { length (asked_names question.now) ≤ clauses.old.vars }
-    ensures kept { clauses.new ≡ clauses.old }
-    ensures right { (fs : List plain.Formula) → clauses.old
-        ≡ clause_list (asked_names question.now) fs → AreOver (asked_names question.now) fs
-        → AreConsequencesOf question.now.given.now fs found.old
-        → AreConsequencesOf question.now.given.now fs found.new }
-    ensures exact { IfOk result (λ r. (fs : List plain.Formula) → clauses.old
-        ≡ clause_list (asked_names question.now) fs → AreOver (asked_names question.now) fs
-        → AreConsequencesOf question.now.given.now fs found.old
-        → AreAnswer question.now (Classical fs) (r.0 ∷ [])) }
-    ensures certified { IfOk result (λ r. (fs : List plain.Formula) → clauses.old
-        ≡ clause_list (asked_names question.now) fs → AreOver (asked_names question.now) fs
-        → IsAnswerShown question.now (Classical fs) (r.0 ∷ []) r.1) }
+) -> Result<Vars, Memory>
+    requires formulas { AreOver (asked_names question.now) (map formula_of formulas.now) }
+    requires made { IsMadeFor question.now (Classical (map formula_of formulas.now)) known.old }
+    ensures made { IsMadeFor question.now (Classical (map formula_of formulas.now)) known.new }
+    ensures exact { IfOk result (λ view. AreAnswer question.now
+        (Classical (map formula_of formulas.now)) (view ∷ [])) }
 {
     let given = question.given;
+    let (mut clauses, mut found) = kept_formulas(alloc, known, formulas, given.asked)?;
+    let view = found.following(alloc, &mut clauses, given, question.rules);
+    *known = Some(Known::Classical { clauses, found });
+    view
+}
+
+/// The one view that a classical context accepts, with a certificate if one is wanted.
+fn classical_view(
+    alloc: Global,
+    known: &mut Option<Known>,
+    formulas: &[Formula],
+    question: &Question<'_>,
+) -> Result<(Vars, Option<AnswerCert>), Memory>
+    requires formulas { AreOver (asked_names question.now) (map formula_of formulas.now) }
+    requires made { IsMadeFor question.now (Classical (map formula_of formulas.now)) known.old }
+    ensures made { IsMadeFor question.now (Classical (map formula_of formulas.now)) known.new }
+    ensures exact { IfOk result (λ r. AreAnswer question.now
+        (Classical (map formula_of formulas.now)) (r.0 ∷ [])) }
+    ensures certified { IfOk result (λ r. IsAnswerShown question.now
+        (Classical (map formula_of formulas.now)) (r.0 ∷ []) r.1) }
+{
     if question.certify {
-        let heads = assumed(alloc, given.assumptions, question.rules)?;
-        let (view, cert) = view_with(alloc, clauses, &heads, given)?;
+        let (view, cert) = shown_view(alloc, known, formulas, question)?;
         Ok((view, Some(AnswerCert::Classical(cert))))
     } else {
-        let view = found.following(alloc, clauses, given, question.rules)?;
+        let view = followed_view(alloc, known, formulas, question)?;
         Ok((view, None))
     }
 }
@@ -183,8 +277,8 @@ fn view_of_nothing(alloc: Global, certify: bool) -> Result<(Vec<Vars>, Option<An
     Ok((views, Some(AnswerCert::Classical(cert))))
 }
 
-/// The views that a classical context accepts. The clauses of its formulas are kept once they are
-/// made, with what was found to follow. Where no belief is asked for, none are made.
+/// The views that a classical context accepts. Clauses are kept once they are made, with what was
+/// found to follow. Where no belief is asked for, none are made.
 fn classical_views(
     alloc: Global,
     known: &mut Option<Known>,
@@ -202,10 +296,7 @@ fn classical_views(
     if question.given.asked.beliefs.is_empty() {
         return view_of_nothing(alloc, question.certify);
     }
-    let (mut clauses, mut found) = kept_formulas(alloc, known, formulas, question.given.asked)?;
-    let shown = followed_view(alloc, &mut clauses, &mut found, question);
-    *known = Some(Known::Classical { clauses, found });
-    let (view, cert) = shown?;
+    let (view, cert) = classical_view(alloc, known, formulas, question)?;
     let mut views = Vec::new(alloc);
     match views.push(view) {
         Ok(()) => Ok((views, cert)),

@@ -2,11 +2,11 @@ use Rattle.std.proofs.Common.{◌≤◌, ◌∙◌, [], ◌∷◌, sym, subst, �
 use Rattle.std.specs.List.{AllByRecursion}
 use Rattle.mcs_system.specs.Plain.{Not}
 use Rattle.mcs_system.specs.Seen.{formula_of}
-use Rattle.mcs_trace.specs.Clauses.{ClauseList, IsUnsatisfiable, IsWithin}
+use Rattle.mcs_trace.specs.Clauses.{IsWithin}
 use Rattle.mcs_sat.specs.Answers.{IsSettledAnswer}
-use Rattle.mcs_cnf.proofs.EntailmentLemmas.{refutation}
 use Rattle.mcs_cnf.proofs.GrowingLemmas.{grown_within, grown_fewer}
-use Rattle.mcs_classical.proofs.RefutingLemmas.{answer_no, with_goal}
+use Rattle.mcs_meant.proofs.MeaningLemmas.{adds_formula}
+use Rattle.mcs_classical.proofs.RefutingLemmas.{meant_no, meant_yes}
 use Rattle.mcs_classical.proofs.consequence.counterexample_in.Goals as goal
 
 pub true_places-requires-clause-values : goal.true_places-requires-clause-values
@@ -29,15 +29,18 @@ cut-requires-clause-within c =
     (grown_within c.args.given.now.asked.now.atoms.now c.args.known.now c.satisfy-found.new.self ((Not (formula_of c.args.goal.now)) ∷ [], pushed) c.vars-vars.ensures.kept))
 
 pub returns-in-Some-clause-exact : goal.returns-in-Some-clause-exact
-returns-in-Some-clause-exact c = λ fs is over.
+returns-in-Some-clause-exact c = λ fs meant.
+    let names = c.args.given.now.asked.now.atoms.now in
+    let g = formula_of c.args.goal.now in
     let f = c.push_goal.new.known in
     let settled : IsSettledAnswer f (Some c.in-Some.values) = subst (IsSettledAnswer f) c.in-Some.is c.in_ok-values.ensures.exact in
-    answer_no fs (formula_of c.args.goal.now) c.args.given.now.asked.now.atoms.now c.args.known.now f c.in-Some.values.items c.deref.result.now c.true_places.result is c.in_ok-push_goal.ensures.ok c.args.given.now.different over c.requires.goal settled.1 c.deref.ensures.value c.true_places.ensures
+    meant_no fs g names f c.in-Some.values.items c.deref.result.now c.true_places.result c.args.given.now.different (adds_formula names (Not g) c.args.known.now f c.vars-vars.ensures.kept c.requires.goal c.in_ok-push_goal.ensures.ok fs meant) settled.1
+    c.deref.ensures.value c.true_places.ensures
 
 pub returns-in-None-clause-exact : goal.returns-in-None-clause-exact
-returns-in-None-clause-exact c = λ fs is over.
+returns-in-None-clause-exact c = λ fs meant.
+    let names = c.args.given.now.asked.now.atoms.now in
+    let g = formula_of c.args.goal.now in
     let f = c.push_goal.new.known in
-    let settled : IsSettledAnswer f None = subst (IsSettledAnswer f) c.in-None.is c.in_ok-values.ensures.exact in
-    let none : IsUnsatisfiable f.clauses = settled in
-    (refutation fs (formula_of c.args.goal.now) c.args.given.now.asked.now.atoms.now over c.requires.goal).1
-    (subst (λ (x : ClauseList). IsUnsatisfiable x.clauses) (with_goal fs (formula_of c.args.goal.now) c.args.given.now.asked.now.atoms.now c.args.known.now f is c.in_ok-push_goal.ensures.ok) none)
+    let none : IsSettledAnswer f None = subst (IsSettledAnswer f) c.in-None.is c.in_ok-values.ensures.exact in
+    meant_yes fs g names f (adds_formula names (Not g) c.args.known.now f c.vars-vars.ensures.kept c.requires.goal c.in_ok-push_goal.ensures.ok fs meant) none

@@ -5,6 +5,7 @@ use Rattle.mcs_trace.specs.Clauses.{ClauseList, IsWithin}
 use Rattle.mcs_system.specs.Seen.{default_of}
 use Rattle.mcs_default.specs.Theories.{consequents}
 use Rattle.mcs_default.proofs.General.{generated_clauses}
+use Rattle.mcs_meant.proofs.MeaningLemmas.{list_meant}
 use Rattle.mcs_cnf.proofs.GrowingLemmas.{grown_room, cut_fewer, cut_within}
 use Rattle.mcs_default.proofs.questions.counterexample.Goals as goal
 
@@ -27,4 +28,4 @@ returns-clause-exact c =
     let ds = map (λ d. default_of d.now) c.args.theory.now.defaults.now in
     IfOk-weaker c.counterexample_in-found.result _ _ (λ found told fs is.
     (let clauses = generated_clauses c.args.theory.now.asked.now.atoms.now fs ds c.args.set c.args.known.now c.append_consequents.new.known c.args.theory.now.over c.in_ok-append_consequents.ensures.ok is in
-    told (fs ++ consequents ds c.args.set) clauses.0 clauses.1)) c.counterexample_in-found.ensures.exact
+    told (fs ++ consequents ds c.args.set) (list_meant c.args.theory.now.asked.now.atoms.now (fs ++ consequents ds c.args.set) c.append_consequents.new.known clauses.1 clauses.0))) c.counterexample_in-found.ensures.exact

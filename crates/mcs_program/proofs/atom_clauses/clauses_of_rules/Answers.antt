@@ -2,8 +2,8 @@ use Rattle.std.proofs.Common.{◌≡◌, ◌∙◌, ◌++◌, ◌∷◌, [], map
 use Rattle.mcs_system.specs.Plain.{Formula, ProgramRule}
 use Rattle.mcs_system.specs.Seen.{rule_of}
 use Rattle.mcs_evidence.specs.Programs.{rule_formula, IsOverRule}
-use Rattle.mcs_program.specs.Clauses.{AreMeantBy}
-use Rattle.mcs_program.proofs.ClauseLemmas.{no_clauses}
+use Rattle.mcs_meant.specs.Meanings.{AreMeantBy}
+use Rattle.mcs_meant.proofs.MeaningLemmas.{no_clauses}
 use Rattle.mcs_base.proofs.Mapped.{image_each_read, map-take_read}
 use Rattle.mcs_program.proofs.atom_clauses.clauses_of_rules.Goals as goal
 

@@ -1,7 +1,7 @@
 use Rattle.std.proofs.Common.{map, take}
 use Rattle.mcs_system.specs.Seen.{rule_of}
 use Rattle.mcs_evidence.specs.Programs.{rule_formula}
-use Rattle.mcs_program.specs.Clauses.{AreMeantBy}
+use Rattle.mcs_meant.specs.Meanings.{AreMeantBy}
 use Rattle.mcs_program.proofs.atom_clauses.clauses_of_rules.Given as goal
 
 abbrev pub invariant-loop-rule : goal.invariant-loop-rule

@@ -7,7 +7,8 @@ use Rattle.mcs_cnf.specs.ClauseLists.{with_clause, IsThere}
 use Rattle.mcs_evidence.specs.Programs.{other_formula}
 use Rattle.mcs_program.specs.Clauses.{other_literals}
 use Rattle.mcs_classical.proofs.RefutingLemmas.{none_apart}
-use Rattle.mcs_program.proofs.ClauseLemmas.{adds_clause, clause_apart, other_says, others_there}
+use Rattle.mcs_meant.proofs.MeaningLemmas.{adds_clause, clause_apart}
+use Rattle.mcs_program.proofs.ClauseLemmas.{other_says, others_there}
 use Rattle.mcs_program.proofs.atom_clauses.push_other.Goals as goal
 
 pub push_clause-requires : goal.push_clause-requires

@@ -5,7 +5,8 @@ use Rattle.mcs_system.specs.Seen.{rule_of}
 use Rattle.mcs_cnf.specs.ClauseLists.{with_clause, IsThere}
 use Rattle.mcs_evidence.specs.Programs.{rule_formula}
 use Rattle.mcs_program.specs.Clauses.{rule_literals}
-use Rattle.mcs_program.proofs.ClauseLemmas.{adds_clause, rule_says, rule_there}
+use Rattle.mcs_meant.proofs.MeaningLemmas.{adds_clause}
+use Rattle.mcs_program.proofs.ClauseLemmas.{rule_says, rule_there}
 use Rattle.mcs_program.proofs.atom_clauses.push_rule.Goals as goal
 
 pub push_clause-requires : goal.push_clause-requires

@@ -8,7 +8,7 @@ use Rattle.mcs_system.proofs.NameLemmas.{is_in-among}
 use Rattle.mcs_evidence.specs.Programs.{rule_formula}
 use Rattle.mcs_evidence.specs.Pushing.{AreNamesOf}
 use Rattle.mcs_evidence.specs.Supports.{support_formula}
-use Rattle.mcs_program.specs.Clauses.{AreMeantBy, AddsFormula}
+use Rattle.mcs_meant.specs.Meanings.{AreMeantBy, AddsFormula}
 use Rattle.mcs_program.proofs.listing.add_own.Goals as goal
 
 pub loop-atom-init : goal.loop-atom-init

@@ -2,7 +2,7 @@ use Rattle.std.proofs.Common.{[], ◌∷◌, ◌++◌, map, take}
 use Rattle.mcs_system.specs.Seen.{rule_of}
 use Rattle.mcs_evidence.specs.Programs.{rule_formula}
 use Rattle.mcs_evidence.specs.Supports.{support_formula}
-use Rattle.mcs_program.specs.Clauses.{AreMeantBy}
+use Rattle.mcs_meant.specs.Meanings.{AreMeantBy}
 use Rattle.mcs_program.proofs.listing.add_own.Given as goal
 
 abbrev pub invariant-loop-atom : goal.invariant-loop-atom

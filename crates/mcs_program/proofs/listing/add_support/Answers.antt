@@ -6,7 +6,7 @@ use Rattle.mcs_cnf.specs.ClauseLists.{with_formulas}
 use Rattle.mcs_evidence.specs.Supports.{support_formula}
 use Rattle.mcs_evidence.proofs.Supports.{support-over}
 use Rattle.mcs_classical.proofs.RefutingLemmas.{formulas_apart, none_apart}
-use Rattle.mcs_program.proofs.ClauseLemmas.{adds_formula}
+use Rattle.mcs_meant.proofs.MeaningLemmas.{adds_formula}
 use Rattle.mcs_program.proofs.listing.add_support.Goals as goal
 
 pub returns : goal.returns

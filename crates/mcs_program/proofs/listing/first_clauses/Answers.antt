@@ -1,7 +1,7 @@
 use Rattle.std.proofs.Common.{map, subst, sym}
 use Rattle.mcs_system.specs.Seen.{rule_of}
 use Rattle.mcs_evidence.specs.Programs.{rule_formula}
-use Rattle.mcs_program.specs.Clauses.{AreMeantBy}
+use Rattle.mcs_meant.specs.Meanings.{AreMeantBy}
 use Rattle.mcs_program.proofs.listing.first_clauses.Goals as goal
 
 pub add_own-requires : goal.add_own-requires

@@ -8,7 +8,8 @@ use Rattle.mcs_system.specs.Plain.{Name, Formula, Atom}
 use Rattle.mcs_system.specs.Logic.{is_in}
 use Rattle.mcs_trace.specs.Clauses.{ClauseList}
 use Rattle.mcs_cnf.specs.ClauseLists.{atom_number}
-use Rattle.mcs_program.specs.Clauses.{literal_of, AreMeantBy}
+use Rattle.mcs_meant.specs.Meanings.{AreMeantBy}
+use Rattle.mcs_program.specs.Clauses.{literal_of}
 use Rattle.mcs_program.specs.Splitting.{value_formula, AreModelViewsAdded, IsModelView, IsViewFoundFor}
 use Rattle.mcs_program.proofs.SearchLemmas.{atoms_of_names}
 use Rattle.mcs_program.proofs.SplitLemmas.{view_kept, agree_more, one_added, none_added, both_added, value_within, value_back}

@@ -1,7 +1,7 @@
 use Rattle.std.proofs.Common.{ℕ, List, Vec, Global, map, sym, ap, subst}
 use Rattle.mcs_base.proofs.Results.{none_where_never}
 use Rattle.mcs_system.specs.Plain.{Name, Formula, Atom}
-use Rattle.mcs_program.specs.Clauses.{AreMeantBy}
+use Rattle.mcs_meant.specs.Meanings.{AreMeantBy}
 use Rattle.mcs_program.specs.Splitting.{AreModelViewsAdded, IsModelView, IsViewFoundFor}
 use Rattle.mcs_program.proofs.SearchLemmas.{atoms_of_names}
 use Rattle.mcs_program.proofs.SplitLemmas.{none_decided, none_added, all_views}

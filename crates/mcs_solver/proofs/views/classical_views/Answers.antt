@@ -1,57 +1,26 @@
-use Rattle.std.proofs.Common.{◌≡◌, ◌∙◌, ◌++◌, ℕ, List, [], ◌∷◌, length, refl, map, sym, ap, subst, arith}
+use Rattle.std.proofs.Common.{◌≡◌, ◌∙◌, ◌++◌, ℕ, List, [], ◌∷◌, length, map, sym, ap, subst, arith}
 use Rattle.std.proofs.lemmas.Bool.Decides.{nat_tests}
 use Rattle.std.proofs.lemmas.Grind.{common_steps}
 use Rattle.std.proofs.lemmas.Result.{IfOk-weaker}
 use Rattle.mcs_system.specs.Plain.{Classical}
 use Rattle.mcs_system.specs.Seen.{formula_of}
-use Rattle.mcs_cnf.proofs.GrowingLemmas.{room_known}
-use Rattle.mcs_solver.specs.Questions.{asked_names, asked_beliefs, asked_heads, heads_with, AreAnswer, IsAnswerShown}
-use Rattle.mcs_solver.proofs.KindLemmas.{still_made}
+use Rattle.mcs_solver.specs.Questions.{asked_names, asked_beliefs, asked_heads, AreAnswer, IsAnswerShown}
 use Rattle.mcs_solver.proofs.ViewLemmas.{no_beliefs}
 use Rattle.mcs_solver.proofs.views.classical_views.Goals as goal
-
-pub followed_view-shown-requires : goal.followed_view-shown-requires
-followed_view-shown-requires c =
-    let q = c.args.question.now in
-    let made = c.in_ok-clauses.ensures.made (heads_with q) c.requires.made in
-    room_known (asked_names q) c.in_ok-clauses.clauses (map formula_of c.args.formulas.now) made.0
-
-pub returns-in_err-view-clause-made : goal.returns-in_err-view-clause-made
-returns-in_err-view-clause-made c =
-    let q = c.args.question.now in
-    let fs = map formula_of c.args.formulas.now in
-    still_made (asked_names q) fs (asked_beliefs q) q.given.now.assumptions.now _ c.in_ok-clauses.clauses _ c.in_ok-clauses.found c.followed_view-shown.ensures.kept
-    (λ is. c.followed_view-shown.ensures.right fs is c.requires.formulas) (c.in_ok-clauses.ensures.made (heads_with q) c.requires.made)
-
-pub returns-in-Ok-clause-made : goal.returns-in-Ok-clause-made
-returns-in-Ok-clause-made c =
-    let q = c.args.question.now in
-    let fs = map formula_of c.args.formulas.now in
-    still_made (asked_names q) fs (asked_beliefs q) q.given.now.assumptions.now _ c.in_ok-clauses.clauses _ c.in_ok-clauses.found c.followed_view-shown.ensures.kept
-    (λ is. c.followed_view-shown.ensures.right fs is c.requires.formulas) (c.in_ok-clauses.ensures.made (heads_with q) c.requires.made)
-
-pub returns-in-Err-clause-made : goal.returns-in-Err-clause-made
-returns-in-Err-clause-made c =
-    let q = c.args.question.now in
-    let fs = map formula_of c.args.formulas.now in
-    still_made (asked_names q) fs (asked_beliefs q) q.given.now.assumptions.now _ c.in_ok-clauses.clauses _ c.in_ok-clauses.found c.followed_view-shown.ensures.kept
-    (λ is. c.followed_view-shown.ensures.right fs is c.requires.formulas) (c.in_ok-clauses.ensures.made (heads_with q) c.requires.made)
 
 pub returns-in-Ok-clause-exact : goal.returns-in-Ok-clause-exact
 returns-in-Ok-clause-exact c =
     let q = c.args.question.now in
     let fs = map formula_of c.args.formulas.now in
-    let made = c.in_ok-clauses.ensures.made (heads_with q) c.requires.made in
     let pushed = c.in-Ok.ensures.items ∙ ap (λ (xs : List ℕ). xs ++ c.in_ok-view.view ∷ []) c.new-views.ensures.items in
-    subst (AreAnswer q (Classical fs)) (sym pushed) (c.in_ok-view.ensures.exact fs made.0 c.requires.formulas (made.1 q.given.now.assumptions.now (λ rules. refl)))
+    subst (AreAnswer q (Classical fs)) (sym pushed) c.in_ok-view.ensures.exact
 
 pub returns-in-Ok-clause-certified : goal.returns-in-Ok-clause-certified
 returns-in-Ok-clause-certified c =
     let q = c.args.question.now in
     let fs = map formula_of c.args.formulas.now in
-    let made = c.in_ok-clauses.ensures.made (heads_with q) c.requires.made in
     let pushed = c.in-Ok.ensures.items ∙ ap (λ (xs : List ℕ). xs ++ c.in_ok-view.view ∷ []) c.new-views.ensures.items in
-    subst (λ (xs : List ℕ). IsAnswerShown q (Classical fs) xs c.in_ok-view.cert) (sym pushed) (c.in_ok-view.ensures.certified fs made.0 c.requires.formulas)
+    subst (λ (xs : List ℕ). IsAnswerShown q (Classical fs) xs c.in_ok-view.cert) (sym pushed) c.in_ok-view.ensures.certified
 
 pub returns-then-is_empty-clause-exact : goal.returns-then-is_empty-clause-exact
 returns-then-is_empty-clause-exact c =

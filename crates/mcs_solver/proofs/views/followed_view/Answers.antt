@@ -1,28 +1,25 @@
-use Rattle.std.proofs.Common.{◌≡◌, ◌∙◌, ◌++◌, [], ◌∷◌, List, map, ap, subst}
-use Rattle.mcs_sets.specs.Orders.{StateBefore}
-use Rattle.mcs_base.specs.Listings.{IsListing}
-use Rattle.mcs_system.specs.Plain.{Formula, Classical}
+use Rattle.std.proofs.Common.{map, refl}
+use Rattle.std.proofs.lemmas.Result.{IfOk-weaker}
 use Rattle.mcs_system.specs.Seen.{formula_of}
-use Rattle.mcs_system.specs.Views.{IsAcceptedView}
 use Rattle.mcs_cnf.proofs.EntailmentLemmas.{one_view}
 use Rattle.mcs_classical.specs.Consequences.{with_assumed}
-use Rattle.mcs_classical.proofs.ConsequenceLemmas.{assumed_over}
-use Rattle.mcs_solver.specs.Questions.{asked_names, asked_beliefs, asked_heads}
+use Rattle.mcs_solver.specs.Questions.{asked_names, asked_beliefs, heads_with}
+use Rattle.mcs_solver.proofs.KindLemmas.{still_made}
 use Rattle.mcs_solver.proofs.views.followed_view.Goals as goal
 
-pub view_with-requires-clause-heads : goal.view_with-requires-clause-heads
-view_with-requires-clause-heads c =
-    let q = c.args.question.now in
-    let told : map (λ f. formula_of f.now) c.deref.result.now ≡ asked_heads q = ap (map (λ f. formula_of f.now)) c.deref.ensures.value ∙ c.in_ok-heads.ensures in
-    rw told (assumed_over (asked_names q) q.rules q.given.now.assumptions.now q.given.now.over)
+pub following-view-requires : goal.following-view-requires
+following-view-requires c = (c.in_ok-clauses.ensures.made (heads_with c.args.question.now) c.requires.made).0.room
 
-pub returns-in_ok-view-clause-exact : goal.returns-in_ok-view-clause-exact
-returns-in_ok-view-clause-exact c =
+pub returns-clause-made : goal.returns-clause-made
+returns-clause-made c =
     let q = c.args.question.now in
-    let told : map (λ f. formula_of f.now) c.deref.result.now ≡ asked_heads q = ap (map (λ f. formula_of f.now)) c.deref.ensures.value ∙ c.in_ok-heads.ensures in
-    λ fs is over are. subst (λ (hs : List Formula). IsListing (IsAcceptedView (Classical (fs ++ hs)) (asked_beliefs q)) StateBefore (c.in_ok-view.view ∷ [])) told (c.in_ok-view.ensures.exact fs is over)
+    let fs = map formula_of c.args.formulas.now in
+    still_made (asked_names q) fs (asked_beliefs q) q.given.now.assumptions.now _ c.in_ok-clauses.clauses _ c.in_ok-clauses.found c.following-view.ensures.kept
+    (λ meant. c.following-view.ensures.right fs meant) (c.in_ok-clauses.ensures.made (heads_with q) c.requires.made)
 
-pub returns-in_ok-view-2-clause-exact : goal.returns-in_ok-view-2-clause-exact
-returns-in_ok-view-2-clause-exact c =
+pub returns-clause-exact : goal.returns-clause-exact
+returns-clause-exact c =
     let q = c.args.question.now in
-    λ fs is over are. one_view (with_assumed fs q.given.now.assumptions.now q.rules) (asked_beliefs q) _ (c.in_ok-view-2.ensures.exact fs is over are)
+    let fs = map formula_of c.args.formulas.now in
+    let made = c.in_ok-clauses.ensures.made (heads_with q) c.requires.made in
+    IfOk-weaker c.following-view.result _ _ (λ view h. one_view (with_assumed fs q.given.now.assumptions.now q.rules) (asked_beliefs q) view (h fs made.0 (made.1 q.given.now.assumptions.now (λ rules. refl)))) c.following-view.ensures.exact

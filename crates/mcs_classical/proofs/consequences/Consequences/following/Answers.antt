@@ -1,14 +1,14 @@
 use Rattle.std.proofs.Common.{◌≡◌, ◌++◌, ℕ, List, length, map, take, sym, ap, ◌∙◌, subst, arith}
 use Rattle.std.proofs.lemmas.Grind.{common_steps}
 use Rattle.std.specs.List.{AllByRecursion}
-use Rattle.mcs_base.proofs.Each.{all_append, all_push}
+use Rattle.mcs_base.proofs.Each.{all_push}
 use Rattle.mcs_system.specs.Plain.{Formula}
 use Rattle.mcs_system.specs.Logic.{Theory}
 use Rattle.mcs_system.specs.Seen.{formula_of}
 use Rattle.mcs_system.specs.Views.{Shows}
 use Rattle.mcs_trace.specs.Clauses.{IsWithin}
-use Rattle.mcs_cnf.specs.ClauseLists.{IsOver, AreOver}
-use Rattle.mcs_cnf.proofs.GrowingLemmas.{grown_clauses, grown_room, grown_within, cut_fewer}
+use Rattle.mcs_cnf.proofs.GrowingLemmas.{grown_room, grown_within, cut_fewer}
+use Rattle.mcs_meant.proofs.MeaningLemmas.{adds_formulas}
 use Rattle.mcs_classical.specs.Assumptions.{assumed}
 use Rattle.mcs_classical.specs.Consequences.{with_assumed, IsLowerConsequence}
 use Rattle.mcs_classical.specs.declared.bounds.Lower.{Lower}
@@ -17,7 +17,7 @@ use Rattle.mcs_classical.proofs.consequences.Consequences.following.Goals as goa
 use Rattle.mcs_classical.proofs.consequences.Consequences.following.Goals.{then-ne+in_ok-push, else-ne}
 
 pub returns-then-eq-clause-exact : goal.returns-then-eq-clause-exact
-returns-then-eq-clause-exact c = λ fs is over all.
+returns-then-eq-clause-exact c = λ fs meant all.
     let xs = c.args.given.now.assumptions.now in
     let gs = map (λ g. formula_of g.now) c.args.given.now.asked.now.beliefs.now in
     let same = ap (λ (s : ℕ). assumed s xs) c.common-assumed.ensures ∙ assumed_common c.args.set c.numbers_of.result xs c.numbers_of.ensures in
@@ -40,36 +40,33 @@ cut-requires-clause-within c =
     (grown_within c.args.given.now.asked.now.atoms.now c.args.known.now c.ask_left-found.new.known (assumed c.common-assumed.result c.args.given.now.assumptions.now, pushed) c.vars-vars.ensures.kept))
 
 pub returns-in_err-entailed-clause-right : goal.returns-in_err-entailed-clause-right
-returns-in_err-entailed-clause-right c = λ fs is over all.
+returns-in_err-entailed-clause-right c = λ fs meant all.
     let xs = c.args.given.now.assumptions.now in
     let set = c.common-assumed.result in
     record {
       lower = all.lower;
-      upper = c.ask_left-found.ensures.right fs set (grown_clauses c.args.given.now.asked.now.atoms.now c.args.known.now c.add_assumed.new.known (assumed set xs, c.in_ok-add_assumed.ensures.ok) fs is)
-          (all_append (IsOver c.args.given.now.asked.now.atoms.now) fs (assumed set xs) over (assumed_over c.args.given.now.asked.now.atoms.now set xs c.args.given.now.over)) all.upper;
+      upper = c.ask_left-found.ensures.right fs set (adds_formulas c.args.given.now.asked.now.atoms.now (assumed set xs) c.args.known.now c.add_assumed.new.known c.vars-vars.ensures.kept (assumed_over c.args.given.now.asked.now.atoms.now set xs c.args.given.now.over) c.in_ok-add_assumed.ensures.ok fs meant) all.upper;
     }
 
 pub returns-in_err-push-clause-right : goal.returns-in_err-push-clause-right
-returns-in_err-push-clause-right c = λ fs is over all.
+returns-in_err-push-clause-right c = λ fs meant all.
     let xs = c.args.given.now.assumptions.now in
     let gs = map (λ g. formula_of g.now) c.args.given.now.asked.now.beliefs.now in
     let set = c.common-assumed.result in
     record {
       lower = subst (λ (ls : List Lower). AllByRecursion (IsLowerConsequence fs xs gs) ls) (sym c.in_err-push.ensures.items) all.lower;
-      upper = c.ask_left-found.ensures.right fs set (grown_clauses c.args.given.now.asked.now.atoms.now c.args.known.now c.add_assumed.new.known (assumed set xs, c.in_ok-add_assumed.ensures.ok) fs is)
-          (all_append (IsOver c.args.given.now.asked.now.atoms.now) fs (assumed set xs) over (assumed_over c.args.given.now.asked.now.atoms.now set xs c.args.given.now.over)) all.upper;
+      upper = c.ask_left-found.ensures.right fs set (adds_formulas c.args.given.now.asked.now.atoms.now (assumed set xs) c.args.known.now c.add_assumed.new.known c.vars-vars.ensures.kept (assumed_over c.args.given.now.asked.now.atoms.now set xs c.args.given.now.over) c.in_ok-add_assumed.ensures.ok fs meant) all.upper;
     }
 
 pub returns-clause-right : goal.returns-clause-right
-returns-clause-right c = λ fs is over all.
+returns-clause-right c = λ fs meant all.
     let xs = c.args.given.now.assumptions.now in
     let gs = map (λ g. formula_of g.now) c.args.given.now.asked.now.beliefs.now in
     let set = c.common-assumed.result in
-    let told = grown_clauses c.args.given.now.asked.now.atoms.now c.args.known.now c.add_assumed.new.known (assumed set xs, c.in_ok-add_assumed.ensures.ok) fs is in
-    let told_over : AreOver c.args.given.now.asked.now.atoms.now (with_assumed fs xs set) = all_append (IsOver c.args.given.now.asked.now.atoms.now) fs (assumed set xs) over (assumed_over c.args.given.now.asked.now.atoms.now set xs c.args.given.now.over) in
-    let upper = c.ask_left-found.ensures.right fs set told told_over all.upper in
+    let told = adds_formulas c.args.given.now.asked.now.atoms.now (assumed set xs) c.args.known.now c.add_assumed.new.known c.vars-vars.ensures.kept (assumed_over c.args.given.now.asked.now.atoms.now set xs c.args.given.now.over) c.in_ok-add_assumed.ensures.ok fs meant in
+    let upper = c.ask_left-found.ensures.right fs set told all.upper in
     let shows : Shows (Theory (with_assumed fs xs set)) gs c.in_ok-entailed.entailed =
-    c.in_ok-entailed.ensures.exact (with_assumed fs xs set) told told_over (c.told-told.ensures fs xs all) in
+    c.in_ok-entailed.ensures.exact (with_assumed fs xs set) told (c.told-told.ensures fs xs all) in
     let l : Lower = record { assumed = set; entailed = c.in_ok-entailed.entailed } in
     elim c.if-ne.branch [
       | then-ne+in_ok-push w ↦ rw w.self-is (record {
@@ -80,12 +77,11 @@ returns-clause-right c = λ fs is over all.
     ]
 
 pub returns-clause-exact : goal.returns-clause-exact
-returns-clause-exact c = λ fs is over all.
+returns-clause-exact c = λ fs meant all.
     let xs = c.args.given.now.assumptions.now in
     let gs = map (λ g. formula_of g.now) c.args.given.now.asked.now.beliefs.now in
     let set = c.common-assumed.result in
-    let told = grown_clauses c.args.given.now.asked.now.atoms.now c.args.known.now c.add_assumed.new.known (assumed set xs, c.in_ok-add_assumed.ensures.ok) fs is in
-    let told_over : AreOver c.args.given.now.asked.now.atoms.now (with_assumed fs xs set) = all_append (IsOver c.args.given.now.asked.now.atoms.now) fs (assumed set xs) over (assumed_over c.args.given.now.asked.now.atoms.now set xs c.args.given.now.over) in
+    let told = adds_formulas c.args.given.now.asked.now.atoms.now (assumed set xs) c.args.known.now c.add_assumed.new.known c.vars-vars.ensures.kept (assumed_over c.args.given.now.asked.now.atoms.now set xs c.args.given.now.over) c.in_ok-add_assumed.ensures.ok fs meant in
     let same = ap (λ (s : ℕ). assumed s xs) c.common-assumed.ensures ∙ assumed_common c.args.set c.numbers_of.result xs c.numbers_of.ensures in
     subst (λ (hs : List Formula). Shows (Theory (fs ++ hs)) gs c.in_ok-entailed.entailed) same
-    (c.in_ok-entailed.ensures.exact (with_assumed fs xs set) told told_over (c.told-told.ensures fs xs all))
+    (c.in_ok-entailed.ensures.exact (with_assumed fs xs set) told (c.told-told.ensures fs xs all))

@@ -7,7 +7,7 @@ use Rattle.mcs_system.specs.Seen.{rule_of}
 use Rattle.mcs_system.specs.Logic.{holds_all}
 use Rattle.mcs_system.specs.Views.{IsAcceptedView}
 use Rattle.mcs_program.specs.Listings.{first_formulas, left_formulas}
-use Rattle.mcs_program.proofs.ClauseLemmas.{meant_same}
+use Rattle.mcs_meant.proofs.MeaningLemmas.{meant_same}
 use Rattle.mcs_program.proofs.listing.Listing.new.Goals as goal
 
 pub returns : goal.returns

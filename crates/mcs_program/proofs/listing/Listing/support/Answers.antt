@@ -3,7 +3,7 @@ use Rattle.mcs_system.specs.Seen.{rule_of}
 use Rattle.mcs_system.specs.Plain.{Name}
 use Rattle.mcs_evidence.specs.Supports.{support_formula}
 use Rattle.mcs_evidence.proofs.ProgramClauses.{within_names}
-use Rattle.mcs_program.specs.Clauses.{AddsFormula}
+use Rattle.mcs_meant.specs.Meanings.{AddsFormula}
 use Rattle.mcs_program.proofs.listing.Listing.support.Goals as goal
 
 pub add_support-requires-clause-over : goal.add_support-requires-clause-over

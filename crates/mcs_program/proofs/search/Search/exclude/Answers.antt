@@ -5,7 +5,7 @@ use Rattle.mcs_cnf.specs.ClauseLists.{with_formulas}
 use Rattle.mcs_evidence.specs.Programs.{beside_formula}
 use Rattle.mcs_evidence.proofs.Models.{beside-over}
 use Rattle.mcs_classical.proofs.RefutingLemmas.{formulas_apart, none_apart}
-use Rattle.mcs_program.proofs.ClauseLemmas.{adds_formula}
+use Rattle.mcs_meant.proofs.MeaningLemmas.{adds_formula}
 use Rattle.mcs_program.proofs.search.Search.exclude.Goals as goal
 
 pub returns : goal.returns

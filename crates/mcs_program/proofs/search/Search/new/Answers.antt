@@ -1,7 +1,7 @@
 use Rattle.std.proofs.Common.{map, subst, sym}
 use Rattle.mcs_system.specs.Seen.{rule_of}
 use Rattle.mcs_evidence.specs.Programs.{rule_formula}
-use Rattle.mcs_program.specs.Clauses.{AreMeantBy}
+use Rattle.mcs_meant.specs.Meanings.{AreMeantBy}
 use Rattle.mcs_program.proofs.SearchLemmas.{begun}
 use Rattle.mcs_program.proofs.search.Search.new.Goals as goal
 
