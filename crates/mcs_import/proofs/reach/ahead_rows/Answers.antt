@@ -18,3 +18,30 @@ returns-clause-rows c = rows_ahead c.args.system.now c.contexts.ensures.valid c.
     (rows_same c.args.system.now c.in_ok-reached.reached.items c.loop-i.rows.items c.loop-i.i c.in_ok-reached.ensures
     (omega (arith, c.loop-i-test.false, ap length c.contexts.ensures.value, length-map c.contexts.result.now context_of))
     (omega (arith, c.loop-i.auto.i-end, ap length c.contexts.ensures.value, length-map c.contexts.result.now context_of)) c.loop-i.invariant)
+
+pub overflow_cast-contexts : goal.overflow_cast-contexts
+overflow_cast-contexts c = omega (arith, c.contexts.ensures.few)
+
+pub returns-in_err-reached-clause-few : goal.returns-in_err-reached-clause-few
+returns-in_err-reached-clause-few c = omega (arith, c.contexts.ensures.few, ap length c.contexts.ensures.value, length-map c.contexts.result.now context_of)
+
+pub returns-in_err-reached-clause-valid : goal.returns-in_err-reached-clause-valid
+returns-in_err-reached-clause-valid c = c.contexts.ensures.valid
+
+pub ahead_of-requires-clause-in_range : goal.ahead_of-requires-clause-in_range
+ahead_of-requires-clause-in_range c = omega (arith, c.loop-i-test.true, ap length c.deref.ensures.value, c.in_ok-reached.ensures.one_each, ap length c.contexts.ensures.value, length-map c.contexts.result.now context_of)
+
+pub ahead_of-requires-clause-few : goal.ahead_of-requires-clause-few
+ahead_of-requires-clause-few c = omega (arith, c.contexts.ensures.few, ap length c.deref.ensures.value, c.in_ok-reached.ensures.one_each, ap length c.contexts.ensures.value, length-map c.contexts.result.now context_of)
+
+pub returns-in_err-push-clause-few : goal.returns-in_err-push-clause-few
+returns-in_err-push-clause-few c = omega (arith, c.contexts.ensures.few, ap length c.contexts.ensures.value, length-map c.contexts.result.now context_of)
+
+pub returns-in_err-push-clause-valid : goal.returns-in_err-push-clause-valid
+returns-in_err-push-clause-valid c = c.contexts.ensures.valid
+
+pub returns-clause-few : goal.returns-clause-few
+returns-clause-few c = omega (arith, c.contexts.ensures.few, ap length c.contexts.ensures.value, length-map c.contexts.result.now context_of)
+
+pub returns-clause-valid : goal.returns-clause-valid
+returns-clause-valid c = c.contexts.ensures.valid
