@@ -1,6 +1,7 @@
 //! What a classical context believes.
 
-ghost use Rattle.std.specs.Prelude.{◌≡◌, ◌<◌, ◌≤◌, List, [], ◌∷◌, cond, false, length, map, IfOk};
+ghost use Rattle.std.specs.Prelude.{◌≡◌, ◌<◌, ◌≤◌, ◌++◌, List, [], ◌∷◌, cond, false, length, map};
+ghost use Rattle.std.specs.Prelude.{IfOk};
 ghost use Rattle.mcs_sets.specs.Sets.{single, union};
 ghost use Rattle.mcs_sets.specs.Orders.{StateBefore};
 ghost use Rattle.mcs_base.specs.Listings.{IsListing};
@@ -14,6 +15,7 @@ ghost use Rattle.mcs_cnf.specs.Classical.{IsAcceptedClassical, certificate_of};
 ghost use Rattle.mcs_cnf.specs.Entailments.{entailment_of, says_yes};
 ghost use Rattle.mcs_classical.specs.Given.{given_names, given_beliefs};
 
+use crate::adding::add_formulas;
 use crate::consequence::entails_beside;
 use crate::given::Given;
 use mcs_asked::Asked;
@@ -104,6 +106,34 @@ pub fn outputs_in(
         entails.push(entail)?;
     }
     Ok((state, ClassicalCert { entails }))
+}
+
+/// The same with more formulas beside those. Their clauses are added for the search and removed
+/// again, also if memory runs out.
+pub fn outputs_with(
+    alloc: Global,
+    known: &mut ClauseBase,
+    added: &[&Formula],
+    given: &Given<'_>,
+) -> Result<(Vars, ClassicalCert), Memory>
+    requires added { AreOver (given_names given.now) (map (λ f. formula_of f.now) added.now) }
+    requires room { length (given_names given.now) ≤ known.old.vars }
+    ensures kept { known.new ≡ known.old }
+    ensures exact { IfOk result (λ r. (fs : List plain.Formula)
+        → known.old ≡ clause_list (given_names given.now) fs → AreOver (given_names given.now) fs
+        → IsListing (IsAcceptedView (Classical (fs ++ map (λ f. formula_of f.now) added.now))
+        (given_beliefs given.now)) StateBefore (r.0 ∷ [])) }
+    ensures accepted { IfOk result (λ r. (fs : List plain.Formula)
+        → known.old ≡ clause_list (given_names given.now) fs → AreOver (given_names given.now) fs
+        → IsAcceptedClassical (given_names given.now) (fs ++ map (λ f. formula_of f.now) added.now)
+        (given_beliefs given.now) (r.0 ∷ []) (certificate_of r.1)) }
+{
+    let vars = known.vars();
+    let count = known.count();
+    add_formulas(alloc, known, added, given.asked.atoms)?;
+    let shown = outputs_in(alloc, known, given);
+    known.cut(vars, count);
+    shown
 }
 
 /// The same for a list of clauses, which is preprocessed once for all beliefs, and is left

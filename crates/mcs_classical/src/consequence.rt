@@ -23,6 +23,16 @@ use mcs_system::{Formula, Name, holds_at};
 use mcs_trace::{Cnf, Entail};
 use std::alloc::Global;
 
+/// Whether the entailment says `yes`.
+pub fn says_yes(entail: &Entail) -> bool
+    ensures { result ≡ says_yes (entailment_of entail.now) }
+{
+    match entail {
+        Entail::Yes(_) => true,
+        Entail::No(_) => false,
+    }
+}
+
 /// Adds the clauses of the negated goal. If memory runs out, `known` is as before.
 fn push_goal(
     alloc: Global,

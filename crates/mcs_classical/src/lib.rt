@@ -14,8 +14,10 @@ mod satisfying;
 
 pub use adding::{add_formulas, add_meant};
 pub use assumptions::{Assumption, assumed, holding};
-pub use beliefs::{outputs, outputs_from, outputs_in};
-pub use consequence::{counterexample_in, entails, entails_beside, entails_from, entails_in};
+pub use beliefs::{outputs, outputs_from, outputs_in, outputs_with};
+pub use consequence::{
+    counterexample_in, entails, entails_beside, entails_from, entails_in, says_yes,
+};
 pub use consequences::Consequences;
 pub use given::Given;
 pub use refuting::true_places;

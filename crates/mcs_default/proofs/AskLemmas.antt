@@ -18,20 +18,12 @@ use Rattle.mcs_cnf.specs.Entailments.{Entailment, entailment_of, says_yes, IsAcc
 use Rattle.mcs_evidence.specs.Defaults.{Absence, absence_of, defaults_at, negated_justs, IsDenied, AreDenied}
 use Rattle.mcs_evidence.specs.Theories.{all_of}
 use Rattle.mcs_evidence.proofs.TheoryLemmas.{others, has-others}
-use Rattle.mcs_evidence.proofs.Picked.{picked_in, picked_out}
+use Rattle.mcs_evidence.proofs.Picked.{picked_in}
 use Rattle.mcs_default.specs.declared.asking.Justs as justs
-use Rattle.mcs_default.specs.Told.{IsBlockedBy, IsToldOfJusts, IsAbsentOf, IsAbsentAt, AreAbsentOutside, prerequisites}
-use Rattle.mcs_default.proofs.General.{formula_at, negated_push}
-
--- ---- lists that are shown not to follow
-pub denied_same : (names : List Name) (fs gs hs : List Formula) (es es' : List Entailment) → gs ≡ hs → es ≡ es' → AreDenied names fs gs es → AreDenied names fs hs es'
-denied_same names fs gs hs es es' same same' denied = subst (λ (xs : List Formula). AreDenied names fs xs es') same (subst (AreDenied names fs gs) same' denied)
-
-pub denied_push : (names : List Name) (fs gs hs : List Formula) (g : Formula) (es es' : List Entail) (e : Entail) → hs ≡ gs ++ g ∷ [] → es' ≡ es ++ e ∷ []
-    → IsAcceptedEntailment names fs g (entailment_of e) → says_yes (entailment_of e) ≡ false → AreDenied names fs gs (map entailment_of es) → AreDenied names fs hs (map entailment_of es')
-denied_push names fs gs hs g es es' e more pushed accepted said before =
-    denied_same names fs (gs ++ g ∷ []) hs (map entailment_of es ++ entailment_of e ∷ []) (map entailment_of es') (sym more) (sym (ap (map entailment_of) pushed ∙ map_push entailment_of es e))
-    (zip_push (IsDenied names fs) gs (map entailment_of es) g (entailment_of e) before (accepted, said))
+use Rattle.mcs_default.specs.Told.{IsBlockedBy, IsToldOfJusts, IsAbsentOf, IsAbsentAt, AreAbsentOutside}
+use Rattle.mcs_grounding.proofs.Numbers.{formula_at}
+use Rattle.mcs_grounding.proofs.DeniedLemmas.{denied_same}
+use Rattle.mcs_default.proofs.General.{negated_push}
 
 -- ---- justifications
 pub justs_more : (justs : List code.Formula) (i : ℕ) (f : code.Formula) → i < length justs → f ≡ get_or justs i f → map Not (map formula_of (take (i + 1) justs)) ≡ map Not (map formula_of (take i justs)) ++ Not (formula_of f) ∷ []
@@ -58,12 +50,6 @@ module _ {A : Type 0} (view : A → Default) where
       map_append : (ys zs : List Entail) → map entailment_of (ys ++ zs) ≡ map entailment_of ys ++ map entailment_of zs
       map_append [] zs = refl
       map_append (y ∷ ys) zs = ap (λ (ws : List Entailment). entailment_of y ∷ ws) (map_append ys zs)
-
-  pub next_more : (xs : List A) (set i : ℕ) (x : A) → i < length xs → x ≡ get_or xs i x → has set i ≡ true → prerequisites (map view (take (i + 1) xs)) set ≡ prerequisites (map view (take i xs)) set ++ (view x).pre ∷ []
-  next_more xs set i x less is member = ap (map (λ (d : Default). d.pre)) (picked_in view xs set i x less is member) ∙ map_push (λ (d : Default). d.pre) (defaults_at 0 (map view (take i xs)) set) (view x)
-
-  pub next_same : (xs : List A) (set i : ℕ) (x : A) → i < length xs → x ≡ get_or xs i x → has set i ≡ false → prerequisites (map view (take (i + 1) xs)) set ≡ prerequisites (map view (take i xs)) set
-  next_same xs set i x less is member = ap (map (λ (d : Default). d.pre)) (picked_out view xs set i x less is member)
 
 -- ---- those outside
 pub absent_more : (names : List Name) (fs : List Formula) (ds : List Default) (set i : ℕ) (d : Default) (os os' : List Outside) (o : Outside) → i < length ds → slice_get ds i ≡ Some d → has set i ≡ false → os' ≡ os ++ o ∷ []

@@ -15,7 +15,7 @@ use Rattle.mcs_classical.specs.Models.{IsCounterexample}
 use Rattle.mcs_evidence.specs.Defaults.{facts_of, defaults_of, generated}
 use Rattle.mcs_system.proofs.Consequence.{each_holds}
 use Rattle.mcs_evidence.proofs.DefaultLemmas.{generated_each}
-use Rattle.mcs_default.specs.Theories.{AreClausesOf, AreParts, consequents}
+use Rattle.mcs_grounding.specs.Theories.{AreClausesOf, AreParts, consequents}
 use Rattle.mcs_default.specs.Assignments.{holds_part, holds_part_of, holds_part_at, with_part}
 use Rattle.mcs_default.specs.Searches.{IsSupportedAt, IsUnsupportedAt, IsAllowedAt, IsBlockedAt, IsConflict, IsLower, IsUpper, CanBeAsked}
 use Rattle.mcs_default.specs.declared.models.Part as part

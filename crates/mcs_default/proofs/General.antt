@@ -1,17 +1,17 @@
 -- Of lists, clause lists and the defaults of a set.
-use Rattle.std.proofs.Common.{◌≡◌, ℕ, ◌+◌, ◌<◌, ◌≤◌, suc, true, false, List, [], ◌∷◌, ◌++◌, map, length, get_or, take, arith, sym, ap, ◌∙◌, slice_get}
+use Rattle.std.proofs.Common.{◌≡◌, ℕ, ◌+◌, ◌<◌, ◌≤◌, true, false, List, [], ◌∷◌, ◌++◌, map, length, get_or, take, sym, ap, ◌∙◌}
 use Rattle.std.proofs.lemmas.List.{map_push, append-nil}
 use Rattle.mcs_sets.specs.Sets.{has}
 use Rattle.mcs_base.proofs.Each.{all_append}
 use Rattle.mcs_base.proofs.Lists.{flat_map_push}
-use Rattle.mcs_system.specs.Plain.{Name, Formula, Not, Default, Item}
+use Rattle.mcs_system.specs.Plain.{Name, Formula, Not, Default}
 use Rattle.mcs_trace.specs.Clauses.{ClauseList}
 use Rattle.mcs_cnf.specs.ClauseLists.{with_formulas, IsOver}
 use Rattle.mcs_cnf.proofs.ListLemmas.{with_append}
 use Rattle.mcs_cnf.proofs.GrowingLemmas.{grown_clauses}
-use Rattle.mcs_evidence.specs.Defaults.{defaults_at, defaults_of, negated_justs, numbered_default, numbered_formula}
+use Rattle.mcs_evidence.specs.Defaults.{defaults_at, negated_justs}
 use Rattle.mcs_evidence.proofs.TheoryLemmas.{consequents_over}
-use Rattle.mcs_default.specs.Theories.{AreClausesOf, consequents}
+use Rattle.mcs_grounding.specs.Theories.{AreClausesOf, consequents}
 use Rattle.mcs_evidence.specs.Theories.{AreOverDefaults}
 use Rattle.mcs_evidence.proofs.Picked.{picked_in, picked_out, picked_all}
 
@@ -48,13 +48,3 @@ generated_clauses names fs ds set known new over grown (is, over') = (
   grown_clauses names known new (consequents ds set, grown) fs is,
   all_append (IsOver names) fs (consequents ds set) over' (consequents_over names 0 ds set over),
 )
-
--- ---- numbers that are counted from 1
-pub numbered_at : (items : List Item) (k : ℕ) → numbered_default items (k + 1) ≡ slice_get (defaults_of items) k
-numbered_at items k = let e : k + 1 ≡ suc k = omega arith in ap (numbered_default items) e
-
-pub formula_at : (fs : List Formula) (k : ℕ) → numbered_formula fs (k + 1) ≡ slice_get fs k
-formula_at fs k = let e : k + 1 ≡ suc k = omega arith in ap (numbered_formula fs) e
-
-pub get_later : (d : Default) (ds : List Default) (i : ℕ) → slice_get (d ∷ ds) (i + 1) ≡ slice_get ds i
-get_later d ds i = let e : i + 1 ≡ suc i = omega arith in ap (slice_get (d ∷ ds)) e

@@ -16,10 +16,12 @@ use Rattle.mcs_trace.specs.declared.certificate.Entail.{Entail}
 use Rattle.mcs_cnf.specs.Entailments.{Entailment, entailment_of}
 use Rattle.mcs_cnf.specs.Classical.{AreShown}
 use Rattle.mcs_evidence.specs.Defaults.{Absence, Unsupported, Blocked, Verdict, Fails, Applied, Ungrounded, Extension, facts_of, defaults_of, defaults_at, defaults_in, numbered_default, generated, all_defaults, negated_justs, AreDenied, IsAbsent, AreGrounded, FailsToApply, HasApplied, IsGenerating, IsAcceptedVerdict, ShowsView, IsAcceptedDefault}
-use Rattle.mcs_default.specs.Theories.{consequents, with_view}
+use Rattle.mcs_grounding.specs.Theories.{consequents}
+use Rattle.mcs_default.specs.Told.{with_view}
 use Rattle.mcs_evidence.specs.Theories.{all_of}
-use Rattle.mcs_default.specs.Told.{IsAbsentOf, IsAbsentAt, AreAbsentOutside, HasBlocked, HasAppliedOf, AreDefaultNumbers, prerequisites}
-use Rattle.mcs_default.proofs.General.{numbered_at}
+use Rattle.mcs_default.specs.Told.{IsAbsentOf, IsAbsentAt, AreAbsentOutside, HasBlocked, HasAppliedOf}
+use Rattle.mcs_grounding.specs.Told.{AreDefaultNumbers, prerequisites}
+use Rattle.mcs_grounding.proofs.Numbers.{numbered_at}
 
 -- the verdict is accepted, and the view is the one that it shows
 abbrev pub IsVerdict : List Name → List Item → List Formula → ℕ → Verdict → Option ℕ → Type 0

@@ -18,7 +18,7 @@ use Rattle.mcs_classical.specs.declared.assumptions.Assumption.{Assumption}
 use Rattle.mcs_evidence.specs.Defaults.{AreOverItems, facts_of, defaults_of, generated}
 use Rattle.mcs_evidence.specs.Theories.{IsDefaultAt}
 use Rattle.mcs_evidence.proofs.TheoryLemmas.{facts_with, defaults_with, over_with_facts, over_facts}
-use Rattle.mcs_default.specs.Theories.{AreClausesOf, AreParts, consequents}
+use Rattle.mcs_grounding.specs.Theories.{AreClausesOf, AreParts, consequents}
 use Rattle.mcs_default.specs.Assignments.{with_part}
 use Rattle.mcs_default.specs.Searches.{IsLower, IsUpper, IsConflict, AreRightFindings, CanBeAsked}
 use Rattle.mcs_default.specs.Keeping.{items_with, IsTheoryBase}

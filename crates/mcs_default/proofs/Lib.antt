@@ -3,7 +3,6 @@ pub mod SameLemmas
 pub mod PushLemmas
 pub mod SaidLemmas
 pub mod AskLemmas
-pub mod OrderLemmas
 pub mod JudgeLemmas
 pub mod FindingLemmas
 pub mod SearchLemmas

@@ -9,7 +9,7 @@ use Rattle.mcs_system.specs.Logic.{holds, Entails}
 use Rattle.mcs_system.proofs.Consequence.{each_holds}
 use Rattle.mcs_evidence.specs.Defaults.{facts_of, defaults_of, generated}
 use Rattle.mcs_evidence.proofs.TheoryLemmas.{facts_with, defaults_with}
-use Rattle.mcs_default.specs.Theories.{consequents}
+use Rattle.mcs_grounding.specs.Theories.{consequents}
 use Rattle.mcs_default.specs.Searches.{IsLower}
 use Rattle.mcs_default.specs.declared.findings.Lower as lower
 

@@ -6,8 +6,8 @@ use Rattle.mcs_system.specs.Plain.{Formula, Item}
 use Rattle.mcs_trace.specs.Clauses.{ClauseList}
 use Rattle.mcs_cnf.specs.ClauseLists.{IsOver}
 use Rattle.mcs_evidence.specs.Theories.{all_of}
-use Rattle.mcs_default.specs.Asked.{AreItemsOf, theory_names, theory_defaults}
-use Rattle.mcs_default.specs.declared.asked.Theory as theory
+use Rattle.mcs_grounding.specs.Asked.{AreItemsOf, theory_names, theory_defaults}
+use Rattle.mcs_grounding.specs.declared.asked.Theory as theory
 
 module _ {t t' : Bor theory.Theory} {k k' : ClauseList} where
   pub same_items : (items : List Item) → (t' ≡ t) × (k' ≡ k) → AreItemsOf t.now k items → AreItemsOf t'.now k' items

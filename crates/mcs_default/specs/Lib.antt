@@ -1,4 +1,3 @@
-pub mod Theories
 pub mod Told
 pub mod Searches
 pub mod Assignments

@@ -3,7 +3,8 @@ use Rattle.std.specs.Prelude.{List}
 use Rattle.mcs_sets.specs.Sets.{Within}
 use Rattle.mcs_system.specs.Plain.{Item}
 use Rattle.mcs_evidence.specs.Theories.{all_of}
-use Rattle.mcs_default.specs.Asked.{theory_defaults, IsSearchOf}
+use Rattle.mcs_grounding.specs.Asked.{theory_defaults}
+use Rattle.mcs_default.specs.Asked.{IsSearchOf}
 use Rattle.mcs_default.specs.Known.{IsKnown}
 use Rattle.mcs_default.specs.declared.known.Known as known
 use Rattle.mcs_default.specs.declared.known.Node as node

@@ -6,7 +6,7 @@ use Rattle.mcs_system.specs.Plain.{Name, Formula, Falsity, Not, Default, Item}
 use Rattle.mcs_system.specs.Logic.{Theory, Entails, holds_all, true_names}
 use Rattle.mcs_system.specs.Views.{Shows}
 use Rattle.mcs_evidence.specs.Defaults.{facts_of, defaults_of, generated}
-use Rattle.mcs_default.specs.Theories.{AreParts}
+use Rattle.mcs_grounding.specs.Theories.{AreParts}
 use Rattle.mcs_default.specs.Assignments.{with_part}
 use Rattle.mcs_default.specs.declared.models.Part.TheVariants as parts
 use Rattle.mcs_evidence.specs.Theories.{IsDefaultAt, NoneSupported, Generates}

@@ -1,14 +1,13 @@
 -- What the answers to questions about the defaults of a theory say.
-use Rattle.std.specs.Prelude.{◌≡◌, ℕ, ◌+◌, ◌<◌, false, IsTrue, ◌↔◌, List, [], ◌∷◌, ◌++◌, map, Some, slice_get}
+use Rattle.std.specs.Prelude.{Option, None, ◌≡◌, ℕ, ◌+◌, false, IsTrue, ◌↔◌, List, [], ◌∷◌, ◌++◌, map, Some, slice_get}
 use Rattle.std.specs.List.{AllZip}
-use Rattle.mcs_sets.specs.Sets.{has, minus, members, Within}
-use Rattle.mcs_base.specs.Listings.{IsAmong, AreApart}
+use Rattle.mcs_sets.specs.Sets.{has, minus, members}
 use Rattle.mcs_system.specs.Plain.{Name, Formula, Not, Default, Item}
 use Rattle.mcs_trace.specs.declared.certificate.Entail.{Entail}
 use Rattle.mcs_cnf.specs.Entailments.{Entailment, entailment_of}
 use Rattle.mcs_cnf.specs.Classical.{AreShown}
-use Rattle.mcs_evidence.specs.Defaults.{Absence, Unsupported, Blocked, absence_of, verdict_of, facts_of, defaults_of, defaults_at, defaults_in, generated, negated_justs, numbered_formula, IsEntailmentShown, IsDenied, AreDenied, AreGrounded, IsAcceptedVerdict, ShowsView}
-use Rattle.mcs_default.specs.Theories.{consequents}
+use Rattle.mcs_evidence.specs.Defaults.{Absence, Unsupported, Blocked, absence_of, verdict_of, facts_of, defaults_at, defaults_in, generated, negated_justs, numbered_formula, IsEntailmentShown, IsDenied, AreDenied, AreGrounded, IsAcceptedVerdict, ShowsView}
+use Rattle.mcs_grounding.specs.Told.{AreDefaultNumbers}
 use Rattle.mcs_evidence.specs.Theories.{all_of}
 use Rattle.mcs_default.specs.declared.asking.Justs as justs
 use Rattle.mcs_default.specs.declared.asking.Justs.TheVariants as justs_variants
@@ -20,10 +19,6 @@ use Rattle.mcs_default.specs.declared.outside.Others as others
 use Rattle.mcs_default.specs.declared.outside.Others.TheVariants as others_variants
 use Rattle.mcs_default.specs.declared.outside.Rest as rest
 use Rattle.mcs_default.specs.declared.outside.Rest.TheVariants as rest_variants
-use Rattle.mcs_default.specs.declared.grounding.Next as next
-use Rattle.mcs_default.specs.declared.grounding.Next.TheVariants as next_variants
-use Rattle.mcs_default.specs.declared.grounding.Grounding as grounding
-use Rattle.mcs_default.specs.declared.grounding.Grounding.TheVariants as grounding_variants
 use Rattle.mcs_default.specs.declared.verdict.Judged as judged
 
 -- ---- of one default
@@ -78,30 +73,6 @@ abbrev pub IsToldOfRest : List Name → List Formula → List Default → List F
 IsToldOfRest names fs ds beliefs set (rest_variants.Applied number pre es) = HasAppliedOf names fs ds set number pre es.items
 IsToldOfRest names fs ds beliefs set (rest_variants.Complete os view es) = AreAbsentOutside names fs ds set (map absence_of os.items) × AreShown names fs beliefs view (map entailment_of es.items)
 
--- ---- of the order of their prerequisites
--- the prerequisites of the defaults of the set
-abbrev pub prerequisites : List Default → ℕ → List Formula
-prerequisites ds set = map (λ (d : Default). d.pre) (defaults_at 0 ds set)
-
-abbrev pub IsToldNext : List Name → List Formula → List Default → ℕ → next.Next → Type 0
-IsToldNext names fs ds left (next_variants.Supported k pre) = (d : Default) × (slice_get ds k ≡ Some d) × IsEntailmentShown names fs d.pre (entailment_of pre)
-IsToldNext names fs ds left (next_variants.Stuck es) = AreDenied names fs (prerequisites ds left) (map entailment_of es.items)
-
--- a default that is found is one of those that are left
-abbrev pub IsNextInRange : ℕ → ℕ → next.Next → Type 0
-IsNextInRange n left (next_variants.Supported k pre) = (k < n) × IsTrue (has left k)
-IsNextInRange n left (next_variants.Stuck es) = Unit {0}
-
--- the numbers of the defaults of the set, each once
-abbrev pub AreDefaultNumbers : ℕ → List ℕ → Type 0
-AreDefaultNumbers set order = AreApart order × ((number : ℕ) → IsAmong number order ↔ ((k : ℕ) × (number ≡ k + 1) × IsTrue (has set k)))
-
-abbrev pub IsToldOfOrder : List Name → List Formula → List Default → ℕ → grounding.Grounding → Type 0
-IsToldOfOrder names fs ds set (grounding_variants.Grounded order pres) =
-    AreDefaultNumbers set order.items × ((items : List Item) → ds ≡ defaults_of items → AreGrounded names items fs order.items (map entailment_of pres.items))
-IsToldOfOrder names fs ds set (grounding_variants.Stuck closed es) =
-    Within closed set × (¬ (closed ≡ set)) × AreDenied names (fs ++ consequents ds closed) (prerequisites ds (minus set closed)) (map entailment_of es.items)
-
 -- ---- of a set of defaults of items
 abbrev pub IsToldOfJustsIn : List Name → List Item → ℕ → List Entail → Type 0
 IsToldOfJustsIn names items set es = AreDenied names (generated items set) (negated_justs (defaults_in items set)) (map entailment_of es)
@@ -113,3 +84,8 @@ IsToldOrder names items set order pres = AreDefaultNumbers set order × AreGroun
 abbrev pub IsSetJudged : List Name → List Item → List Formula → ℕ → judged.Judged → Type 0
 IsSetJudged names items beliefs set j =
     IsAcceptedVerdict names items beliefs set (verdict_of j.verdict) × ((places : ℕ) → ShowsView names items beliefs set (verdict_of j.verdict) places ↔ (j.view ≡ Some places))
+
+-- the views with one more, if there is one
+abbrev pub with_view : List ℕ → Option ℕ → List ℕ
+with_view views None = views
+with_view views (Some view) = views ++ view ∷ []

@@ -5,14 +5,14 @@ ghost use Rattle.mcs_system.specs.Plain as plain;
 ghost use Rattle.mcs_system.specs.Seen.{formula_of, default_of};
 ghost use Rattle.mcs_cnf.specs.ClauseLists.{IsOver, AreOver};
 ghost use Rattle.mcs_cnf.specs.Entailments.{entailment_of, says_yes, IsAcceptedEntailment};
-ghost use Rattle.mcs_default.specs.Asked.{theory_names};
-ghost use Rattle.mcs_default.specs.Theories.{AreClausesOf};
+ghost use Rattle.mcs_grounding.specs.Asked.{theory_names};
+ghost use Rattle.mcs_grounding.specs.Theories.{AreClausesOf};
 ghost use Rattle.mcs_evidence.specs.Theories.{IsOverDefault};
 ghost use Rattle.mcs_default.specs.Told.{IsToldOfJusts, IsToldOfDefault};
 
-use crate::asked::Theory;
 use mcs_base::Memory;
-use mcs_classical::{Given, entails_from};
+use mcs_classical::{Given, entails_from, says_yes};
+use mcs_grounding::Theory;
 use mcs_system::{Default, Formula};
 use mcs_trace::{Cnf, Entail, Outside};
 use std::alloc::Global;
@@ -33,16 +33,6 @@ pub(crate) enum Standing {
     Absent(Outside),
     /// It applies: the prerequisite follows, and no negation of a justification does.
     Applies(Entail, Vec<Entail>),
-}
-
-/// Whether the entailment says `yes`.
-pub(crate) fn says_yes(entail: &Entail) -> bool
-    ensures { result ≡ says_yes (entailment_of entail.now) }
-{
-    match entail {
-        Entail::Yes(_) => true,
-        Entail::No(_) => false,
-    }
 }
 
 /// The number, from 1, of what stands at the index. Certificates have no numbers from 2^32 on:

@@ -2,14 +2,14 @@
 
 ghost use Rattle.std.specs.Prelude.{◌≡◌, ◌≤◌, ◌++◌, List, length, IfOk, OnOk};
 ghost use Rattle.mcs_system.specs.Plain as plain;
-ghost use Rattle.mcs_default.specs.Asked.{theory_names, theory_defaults};
-ghost use Rattle.mcs_default.specs.Theories.{AreClausesOf, consequents};
+ghost use Rattle.mcs_grounding.specs.Asked.{theory_names, theory_defaults};
+ghost use Rattle.mcs_grounding.specs.Theories.{AreClausesOf, consequents};
 ghost use Rattle.mcs_default.specs.Told.{IsToldInside};
 
-use crate::asked::Theory;
 use crate::asking::{Justs, ask_justs};
 use crate::theory::push_consequents;
 use mcs_base::{Memory, Vars};
+use mcs_grounding::Theory;
 use mcs_trace::{Cnf, Entail, Outside};
 use std::alloc::Global;
 

@@ -6,15 +6,15 @@ ghost use Rattle.mcs_sets.specs.Sets.{has, Within};
 ghost use Rattle.mcs_system.specs.Plain as plain;
 ghost use Rattle.mcs_evidence.specs.Defaults.{defaults_of};
 ghost use Rattle.mcs_evidence.specs.Theories.{IsDefaultAt};
-ghost use Rattle.mcs_default.specs.Asked.{theory_defaults};
+ghost use Rattle.mcs_grounding.specs.Asked.{theory_defaults};
 ghost use Rattle.mcs_default.specs.Searches.{IsConflict, IsLower, IsUpper, IsOpenAt};
 ghost use Rattle.mcs_default.specs.Known.{IsKnown, without_justs};
 ghost use Rattle.mcs_default.specs.Nodes.{IsKnownOf};
 
-use crate::asked::Theory;
 use crate::findings::{Lower, Upper, has_conflict};
 use crate::searching::Search;
 use mcs_base::Vars;
+use mcs_grounding::Theory;
 
 /// The number of the set of the first ten defaults. No theory has more.
 const TEN_DEFAULTS: u64 = 1023;

@@ -2,11 +2,9 @@
 //! are all.
 #![tactic(auto)]
 
-mod asked;
 mod asking;
 mod base;
 mod findings;
-mod grounding;
 mod inside;
 mod kept;
 mod known;

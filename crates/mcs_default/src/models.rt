@@ -4,13 +4,13 @@ ghost use Rattle.std.specs.Prelude.{◌≡◌, ◌≤◌, length};
 ghost use Rattle.mcs_sets.specs.Sets.{such_that};
 ghost use Rattle.mcs_system.specs.Logic.{true_names};
 ghost use Rattle.mcs_system.specs.Seen.{default_of};
-ghost use Rattle.mcs_default.specs.Asked.{theory_names, theory_defaults};
+ghost use Rattle.mcs_grounding.specs.Asked.{theory_names, theory_defaults};
 ghost use Rattle.mcs_default.specs.Assignments.{holds_part, holds_part_at};
 ghost use Rattle.mcs_default.specs.declared.models.Part.TheVariants as parts;
 
-use crate::asked::Theory;
 use crate::findings::Upper;
 use mcs_base::Vars;
+use mcs_grounding::Theory;
 use mcs_system::{Default, Name, all_hold_at, holds_at};
 
 /// A part of a default.

@@ -3,15 +3,15 @@
 
 ghost use Rattle.std.specs.Prelude.{◌≡◌, ◌≤◌, ◌++◌, List, length, IfOk, OnOk};
 ghost use Rattle.mcs_system.specs.Plain as plain;
-ghost use Rattle.mcs_default.specs.Asked.{theory_names, theory_beliefs, theory_defaults};
-ghost use Rattle.mcs_default.specs.Theories.{AreClausesOf, consequents};
+ghost use Rattle.mcs_grounding.specs.Asked.{theory_names, theory_beliefs, theory_defaults};
+ghost use Rattle.mcs_grounding.specs.Theories.{AreClausesOf, consequents};
 ghost use Rattle.mcs_default.specs.Told.{IsToldOutside, IsToldOfRest};
 
-use crate::asked::Theory;
 use crate::asking::{Standing, ask_default};
 use crate::theory::push_consequents;
 use mcs_base::{Memory, Vars};
 use mcs_classical::{Given, outputs_from};
+use mcs_grounding::Theory;
 use mcs_trace::{Cnf, Entail, Outside};
 use std::alloc::Global;
 

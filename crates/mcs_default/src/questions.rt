@@ -9,11 +9,11 @@ ghost use Rattle.mcs_cnf.specs.ClauseLists.{IsOver, AreOver};
 ghost use Rattle.mcs_classical.specs.Models.{IsCounterexample};
 ghost use Rattle.mcs_evidence.specs.Defaults.{defaults_of, generated};
 ghost use Rattle.mcs_evidence.specs.Theories.{IsDefaultAt};
-ghost use Rattle.mcs_default.specs.Theories.{AreClausesOf, consequents};
-ghost use Rattle.mcs_default.specs.Asked.{theory_names, theory_defaults, IsSameTheory, IsSearchOf};
+ghost use Rattle.mcs_grounding.specs.Theories.{AreClausesOf, consequents};
+ghost use Rattle.mcs_grounding.specs.Asked.{theory_names, theory_defaults};
+ghost use Rattle.mcs_default.specs.Asked.{IsSameTheory, IsSearchOf};
 ghost use Rattle.mcs_default.specs.Searches.{IsAllowedBy, IsConflict};
 
-use crate::asked::Theory;
 use crate::findings::{
     Lower, has_conflict, is_allowed, is_blocked, is_consistent, is_denied, is_supported,
     is_unsupported,
@@ -23,6 +23,7 @@ use crate::searching::Search;
 use crate::theory::append_consequents;
 use mcs_base::{Memory, Vars};
 use mcs_classical::{Given, counterexample_in};
+use mcs_grounding::Theory;
 use mcs_sat::ClauseBase;
 use mcs_system::{Formula, same_formula};
 use std::alloc::Global;

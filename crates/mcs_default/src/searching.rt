@@ -5,8 +5,8 @@ ghost use Rattle.mcs_system.specs.Seen.{default_of};
 ghost use Rattle.mcs_default.specs.Searches.{CanBeAsked};
 ghost use Rattle.mcs_default.specs.SearchProofs.{CanBeAsked-prop};
 
-use crate::asked::Theory;
 use crate::findings::Findings;
+use mcs_grounding::Theory;
 
 /// What is asked of a default theory, with the clauses of its facts and what was found of sets of
 /// its defaults.

@@ -4,12 +4,12 @@ ghost use Rattle.std.specs.Prelude.{◌≡◌, ◌≤◌, ◌++◌, length, map,
 ghost use Rattle.mcs_system.specs.Seen.{formula_of, item_of};
 ghost use Rattle.mcs_cnf.specs.ClauseLists.{with_formulas, clause_list, AreOver};
 ghost use Rattle.mcs_evidence.specs.Defaults.{AreOverItems, facts_of};
-ghost use Rattle.mcs_default.specs.Asked.{theory_names, theory_defaults};
-ghost use Rattle.mcs_default.specs.Theories.{consequents};
+ghost use Rattle.mcs_grounding.specs.Asked.{theory_names, theory_defaults};
+ghost use Rattle.mcs_grounding.specs.Theories.{consequents};
 
-use crate::asked::Theory;
 use mcs_base::{Memory, Vars};
 use mcs_cnf::{push_all, push_formula};
+use mcs_grounding::Theory;
 use mcs_sat::ClauseBase;
 use mcs_system::{Formula, Name, TheoryItem};
 use mcs_trace::Cnf;

@@ -4,15 +4,14 @@ ghost use Rattle.std.specs.Prelude.{◌≡◌, ◌≤◌, List, length, IfOk, On
 ghost use Rattle.mcs_sets.specs.Sets.{Within};
 ghost use Rattle.mcs_system.specs.Plain as plain;
 ghost use Rattle.mcs_evidence.specs.Theories.{all_of};
-ghost use Rattle.mcs_default.specs.Asked.{theory_names, theory_beliefs, theory_defaults};
-ghost use Rattle.mcs_default.specs.Asked.{AreItemsOf};
+ghost use Rattle.mcs_grounding.specs.Asked.{theory_names, theory_beliefs, theory_defaults};
+ghost use Rattle.mcs_grounding.specs.Asked.{AreItemsOf};
 ghost use Rattle.mcs_default.specs.Told.{IsToldOfJustsIn, IsToldOrder, IsSetJudged};
 
-use crate::asked::Theory;
-use crate::grounding::{Grounding, tell_order};
 use crate::inside::{Inside, tell_inside};
 use crate::outside::{Rest, tell_rest};
 use mcs_base::{Memory, Vars};
+use mcs_grounding::{Grounding, Theory, tell_order};
 use mcs_trace::{Cnf, Entail, SetCert};
 use std::alloc::Global;
 

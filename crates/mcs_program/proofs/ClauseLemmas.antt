@@ -5,7 +5,7 @@ use Rattle.std.proofs.Math.Bool.{or-false}
 use Rattle.std.specs.List.{AllByRecursion, list_any}
 use Rattle.mcs_sets.specs.Sets.{has}
 use Rattle.mcs_base.proofs.Each.{all_append}
-use Rattle.mcs_system.specs.Plain.{Name, Formula, Atom, Not, ProgramRule}
+use Rattle.mcs_system.specs.Plain.{Name, Atom, Not, ProgramRule}
 use Rattle.mcs_system.specs.Logic.{is_in, holds, holds_all}
 use Rattle.mcs_trace.specs.Clauses.{ClauseList, IsLiteral, literal_holds, clause_holds}
 use Rattle.mcs_cnf.specs.ClauseLists.{atom_number, with_literal, clause_of, IsThere}

@@ -23,8 +23,9 @@ use crate::putting::put_view;
 use crate::splitting::list_views;
 use crate::tight::is_tight;
 use mcs_base::{Memory, Vars};
-use mcs_classical::{Satisfied, satisfy_from};
-use mcs_evidence::{names_at, push_support, smaller_clauses};
+use mcs_classical::Satisfied;
+use mcs_evidence::{names_at, push_support};
+use mcs_minimal::smaller_model;
 use mcs_sat::ClauseBase;
 use mcs_system::Name;
 use mcs_trace::Cnf;
@@ -84,10 +85,7 @@ fn unfounded_in(
     ensures { IfOk result (IsUnfounded (program_names program.now)
         (program_rules program.now) model) }
 {
-    let smaller = smaller_clauses(alloc, program.atoms, program.rules, model)?;
-    let found = satisfy_from(alloc, &smaller, program.atoms);
-    drop(smaller);
-    match found? {
+    match smaller_model(alloc, program.atoms, program.rules, model)? {
         Satisfied::Model(less) => Ok(Some(model.minus(less))),
         Satisfied::Refuted(_minimal) => Ok(None),
     }

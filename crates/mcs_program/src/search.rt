@@ -20,8 +20,9 @@ use crate::putting::put_view;
 use crate::small::{is_possible, made_small};
 use crate::view::all_places;
 use mcs_base::{Memory, Vars};
-use mcs_classical::{Satisfied, satisfy_from};
-use mcs_evidence::{push_beside, smaller_clauses};
+use mcs_classical::Satisfied;
+use mcs_evidence::push_beside;
+use mcs_minimal::smaller_model;
 use mcs_sat::ClauseBase;
 use mcs_trace::{AnswerSetCert, Cnf, Trace};
 use std::alloc::Global;
@@ -134,10 +135,7 @@ impl Search {
             < search_left placed.now.program.now self.old) }
     {
         let program = placed.program;
-        let smaller = smaller_clauses(alloc, program.atoms, program.rules, model)?;
-        let found = satisfy_from(alloc, &smaller, program.atoms);
-        drop(smaller);
-        match found? {
+        match smaller_model(alloc, program.atoms, program.rules, model)? {
             Satisfied::Model(less) => self.exclude(alloc, program, less),
             Satisfied::Refuted(minimal) => self.list(alloc, placed, model, minimal),
         }

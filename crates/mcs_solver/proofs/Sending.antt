@@ -7,7 +7,7 @@ use Rattle.mcs_system.proofs.formula.Formula.TheLaws.TheKnot as formula
 use Rattle.mcs_system.specs.contracts.system.System as system
 use Rattle.mcs_sat.specs.contracts.base.ClauseBase as clause_base
 use Rattle.mcs_solver.specs.contracts.known.Known as known
-use Rattle.mcs_solver.specs.contracts.keeping.Kept as kept
+use Rattle.mcs_keeping.specs.contracts.keeping.Kept as kept
 use Rattle.mcs_solver.specs.contracts.solver.LocalSolver as solver
 use Rattle.mcs_solver.specs.contracts.solver.LocalSolver.TheInside as inside
 

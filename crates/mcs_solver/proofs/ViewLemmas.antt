@@ -1,26 +1,16 @@
 -- Clauses and names of formulas that are lent, and clauses that are taken off again.
-use Rattle.std.proofs.Common.{◌≡◌, ℕ, map, length, List, [], ◌∷◌, ◌++◌, IsTrue, sym, ◌∙◌, subst, refl, true, true≢false, arith}
+use Rattle.std.proofs.Common.{◌≡◌, ℕ, map, length, List, [], ◌∷◌, IsTrue, sym, ◌∙◌, subst, refl, true, true≢false, arith}
 use Rattle.std.proofs.lemmas.Option.{slice_get_within}
 use Rattle.std.specs.List.{AllByRecursion}
 use Rattle.mcs_sets.specs.Orders.{StateBefore}
 use Rattle.mcs_sets.proofs.SetLemmas.{has-empty}
 use Rattle.mcs_base.specs.Listings.{IsListing}
-use Rattle.mcs_base.proofs.Each.{all_append}
 use Rattle.mcs_system.specs.Plain.{Name, Formula, Atom, Classical}
 use Rattle.mcs_system.specs.Logic.{is_in}
 use Rattle.mcs_system.specs.Views.{IsAcceptedView}
-use Rattle.mcs_trace.specs.Clauses.{ClauseList}
 use Rattle.mcs_cnf.specs.Classical.{IsAcceptedClassical}
-use Rattle.mcs_cnf.specs.ClauseLists.{clause_list, with_formulas, IsOver, AreOver}
+use Rattle.mcs_cnf.specs.ClauseLists.{AreOver}
 use Rattle.mcs_cnf.proofs.EntailmentLemmas.{one_view}
-use Rattle.mcs_cnf.proofs.GrowingLemmas.{grown_clauses}
-
--- the clauses of formulas with those of the heads
-pub told_clauses : (names : List Name) (known new : ClauseList) (fs heads : List Formula) → known ≡ clause_list names fs → new ≡ with_formulas names known heads → new ≡ clause_list names (fs ++ heads)
-told_clauses names known new fs heads is told = grown_clauses names known new (heads, told) fs is
-
-pub told_over : (names : List Name) (fs heads : List Formula) → AreOver names fs → AreOver names heads → AreOver names (fs ++ heads)
-told_over names fs heads over over' = all_append (IsOver names) fs heads over over'
 
 -- ---- where no belief is asked for
 pub no_beliefs : {A : Type 0} (seen : A → Formula) (xs : List A) → length xs ≡ 0 → map seen xs ≡ []

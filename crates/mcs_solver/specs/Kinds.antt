@@ -1,16 +1,12 @@
 -- What is kept of a knowledge base.
-use Rattle.std.specs.Prelude.{◌≡◌, ℕ, List, [], ◌∷◌, ◌++◌, Option, Some, None, slice_get}
+use Rattle.std.specs.Prelude.{◌≡◌, ℕ, List, Option, Some, None, slice_get}
 use Rattle.std.specs.List.{AllByRecursion}
 use Rattle.mcs_system.specs.Plain.{Name, Formula, Item, Kb, Classical, DefaultTheory, Program, Context, System}
 use Rattle.mcs_system.specs.Atoms.{atoms_of}
 use Rattle.mcs_system.specs.Systems.{variables_of, heads_into}
-use Rattle.mcs_system.specs.Views.{IsAcceptedView, beliefs_at}
-use Rattle.mcs_sets.specs.Orders.{StateBefore}
-use Rattle.mcs_base.specs.Listings.{IsListing}
+use Rattle.mcs_system.specs.Views.{beliefs_at}
 use Rattle.mcs_trace.specs.Clauses.{ClauseList}
-use Rattle.mcs_cnf.specs.Classical.{IsAcceptedClassical}
-use Rattle.mcs_cnf.specs.ClauseLists.{AreOver, clause_list}
-use Rattle.mcs_cnf.specs.Entailments.{Entailment}
+use Rattle.mcs_cnf.specs.ClauseLists.{clause_list}
 use Rattle.mcs_meant.specs.Meanings.{AreMeantBy}
 use Rattle.mcs_classical.specs.Assumptions.{assumed}
 use Rattle.mcs_classical.specs.Consequences.{AreConsequences}
@@ -20,17 +16,6 @@ use Rattle.mcs_default.specs.Keeping.{IsTheoryBase}
 use Rattle.mcs_default.specs.declared.base.TheoryBase as base
 use Rattle.mcs_solver.specs.declared.known.Known as known
 use Rattle.mcs_solver.specs.declared.known.Known.TheVariants as variants
-
--- ---- clauses that are kept
--- if the clauses are those of formulas over the names, these accept this view alone with the heads
-abbrev pub IsOnlyView : List Name → ClauseList → List Formula → List Formula → ℕ → Type 0
-IsOnlyView names known heads beliefs view = (fs : List Formula) → known ≡ clause_list names fs → AreOver names fs
-    → IsListing (IsAcceptedView (Classical (fs ++ heads)) beliefs) StateBefore (view ∷ [])
-
--- and then these entailments show it
-abbrev pub IsShownView : List Name → ClauseList → List Formula → List Formula → ℕ → List Entailment → Type 0
-IsShownView names known heads beliefs view es = (fs : List Formula) → known ≡ clause_list names fs → AreOver names fs
-    → IsAcceptedClassical names (fs ++ heads) beliefs (view ∷ []) es
 
 -- ---- what was found to follow
 -- it is right of the formulas and the beliefs with any assumptions that are the heads of each set of rules

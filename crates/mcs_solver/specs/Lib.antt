@@ -1,4 +1,3 @@
 pub mod Kinds
-pub mod Certified
 pub mod Solvers
 pub mod Questions

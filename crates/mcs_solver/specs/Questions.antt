@@ -8,7 +8,7 @@ use Rattle.mcs_system.specs.Views.{IsAcceptedView}
 use Rattle.mcs_classical.specs.Given.{given_names, given_beliefs, given_with}
 use Rattle.mcs_asking.specs.Certificates.{IsAcceptedFor}
 use Rattle.mcs_asking.specs.declared.certificate.AnswerCert as code
-use Rattle.mcs_solver.specs.Certified.{IsCertified}
+use Rattle.mcs_keeping.specs.Certified.{IsCertified}
 use Rattle.mcs_solver.specs.Kinds.{IsMadeOf}
 use Rattle.mcs_solver.specs.declared.known.Known as known
 use Rattle.mcs_solver.specs.declared.question.Question as question

@@ -2,7 +2,6 @@
 #![tactic(auto)]
 
 mod assuming;
-mod keeping;
 mod known;
 mod parts;
 mod question;

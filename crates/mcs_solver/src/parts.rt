@@ -6,7 +6,7 @@ ghost use Rattle.mcs_base.specs.Listings.{IsListing};
 ghost use Rattle.mcs_system.specs.Systems.{IsAcceptedPart};
 ghost use Rattle.mcs_asking.specs.Certificates.{IsAccepted};
 ghost use Rattle.mcs_solver.specs.Kinds.{IsMadeOfContext};
-ghost use Rattle.mcs_solver.specs.Certified.{IsCertified};
+ghost use Rattle.mcs_keeping.specs.Certified.{IsCertified};
 
 use crate::assuming::assumptions_into;
 use crate::known::Known;

@@ -10,11 +10,11 @@ ghost use Rattle.mcs_asking.specs.Certificates.{plain_of, IsAccepted};
 ghost use Rattle.mcs_solver.specs.Kinds.{AreMadeOfContext, IsMadeOfContext};
 ghost use Rattle.mcs_solver.specs.Solvers.{solver_with};
 
-use crate::keeping::{Kept, absorb_answers, keep_answer};
 use crate::known::Known;
 use crate::parts::parts_with;
 use mcs_asking::AnswerCert;
 use mcs_base::{Active, Memory, Vars};
+use mcs_keeping::{Kept, absorb_answers, keep_answer};
 use mcs_states::{Fork, Oracle, OracleStop};
 use mcs_system::System;
 use std::alloc::Global;
@@ -48,7 +48,8 @@ impl Model for LocalSolver {
     ghost use Rattle.mcs_states.specs.Oracles.{OracleState};
     ghost use Rattle.mcs_states.specs.Codes.{coded_oracle};
     ghost use Rattle.mcs_solver.specs.Kinds.{AreMadeOfContext, IsMadeOfContext};
-    ghost use Rattle.mcs_solver.specs.Solvers.{solver_with, AreAnswersKept};
+    ghost use Rattle.mcs_solver.specs.Solvers.{solver_with};
+    ghost use Rattle.mcs_keeping.specs.Keeping.{AreAnswersKept};
 
     ghost Value = { OracleState };
 

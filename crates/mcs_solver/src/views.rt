@@ -13,14 +13,12 @@ ghost use Rattle.mcs_system.specs.Views.{IsAcceptedView};
 ghost use Rattle.mcs_cnf.specs.Classical.{IsAcceptedClassical, certificate_of};
 ghost use Rattle.mcs_cnf.specs.ClauseLists.{AreOver, clause_list, with_formulas};
 ghost use Rattle.mcs_meant.specs.Meanings.{AreMeantBy};
-ghost use Rattle.mcs_classical.specs.Given.{given_names, given_beliefs};
 ghost use Rattle.mcs_evidence.specs.Defaults.{AreOverItems, defaults_of};
 ghost use Rattle.mcs_evidence.specs.Programs.{AreOverRules};
 ghost use Rattle.mcs_asking.specs.Certificates.{IsAcceptedFor};
 ghost use Rattle.mcs_asking.specs.Kinds.{IsOverKb, AreOfKind};
-ghost use Rattle.mcs_solver.specs.Certified.{IsCertified};
-ghost use Rattle.mcs_solver.specs.Kinds.{IsOnlyView, IsShownView, IsMadeOf, IsMadeOfFormulas};
-ghost use Rattle.mcs_solver.specs.Kinds.{IsMadeOfItems};
+ghost use Rattle.mcs_keeping.specs.Certified.{IsCertified};
+ghost use Rattle.mcs_solver.specs.Kinds.{IsMadeOf, IsMadeOfFormulas, IsMadeOfItems};
 ghost use Rattle.mcs_solver.specs.Questions.{asked_names, asked_beliefs, asked_heads, AreAnswer};
 ghost use Rattle.mcs_solver.specs.Questions.{IsAnswerShown, IsMadeFor};
 
@@ -29,41 +27,13 @@ use crate::question::Question;
 use mcs_asked::Asked;
 use mcs_asking::AnswerCert;
 use mcs_base::{Memory, Vars};
-use mcs_classical::{Consequences, Given, add_formulas, add_meant, assumed, outputs_in};
+use mcs_classical::{Consequences, add_formulas, add_meant, assumed, outputs_with};
 use mcs_default::{TheoryBase, extensions_from};
 use mcs_program::{answer_sets_from, list_answer_sets};
 use mcs_sat::ClauseBase;
 use mcs_system::{Formula, Kb, Name, ProgRule, TheoryItem, names_of};
 use mcs_trace::ClassicalCert;
 use std::alloc::Global;
-
-/// The one view that a classical context accepts with the heads, which has the beliefs that follow,
-/// and its certificate. `known` has the clauses of its formulas. Those of the heads are added for
-/// the search and removed again. So `known` is as before, also if memory runs out, and can be used
-/// for the next question, with what was learnt.
-fn view_with(
-    alloc: Global,
-    known: &mut ClauseBase,
-    heads: &[&Formula],
-    given: &Given<'_>,
-) -> Result<(Vars, ClassicalCert), Memory>
-    requires heads { AreOver (given_names given.now) (map (λ f. formula_of f.now) heads.now) }
-    requires room { length (given_names given.now) ≤ known.old.vars }
-    ensures kept { known.new ≡ known.old }
-    ensures exact { IfOk result
-        (λ r. IsOnlyView (given_names given.now) known.old (map (λ f. formula_of f.now) heads.now)
-        (given_beliefs given.now) r.0) }
-    ensures shown { IfOk result
-        (λ r. IsShownView (given_names given.now) known.old (map (λ f. formula_of f.now) heads.now)
-        (given_beliefs given.now) r.0 (certificate_of r.1)) }
-{
-    let vars = known.vars();
-    let count = known.count();
-    add_formulas(alloc, known, heads, given.asked.atoms)?;
-    let shown = outputs_in(alloc, known, given);
-    known.cut(vars, count);
-    shown
-}
 
 /// Adds the clauses of the formulas, one formula after the other, and preprocesses them. If memory
 /// runs out, only those of the first ones are added.
@@ -142,7 +112,7 @@ fn shown_view(
     let given = question.given;
     let heads = assumed(alloc, given.assumptions, question.rules)?;
     let mut clauses = kept_clauses(alloc, known, formulas, given.asked.atoms)?;
-    let shown = view_with(alloc, &mut clauses, &heads, given);
+    let shown = outputs_with(alloc, &mut clauses, &heads, given);
     *known = Some(Known::Certified(clauses));
     shown
 }

@@ -4,7 +4,8 @@ use Rattle.mcs_system.specs.Plain.{Not}
 use Rattle.mcs_system.specs.Seen.{formula_of}
 use Rattle.mcs_cnf.specs.ClauseLists.{IsOver}
 use Rattle.mcs_cnf.specs.Entailments.{entailment_of, says_yes}
-use Rattle.mcs_default.proofs.AskLemmas.{denied_push, justs_more, blocked_at}
+use Rattle.mcs_grounding.proofs.DeniedLemmas.{denied_push}
+use Rattle.mcs_default.proofs.AskLemmas.{justs_more, blocked_at}
 use Rattle.mcs_default.proofs.asking.ask_justs.Goals as goal
 
 pub refutes_from-requires-clause-over : goal.refutes_from-requires-clause-over

@@ -3,7 +3,7 @@ use Rattle.mcs_system.specs.Plain.{Formula, Not}
 use Rattle.mcs_system.specs.Seen.{formula_of}
 use Rattle.mcs_cnf.specs.Entailments.{entailment_of}
 use Rattle.mcs_evidence.specs.Defaults.{AreDenied}
-use Rattle.mcs_default.specs.Theories.{AreClausesOf}
+use Rattle.mcs_grounding.specs.Theories.{AreClausesOf}
 use Rattle.mcs_default.proofs.asking.ask_justs.Given as goal
 
 abbrev pub invariant-loop-index : goal.invariant-loop-index

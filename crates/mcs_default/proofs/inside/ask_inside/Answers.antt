@@ -5,11 +5,12 @@ use Rattle.mcs_system.specs.Seen.{default_of, formula_of}
 use Rattle.mcs_system.specs.declared.formula.Formula.{Formula}
 use Rattle.mcs_cnf.specs.ClauseLists.{AreOver}
 use Rattle.mcs_evidence.specs.Defaults.{negated_justs}
-use Rattle.mcs_default.specs.Theories.{AreClausesOf}
+use Rattle.mcs_grounding.specs.Theories.{AreClausesOf}
 use Rattle.mcs_evidence.specs.Theories.{IsOverDefault}
 use Rattle.mcs_evidence.proofs.Picked.{picked_out}
 use Rattle.mcs_default.specs.Told.{IsToldOfJusts}
-use Rattle.mcs_default.proofs.AskLemmas.{denied_same, inside_more, justs_told}
+use Rattle.mcs_grounding.proofs.DeniedLemmas.{denied_same}
+use Rattle.mcs_default.proofs.AskLemmas.{inside_more, justs_told}
 use Rattle.mcs_default.proofs.inside.ask_inside.Goals.{then-has+in_ok-justs+in-Allowed+in_ok-append-in-Allowed, else-has}
 use Rattle.mcs_default.proofs.inside.ask_inside.Goals as goal
 

@@ -3,7 +3,7 @@ use Rattle.mcs_system.specs.Plain.{Formula}
 use Rattle.mcs_system.specs.Seen.{default_of}
 use Rattle.mcs_cnf.specs.Entailments.{entailment_of}
 use Rattle.mcs_evidence.specs.Defaults.{AreDenied, negated_justs, defaults_at}
-use Rattle.mcs_default.specs.Theories.{AreClausesOf}
+use Rattle.mcs_grounding.specs.Theories.{AreClausesOf}
 use Rattle.mcs_default.proofs.inside.ask_inside.Given as goal
 
 abbrev pub invariant-loop-index : goal.invariant-loop-index

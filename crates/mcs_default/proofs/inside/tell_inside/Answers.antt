@@ -1,6 +1,6 @@
 use Rattle.std.proofs.Common.{◌++◌, map}
 use Rattle.mcs_system.specs.Seen.{default_of}
-use Rattle.mcs_default.specs.Theories.{consequents}
+use Rattle.mcs_grounding.specs.Theories.{consequents}
 use Rattle.mcs_default.proofs.General.{generated_clauses}
 use Rattle.mcs_cnf.proofs.GrowingLemmas.{grown_room, cut_fewer, cut_within}
 use Rattle.mcs_default.proofs.inside.tell_inside.Goals as goal

@@ -1,5 +1,5 @@
 use Rattle.std.proofs.Common.{◌∙◌, ap}
-use Rattle.mcs_default.specs.Asked.{theory_names}
+use Rattle.mcs_grounding.specs.Asked.{theory_names}
 use Rattle.mcs_default.specs.Known.{without_justs}
 use Rattle.mcs_default.proofs.known.known_of.Goals as goal
 

@@ -5,7 +5,8 @@ use Rattle.mcs_system.specs.Plain.{Default, Formula, Item}
 use Rattle.mcs_system.specs.Seen.{default_of, formula_of}
 use Rattle.mcs_trace.specs.Clauses.{ClauseList}
 use Rattle.mcs_evidence.specs.Defaults.{Verdict, verdict_of, IsAcceptedDefault}
-use Rattle.mcs_default.specs.Theories.{AreParts, with_view}
+use Rattle.mcs_grounding.specs.Theories.{AreParts}
+use Rattle.mcs_default.specs.Told.{with_view}
 use Rattle.mcs_evidence.specs.Theories.{all_of}
 use Rattle.mcs_default.specs.Told.{IsSetJudged}
 use Rattle.mcs_default.proofs.JudgeLemmas.{AreJudged, judged-none, judged-more, judged-all, numbered_within}

@@ -2,7 +2,7 @@ use Rattle.std.proofs.Common.{◌≡◌, List, map}
 use Rattle.mcs_system.specs.Plain.{Item}
 use Rattle.mcs_system.specs.Seen.{default_of, formula_of}
 use Rattle.mcs_evidence.specs.Defaults.{verdict_of}
-use Rattle.mcs_default.specs.Theories.{AreParts}
+use Rattle.mcs_grounding.specs.Theories.{AreParts}
 use Rattle.mcs_default.proofs.JudgeLemmas.{AreJudged}
 use Rattle.mcs_default.proofs.listing.judge_all.Given as goal
 

@@ -6,7 +6,7 @@ use Rattle.mcs_base.proofs.NumberCases.{power_less_one}
 use Rattle.mcs_system.specs.Plain.{Formula, Default}
 use Rattle.mcs_system.specs.Seen.{default_of}
 use Rattle.mcs_evidence.specs.Theories.{all_of}
-use Rattle.mcs_default.specs.Asked.{theory_beliefs, theory_defaults}
+use Rattle.mcs_grounding.specs.Asked.{theory_beliefs, theory_defaults}
 use Rattle.mcs_default.proofs.SearchLemmas.{AreAdded, all_added, all_numbered}
 use Rattle.mcs_default.proofs.listing.list_all.Goals as goal
 

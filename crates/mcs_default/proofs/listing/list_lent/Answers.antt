@@ -1,6 +1,6 @@
 use Rattle.std.proofs.Common.{sym, subst}
 use Rattle.std.proofs.lemmas.Result.{IfOk-weaker}
-use Rattle.mcs_default.specs.Asked.{AreItemsOf}
+use Rattle.mcs_grounding.specs.Asked.{AreItemsOf}
 use Rattle.mcs_default.specs.declared.findings.Findings as findings
 use Rattle.mcs_default.proofs.listing.list_lent.Goals as goal
 

@@ -10,7 +10,7 @@ use Rattle.mcs_cnf.proofs.GrowingLemmas.{room_known, cut_fewer, cut_within, cut_
 use Rattle.mcs_evidence.specs.Defaults.{facts_of, defaults_of}
 use Rattle.mcs_evidence.specs.Theories.{AreOverDefaults}
 use Rattle.mcs_evidence.proofs.TheoryLemmas.{over_defaults}
-use Rattle.mcs_default.specs.Theories.{AreParts}
+use Rattle.mcs_grounding.specs.Theories.{AreParts}
 use Rattle.mcs_default.proofs.KeptLemmas.{parts_with, ready_from}
 use Rattle.mcs_default.proofs.listing.list_with.Goals as goal
 

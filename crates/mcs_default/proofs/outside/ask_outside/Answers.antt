@@ -7,7 +7,7 @@ use Rattle.mcs_system.specs.Plain.{Default}
 use Rattle.mcs_system.specs.Seen.{default_of}
 use Rattle.mcs_trace.specs.declared.certificate.Outside.{Outside}
 use Rattle.mcs_evidence.specs.Defaults.{absence_of}
-use Rattle.mcs_default.specs.Theories.{AreClausesOf}
+use Rattle.mcs_grounding.specs.Theories.{AreClausesOf}
 use Rattle.mcs_evidence.specs.Theories.{IsOverDefault, all_of}
 use Rattle.mcs_default.specs.Told.{IsToldOfDefault, IsAbsentAt}
 use Rattle.mcs_default.proofs.AskLemmas.{absent_more, absent_same, absent_all, absent_none}

@@ -4,7 +4,7 @@ use Rattle.mcs_sets.specs.Sets.{members_from, minus}
 use Rattle.mcs_system.specs.Plain.{Formula}
 use Rattle.mcs_system.specs.Seen.{default_of}
 use Rattle.mcs_evidence.specs.Defaults.{absence_of}
-use Rattle.mcs_default.specs.Theories.{AreClausesOf}
+use Rattle.mcs_grounding.specs.Theories.{AreClausesOf}
 use Rattle.mcs_evidence.specs.Theories.{all_of}
 use Rattle.mcs_default.specs.Told.{IsAbsentAt}
 use Rattle.mcs_default.proofs.outside.ask_outside.Given as goal

@@ -12,7 +12,7 @@ use Rattle.mcs_default.specs.Searches.{IsAllowedBy}
 use Rattle.mcs_default.proofs.FindingLemmas.{lower_blocked, ready_lower}
 use Rattle.mcs_default.proofs.SearchLemmas.{default_there}
 use Rattle.std.proofs.lemmas.Bool.{iff_false}
-use Rattle.mcs_default.specs.Asked.{theory_names, theory_defaults}
+use Rattle.mcs_grounding.specs.Asked.{theory_names, theory_defaults}
 use Rattle.mcs_default.proofs.SameLemmas.{same_before}
 use Rattle.mcs_default.proofs.questions.allows_by_asking.Goals as goal
 

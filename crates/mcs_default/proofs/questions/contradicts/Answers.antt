@@ -1,7 +1,7 @@
 use Rattle.std.proofs.Common.{is_ok, refl}
 use Rattle.mcs_default.proofs.FindingLemmas.{ready_conflict}
 use Rattle.mcs_base.proofs.Booleans.{true_tells, false_tells}
-use Rattle.mcs_default.specs.Asked.{theory_names, theory_defaults}
+use Rattle.mcs_grounding.specs.Asked.{theory_names, theory_defaults}
 use Rattle.mcs_default.proofs.SameLemmas.{same_before}
 use Rattle.mcs_default.proofs.questions.contradicts.Goals as goal
 

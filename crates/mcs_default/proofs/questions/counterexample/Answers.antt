@@ -3,7 +3,7 @@ use Rattle.std.proofs.lemmas.Result.{IfOk-weaker}
 use Rattle.std.specs.List.{AllByRecursion}
 use Rattle.mcs_trace.specs.Clauses.{ClauseList, IsWithin}
 use Rattle.mcs_system.specs.Seen.{default_of}
-use Rattle.mcs_default.specs.Theories.{consequents}
+use Rattle.mcs_grounding.specs.Theories.{consequents}
 use Rattle.mcs_default.proofs.General.{generated_clauses}
 use Rattle.mcs_meant.proofs.MeaningLemmas.{list_meant}
 use Rattle.mcs_cnf.proofs.GrowingLemmas.{grown_room, cut_fewer, cut_within}

@@ -5,7 +5,7 @@ use Rattle.mcs_system.specs.Plain.{Formula}
 use Rattle.mcs_system.specs.Seen.{default_of, formula_of}
 use Rattle.mcs_classical.specs.Models.{IsCounterexample}
 use Rattle.mcs_evidence.specs.Defaults.{facts_of}
-use Rattle.mcs_default.specs.Theories.{AreClausesOf, consequents}
+use Rattle.mcs_grounding.specs.Theories.{AreClausesOf, consequents}
 use Rattle.mcs_default.proofs.FindingLemmas.{none_follows, some_denies, ready_upper, refuted_upper}
 use Rattle.mcs_default.proofs.questions.follows.Goals as goal
 

@@ -7,7 +7,7 @@ use Rattle.mcs_evidence.specs.Defaults.{generated}
 use Rattle.mcs_evidence.specs.Theories.{IsOverDefault}
 use Rattle.mcs_default.proofs.FindingLemmas.{lower_supported, ready_lower}
 use Rattle.mcs_default.proofs.SearchLemmas.{default_there}
-use Rattle.mcs_default.specs.Asked.{theory_names, theory_defaults}
+use Rattle.mcs_grounding.specs.Asked.{theory_names, theory_defaults}
 use Rattle.mcs_default.proofs.SameLemmas.{same_before}
 use Rattle.mcs_default.proofs.questions.supports.Goals as goal
 

@@ -6,8 +6,8 @@ use Rattle.mcs_sets.specs.Sets.{has, minus, single, size, Within, IsLeast}
 use Rattle.mcs_sets.proofs.Lattice.{in_minus, minus_within, with_within, nothing_missing, within_without}
 use Rattle.mcs_system.specs.Seen.{formula_of}
 use Rattle.mcs_evidence.specs.Theories.{all_of}
-use Rattle.mcs_default.specs.Asked.{theory_beliefs, theory_defaults}
-use Rattle.mcs_default.specs.declared.asked.Theory as theory
+use Rattle.mcs_grounding.specs.Asked.{theory_beliefs, theory_defaults}
+use Rattle.mcs_grounding.specs.declared.asked.Theory as theory
 use Rattle.mcs_default.specs.Searches.{IsOpenAt}
 use Rattle.mcs_default.proofs.SearchLemmas.{open_above, AreAdded, none_added, both_added, left_smaller, left_smaller_out}
 use Rattle.std.proofs.lemmas.Bool.{iff_false}

@@ -7,8 +7,8 @@ use Rattle.mcs_system.specs.Logic.{Theory}
 use Rattle.mcs_system.specs.Views.{Shows}
 use Rattle.mcs_system.specs.Seen.{default_of}
 use Rattle.mcs_evidence.specs.Defaults.{defaults_of, generated}
-use Rattle.mcs_default.specs.Asked.{theory_beliefs, theory_defaults}
-use Rattle.mcs_default.specs.declared.asked.Theory as theory
+use Rattle.mcs_grounding.specs.Asked.{theory_beliefs, theory_defaults}
+use Rattle.mcs_grounding.specs.declared.asked.Theory as theory
 use Rattle.mcs_default.proofs.SearchLemmas.{leaf_generates, none_added, one_added, only_itself}
 use Rattle.std.proofs.lemmas.Bool.{iff_false}
 use Rattle.mcs_default.proofs.SameLemmas.{same_items}

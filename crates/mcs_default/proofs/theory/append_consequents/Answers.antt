@@ -6,7 +6,7 @@ use Rattle.mcs_trace.specs.Clauses.{ClauseList}
 use Rattle.mcs_cnf.specs.ClauseLists.{with_formulas}
 use Rattle.mcs_cnf.proofs.GrowingLemmas.{grown_fewer}
 use Rattle.mcs_classical.proofs.RefutingLemmas.{formulas_apart, none_apart}
-use Rattle.mcs_default.specs.Theories.{consequents}
+use Rattle.mcs_grounding.specs.Theories.{consequents}
 use Rattle.mcs_default.proofs.theory.append_consequents.Goals as goal
 
 pub append-added-requires : goal.append-added-requires

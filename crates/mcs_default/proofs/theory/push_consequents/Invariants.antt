@@ -1,7 +1,7 @@
 use Rattle.std.proofs.Common.{◌≡◌, ◌≤◌, take, map, length}
 use Rattle.mcs_system.specs.Seen.{default_of}
 use Rattle.mcs_cnf.specs.ClauseLists.{with_formulas}
-use Rattle.mcs_default.specs.Theories.{consequents}
+use Rattle.mcs_grounding.specs.Theories.{consequents}
 use Rattle.mcs_default.proofs.theory.push_consequents.Given as goal
 
 abbrev pub invariant-loop-index : goal.invariant-loop-index

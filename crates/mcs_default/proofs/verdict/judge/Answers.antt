@@ -4,7 +4,7 @@ use Rattle.mcs_system.specs.Plain.{Default}
 use Rattle.mcs_system.specs.Seen.{default_of, formula_of}
 use Rattle.mcs_cnf.specs.Entailments.{entailment_of}
 use Rattle.mcs_evidence.specs.Defaults.{facts_of, absence_of}
-use Rattle.mcs_default.specs.Theories.{AreParts, consequents}
+use Rattle.mcs_grounding.specs.Theories.{AreParts, consequents}
 use Rattle.mcs_default.specs.Told.{IsToldInside}
 use Rattle.mcs_default.proofs.JudgeLemmas.{fails_verdict, allowed_in}
 use Rattle.mcs_default.proofs.verdict.judge.Goals as goal

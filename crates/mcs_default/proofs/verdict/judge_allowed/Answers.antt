@@ -4,8 +4,8 @@ use Rattle.mcs_system.specs.Plain.{Default}
 use Rattle.mcs_system.specs.Seen.{default_of, formula_of}
 use Rattle.mcs_cnf.specs.Entailments.{entailment_of}
 use Rattle.mcs_evidence.specs.Defaults.{facts_of}
-use Rattle.mcs_default.specs.Theories.{AreParts}
-use Rattle.mcs_default.specs.Told.{IsToldOfOrder}
+use Rattle.mcs_grounding.specs.Theories.{AreParts}
+use Rattle.mcs_grounding.specs.Told.{IsToldOfOrder}
 use Rattle.mcs_default.proofs.JudgeLemmas.{ungrounded_verdict}
 use Rattle.mcs_default.proofs.verdict.judge_allowed.Goals as goal
 

@@ -3,7 +3,7 @@ use Rattle.mcs_system.specs.Plain.{Formula, Default}
 use Rattle.mcs_system.specs.Seen.{default_of, formula_of}
 use Rattle.mcs_cnf.specs.Entailments.{entailment_of}
 use Rattle.mcs_evidence.specs.Defaults.{facts_of, absence_of}
-use Rattle.mcs_default.specs.Theories.{consequents}
+use Rattle.mcs_grounding.specs.Theories.{consequents}
 use Rattle.mcs_default.specs.Told.{IsToldOfRest}
 use Rattle.mcs_default.proofs.JudgeLemmas.{applied_verdict, extension_verdict}
 use Rattle.mcs_default.proofs.verdict.judge_grounded.Goals as goal

@@ -23,7 +23,7 @@ use Rattle.mcs_asking.proofs.AnswerLemmas.{as_asked}
 use Rattle.mcs_asking.proofs.AskingLemmas.{context_there}
 use Rattle.mcs_asking.proofs.CoverLemmas.{own_over, heads_over, beliefs_over, few_beliefs}
 use Rattle.mcs_asking.proofs.KindLemmas.{heads_of_kind, beliefs_of_kind}
-use Rattle.mcs_solver.specs.Certified.{IsCertified}
+use Rattle.mcs_keeping.specs.Certified.{IsCertified}
 use Rattle.mcs_solver.proofs.KeepingLemmas.{certified_there}
 use Rattle.mcs_solver.proofs.KindLemmas.{each_of_all, made_asked, asked_made}
 use Rattle.mcs_solver.proofs.parts.parts_with.Goals as goal

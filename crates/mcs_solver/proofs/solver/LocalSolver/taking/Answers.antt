@@ -1,8 +1,8 @@
 use Rattle.std.proofs.Common.{ℕ, List, subst, sym}
 use Rattle.std.specs.Arc.{arc_value}
 use Rattle.mcs_system.specs.Plain.{System}
-use Rattle.mcs_solver.specs.Solvers.{AreAnswersKept}
-use Rattle.mcs_solver.proofs.KeepingLemmas.{none_kept}
+use Rattle.mcs_keeping.specs.Keeping.{AreAnswersKept}
+use Rattle.mcs_keeping.proofs.KeepingLemmas.{none_kept}
 use Rattle.mcs_solver.proofs.KindLemmas.{last_made, rest_made}
 use Rattle.mcs_solver.proofs.solver.LocalSolver.taking.Goals as goal
 

@@ -4,7 +4,8 @@ use Rattle.std.specs.Arc.{arc_value}
 use Rattle.mcs_system.specs.Plain.{System}
 use Rattle.mcs_states.specs.Oracles.{OracleState, with_journal}
 use Rattle.mcs_solver.specs.Kinds.{AreMadeOfContext, IsMadeOfContext}
-use Rattle.mcs_solver.specs.Solvers.{solver_with, AreAnswersKept}
+use Rattle.mcs_solver.specs.Solvers.{solver_with}
+use Rattle.mcs_keeping.specs.Keeping.{AreAnswersKept}
 use Rattle.mcs_solver.proofs.KeepingLemmas.{kept_alike, of_own}
 use Rattle.mcs_solver.proofs.solver.LocalSolverFork.absorb.Goals as goal
 

@@ -6,10 +6,10 @@ use Rattle.mcs_base.specs.Listings.{IsListing}
 use Rattle.mcs_system.specs.Plain.{System}
 use Rattle.mcs_system.specs.Systems.{IsAcceptedPart}
 use Rattle.mcs_asking.specs.Certificates.{IsAccepted}
-use Rattle.mcs_solver.specs.Certified.{IsCertified}
+use Rattle.mcs_keeping.specs.Certified.{IsCertified}
 use Rattle.mcs_solver.specs.Kinds.{IsMadeOfContext}
-use Rattle.mcs_solver.specs.Solvers.{AreAnswersKept, HasKept}
-use Rattle.mcs_solver.proofs.KeepingLemmas.{kept_more}
+use Rattle.mcs_keeping.specs.Keeping.{AreAnswersKept, HasKept}
+use Rattle.mcs_keeping.proofs.KeepingLemmas.{kept_more}
 use Rattle.mcs_solver.proofs.solver.LocalSolverOracle.ask.Goals as goal
 
 pub returns-clause-journal : goal.returns-clause-journal

@@ -1,0 +1,3 @@
+pub mod Theories
+pub mod Asked
+pub mod Told

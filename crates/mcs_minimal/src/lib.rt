@@ -1,0 +1,7 @@
+//! Whether a model of a program is an answer set: no smaller set of its atoms satisfies the reduct
+//! by it.
+#![tactic(auto)]
+
+mod minimal;
+
+pub use minimal::smaller_model;
