@@ -9,7 +9,8 @@ use Rattle.mcs_base.proofs.Among.{among_left, among_either, among_get, among_fla
 use Rattle.mcs_system.specs.Plain.{Name}
 use Rattle.mcs_grammar.specs.Written.{WrittenText}
 use Rattle.mcs_grammar.specs.Entries.{Use, BeginsContext, NamesContext, NamesBridge, SaysProgram, NamesTarget, NamesSource, Entry, context_entries, bridge_entries, text_entries, uses_of}
-use Rattle.mcs_faults.specs.Watching.{context_named, bridge_named, contexts_named, bridges_named}
+use Rattle.mcs_account.specs.Known.{context_named, contexts_named}
+use Rattle.mcs_faults.specs.Watching.{bridge_named, bridges_named}
 use Rattle.mcs_faults.proofs.UsesLemmas.{text_uses, names-there, targets-there, sources-there, programs-there, IsBefore}
 
 -- ---- what is named

@@ -11,10 +11,12 @@ use Rattle.mcs_faults.specs.declared.watch.Watch.{Watch}
 use Rattle.mcs_faults.specs.declared.watch.ContextSeen.{ContextSeen}
 use Rattle.mcs_grammar.specs.Entries.{Use, BeginsContext, BeginsBridge, NamesContext, NamesBridge, SaysProgram, BeginsItem, BeginsDefault, NamesTarget, NamesSource, BeginsBelief, EndsRead, AtomOf, IsNumber, OpensWithin}
 use Rattle.mcs_grammar.specs.Faults.{begins_context, begins_bridge, names_target, begins_default_of, begins_item_of, AreDifferent, NamedRead, WasRead, WasAtom}
-use Rattle.mcs_reader.specs.TextImages.{named_read_of, capped}
-use Rattle.mcs_faults.specs.Watching.{context_named, bridge_named, contexts_named, bridges_named, ListsEach, IsContextSeen, IsSpokenOf, IsWatch}
+use Rattle.mcs_account.specs.Images.{named_read_of, capped}
+use Rattle.mcs_account.specs.Known.{context_named, contexts_named}
+use Rattle.mcs_faults.specs.Watching.{bridge_named, bridges_named, ListsEach, IsContextSeen, IsWatch}
+use Rattle.mcs_account.specs.Images.{IsSpokenOf}
 use Rattle.mcs_faults.proofs.DifferentLemmas.{lists-same}
-use Rattle.mcs_reader.proofs.UseLemmas.{is_number, among-capped, capped-among}
+use Rattle.mcs_account.proofs.UseLemmas.{is_number, among-capped, capped-among}
 
 -- apart from the numbers they are there for the same
 pub record IsSame (us vs : List Use) : Type 0 where

@@ -12,8 +12,9 @@ use Rattle.mcs_faults.specs.declared.watch.Watch.{Watch}
 use Rattle.mcs_faults.specs.declared.watch.ContextSeen.{ContextSeen}
 use Rattle.mcs_grammar.specs.Entries.{Use, SaysProgram, BeginsItem, BeginsDefault, NamesTarget, AtomOf}
 use Rattle.mcs_grammar.specs.Faults.{names_target, begins_default_of, begins_item_of, WasAtom}
-use Rattle.mcs_reader.specs.TextImages.{named_read_of}
-use Rattle.mcs_faults.specs.Watching.{ListsEach, IsContextSeen, IsSpokenOf, names_seen, IsWatch, IsNumberOf, IsUseAllowed}
+use Rattle.mcs_account.specs.Images.{named_read_of}
+use Rattle.mcs_faults.specs.Watching.{ListsEach, IsContextSeen, names_seen, IsWatch, IsNumberOf, IsUseAllowed}
+use Rattle.mcs_account.specs.Images.{IsSpokenOf}
 use Rattle.mcs_faults.proofs.ApartLemmas.{apart-program, apart-item, apart-default, apart-target, apart-atom}
 use Rattle.mcs_faults.proofs.DifferentLemmas.{lists-same, lists-more}
 use Rattle.mcs_faults.proofs.LaterLemmas.{same-among, the-new, earlier, atoms-later, inputs-later}

@@ -18,7 +18,8 @@ use Rattle.mcs_grammar.specs.Written.{Written, Named, WrittenKb, Classical, Defa
 use Rattle.mcs_grammar.specs.Entries.{Use, NamesContext, NamesBridge, SaysProgram, NamesTarget, NamesSource, Entry, formula_in, whole_entries, text_entries, uses_of}
 use Rattle.mcs_grammar.specs.Saying.{context_in, SaysBridge, names_of, SaysSystem}
 use Rattle.mcs_grammar.specs.Faults.{AreDifferent, NoContext, Twin, NoAtom, Has}
-use Rattle.mcs_faults.specs.Watching.{context_named, bridge_named, contexts_named, bridges_named}
+use Rattle.mcs_account.specs.Known.{context_named, contexts_named}
+use Rattle.mcs_faults.specs.Watching.{bridge_named, bridges_named}
 use Rattle.mcs_grammar.proofs.TextSplits.{IsSplit, uses-split, among-before, among-here}
 use Rattle.mcs_faults.proofs.SaidParts.{only-context, SaidOf, AsHead, AsRead, said-place}
 use Rattle.mcs_faults.proofs.BeliefEntries.{text-begins}

@@ -23,7 +23,7 @@ use Rattle.mcs_grammar.specs.Written.{WrittenPlace, WrittenText}
 use Rattle.mcs_grammar.specs.Entries.{Use, EndsRead, Entry, text_entries, uses_of}
 use Rattle.mcs_grammar.specs.Saying.{SaysPlace, names_of, SaysSystem}
 use Rattle.mcs_grammar.specs.Faults.{AreDifferent, IsOneMore, NamedRead, WasReadInto, WasRead, ExceedsLimit}
-use Rattle.mcs_reader.specs.TextImages.{read_in}
+use Rattle.mcs_account.specs.Images.{read_in}
 use Rattle.mcs_grammar.proofs.TextSplits.{IsSplit, uses-split, among-before, among-here}
 use Rattle.mcs_faults.proofs.SaidParts.{in-range, said-read, said-bridge}
 use Rattle.mcs_faults.proofs.UsesLemmas.{text_uses, reads-there}

@@ -18,7 +18,7 @@ use Rattle.mcs_grammar.proofs.TextSplits.{uses-split, among-here}
 use Rattle.mcs_faults.proofs.SaidParts.{SaidOf, AsHead, AsRead, said-place}
 use Rattle.mcs_faults.proofs.TextConditions.{HasShortNames}
 use Rattle.mcs_faults.proofs.UsesLemmas.{text_uses, item_formulas, kb_formulas, rule_size, kb_rules, IsSizeOf, OfFormula, OfRule, OfPlace, numbers-there, IsShallow, opens-there}
-use Rattle.mcs_reader.proofs.StepLemmas.{literals-count}
+use Rattle.mcs_account.proofs.UsesParts.{literals-count}
 use Rattle.mcs_faults.proofs.ValidSizes.{size-said}
 
 -- ---- what is too large

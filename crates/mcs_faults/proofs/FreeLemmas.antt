@@ -9,20 +9,21 @@ use Rattle.mcs_base.proofs.Each.{all_among}
 use Rattle.mcs_system.specs.Plain.{Name, Formula}
 use Rattle.mcs_system.specs.Logic.{atoms}
 use Rattle.mcs_system.specs.declared.limit.Limit.TheVariants.{Contexts, Bridges, RulesPerContext, Variables, InputsPerContext, AtomsPerContext, DefaultsPerContext, ItemsPerContext, NameBytes}
-use Rattle.mcs_reader.specs.declared.place.NamedRead as code_read
-use Rattle.mcs_reader.specs.declared.place.Role as code_role
-use Rattle.mcs_reader.specs.declared.place.Role.TheVariants as roles
+use Rattle.mcs_account.specs.declared.reader.NamedRead as code_read
+use Rattle.mcs_account.specs.declared.place.Role as code_role
+use Rattle.mcs_account.specs.declared.place.Role.TheVariants as roles
 use Rattle.mcs_faults.specs.declared.watch.Watch.{Watch}
 use Rattle.mcs_faults.specs.declared.watch.Said.{Said}
 use Rattle.mcs_grammar.specs.Entries.{Token, Use, BeginsContext, BeginsBridge, NamesContext, NamesBridge, SaysProgram, BeginsItem, BeginsDefault, NamesTarget, NamesSource, BeginsBelief, EndsRead, AtomOf, IsNumber, OpensWithin, Entry}
 use Rattle.mcs_grammar.specs.Faults.{begins_context, begins_bridge, names_target, begins_default_of, begins_item_of, WasAtom, IsOneMore, TextFault, NoContext, Twin, Exceeds, Has}
-use Rattle.mcs_reader.specs.TextImages.{About, role_uses, uses_in, named_read_of}
+use Rattle.mcs_account.specs.Images.{About, role_uses, uses_in, named_read_of}
 use Rattle.mcs_grammar.specs.Written.{IsNameWord}
-use Rattle.mcs_faults.specs.Watching.{IsSpokenOf, named_read, AreShort, IsEntryAsked, IsUseAllowed, HaveNoFault}
+use Rattle.mcs_faults.specs.Watching.{named_read, IsEntryAsked, IsUseAllowed, HaveNoFault}
+use Rattle.mcs_account.specs.Images.{IsSpokenOf, AreShort}
 use Rattle.mcs_faults.proofs.LimitLemmas.{use-in, in-use}
 use Rattle.mcs_faults.proofs.WatchFacts.{is-context}
 use Rattle.mcs_faults.proofs.LaterLemmas.{earlier, not-new, same-among, spoken-later}
-use Rattle.mcs_reader.proofs.UseLemmas.{told-in}
+use Rattle.mcs_account.proofs.UseLemmas.{told-in}
 
 -- ---- one more
 one-more-same : {A : Type 0} (n : ℕ) (P Q : A → Type 0) (x : A) → ((y : A) → P y ↔ Q y) → IsOneMore n Q x → IsOneMore n P x

@@ -10,14 +10,14 @@ use Rattle.mcs_sets.specs.Sets.{has, size}
 use Rattle.mcs_base.proofs.Among.{among_get}
 use Rattle.mcs_system.specs.Plain.{Name}
 use Rattle.mcs_system.specs.declared.limit.Limit.TheVariants.{Variables, InputsPerContext, AtomsPerContext}
-use Rattle.mcs_reader.specs.declared.place.NamedRead as code_read
-use Rattle.mcs_reader.specs.declared.place.Role.TheVariants as roles
+use Rattle.mcs_account.specs.declared.reader.NamedRead as code_read
+use Rattle.mcs_account.specs.declared.place.Role.TheVariants as roles
 use Rattle.mcs_faults.specs.declared.watch.Watch.{Watch}
 use Rattle.mcs_faults.specs.declared.watch.ContextSeen.{ContextSeen}
 use Rattle.mcs_faults.specs.declared.watch.Said.{Said}
 use Rattle.mcs_grammar.specs.Entries.{Use, EndsRead, AtomOf, Entry}
 use Rattle.mcs_grammar.specs.Faults.{NamedRead, WasReadInto, WasAtom, ExceedsLimit}
-use Rattle.mcs_reader.specs.TextImages.{About, named_read_of}
+use Rattle.mcs_account.specs.Images.{About, named_read_of}
 use Rattle.mcs_faults.specs.Watching.{ListsEach, IsNumberOf, IsEntryAsked}
 use Rattle.mcs_faults.proofs.DifferentLemmas.{values-at}
 use Rattle.mcs_faults.proofs.LimitLemmas.{read_said, variables-beyond, inputs-beyond, atoms-beyond, spoken-of}

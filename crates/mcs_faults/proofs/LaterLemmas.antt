@@ -8,7 +8,9 @@ use Rattle.mcs_base.proofs.Lists.{flat_map_push}
 use Rattle.mcs_system.specs.Plain.{Name, Formula}
 use Rattle.mcs_grammar.specs.Entries.{Use, BeginsContext, BeginsBridge, NamesContext, NamesBridge, SaysProgram, BeginsItem, BeginsDefault, NamesTarget, NamesSource, BeginsBelief, EndsRead, AtomOf, IsNumber, OpensWithin}
 use Rattle.mcs_grammar.specs.Faults.{NamedRead, WasRead, WasReadInto, WasAtom}
-use Rattle.mcs_faults.specs.Watching.{context_named, bridge_named, contexts_named, bridges_named, ListsEach, IsSpokenOf}
+use Rattle.mcs_account.specs.Known.{context_named, contexts_named}
+use Rattle.mcs_faults.specs.Watching.{bridge_named, bridges_named, ListsEach}
+use Rattle.mcs_account.specs.Images.{IsSpokenOf}
 use Rattle.mcs_faults.proofs.DifferentLemmas.{lists-same}
 
 -- ---- what is among them

@@ -12,7 +12,6 @@ pub mod SaidReads
 pub mod ValidReads
 pub mod ValidAtoms
 pub mod ValidTexts
-pub mod KnownLemmas
 pub mod SaidLemmas
 pub mod DifferentLemmas
 pub mod WatchFacts
@@ -40,6 +39,5 @@ pub mod FaultlessAtoms
 pub mod FaultlessSizes
 pub mod FaultlessTexts
 pub mod SpellsWhole
-pub mod MoveLemmas
-pub mod TextMoves
 pub mod WatchWithin
+pub mod Unambiguous

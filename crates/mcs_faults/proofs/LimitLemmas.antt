@@ -5,15 +5,16 @@ use Rattle.mcs_base.specs.Listings.{IsAmong}
 use Rattle.mcs_base.proofs.Each.{all_among}
 use Rattle.mcs_system.specs.Plain.{Name, Formula}
 use Rattle.mcs_system.specs.declared.limit.Limit.TheVariants.{Contexts, Bridges, RulesPerContext, Variables, InputsPerContext, AtomsPerContext, DefaultsPerContext, ItemsPerContext, FormulaSize, OpenParentheses}
-use Rattle.mcs_reader.specs.declared.place.Role.TheVariants as roles
+use Rattle.mcs_account.specs.declared.place.Role.TheVariants as roles
 use Rattle.mcs_faults.specs.declared.watch.Watch.{Watch}
 use Rattle.mcs_faults.specs.declared.watch.Said.{Said}
 use Rattle.mcs_grammar.specs.Written.{IsNameWord}
 use Rattle.mcs_grammar.specs.Entries.{Token, Use, BeginsContext, BeginsBridge, NamesContext, NamesBridge, SaysProgram, BeginsItem, BeginsDefault, NamesTarget, NamesSource, BeginsBelief, EndsRead, AtomOf, OpensWithin, Entry}
 use Rattle.mcs_grammar.specs.Faults.{names_target, begins_default_of, begins_item_of, NamedRead, WasRead, WasReadInto, WasAtom, IsOneMore, NoContext, Twin, NoAtom, ExceedsLimit, Has}
-use Rattle.mcs_reader.specs.TextImages.{About}
-use Rattle.mcs_faults.specs.Watching.{IsSpokenOf, IsEntryAsked}
-use Rattle.mcs_reader.proofs.UseLemmas.{is_number, IsIn, entry-in, in-entry, number-in, in-number}
+use Rattle.mcs_account.specs.Images.{About}
+use Rattle.mcs_faults.specs.Watching.{IsEntryAsked}
+use Rattle.mcs_account.specs.Images.{IsSpokenOf}
+use Rattle.mcs_account.proofs.UseLemmas.{is_number, IsIn, entry-in, in-entry, number-in, in-number}
 
 -- the read that ends with the token
 abbrev pub read_said : About → NamedRead

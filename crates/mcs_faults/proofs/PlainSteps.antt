@@ -5,7 +5,8 @@ use Rattle.std.proofs.lemmas.List.{append-nil}
 use Rattle.mcs_system.specs.Plain.{Name}
 use Rattle.mcs_faults.specs.declared.watch.Watch.{Watch}
 use Rattle.mcs_grammar.specs.Entries.{Use, BeginsContext, BeginsBridge, NamesBridge, NamesSource, BeginsBelief, IsNumber, OpensWithin}
-use Rattle.mcs_faults.specs.Watching.{IsSpokenOf, IsWatch, IsUseAllowed}
+use Rattle.mcs_faults.specs.Watching.{IsWatch, IsUseAllowed}
+use Rattle.mcs_account.specs.Images.{IsSpokenOf}
 use Rattle.mcs_faults.proofs.ApartLemmas.{apart-begins_context, apart-begins_bridge, apart-names_bridge, apart-names_source, apart-begins_belief, apart-number, apart-opens}
 use Rattle.mcs_faults.proofs.StepWatch.{plain-step}
 

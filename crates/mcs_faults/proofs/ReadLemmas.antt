@@ -7,7 +7,7 @@ use Rattle.mcs_system.specs.Logic.{same_name}
 use Rattle.mcs_system.specs.Seen.{formula_of}
 use Rattle.mcs_system.specs.Systems.{same_formula}
 use Rattle.mcs_system.proofs.Sameness.{same_name-is, same_formula-is, same_formula-itself}
-use Rattle.mcs_reader.specs.declared.place.NamedRead as code_read
+use Rattle.mcs_account.specs.declared.reader.NamedRead as code_read
 use Rattle.std.specs.Borrow.{Bor}
 use Rattle.std.specs.Option.{option_copied}
 use Rattle.std.proofs.lemmas.Option.{same_Some}
@@ -15,7 +15,7 @@ use Rattle.mcs_base.proofs.Lists.{slice_get_seam}
 use Rattle.mcs_grammar.specs.Faults.{NamedRead}
 use Rattle.mcs_faults.specs.Watching.{IsNumberOf, IsHeld}
 use Rattle.mcs_faults.proofs.WatchFacts.{number-there}
-use Rattle.mcs_reader.specs.TextImages.{named_read_of}
+use Rattle.mcs_account.specs.Images.{named_read_of}
 
 abbrev read_at : Name → Formula → NamedRead
 read_at c f = record { context = c; belief = f }

@@ -17,15 +17,16 @@ use Rattle.mcs_faults.specs.declared.watch.Watch.{Watch}
 use Rattle.mcs_faults.specs.declared.watch.ContextSeen.{ContextSeen}
 use Rattle.mcs_grammar.specs.Entries.{Use, NamesContext, SaysProgram, EndsRead, AtomOf}
 use Rattle.mcs_grammar.specs.Faults.{names_target, begins_default_of, begins_item_of, AreDifferent, NamedRead, WasRead, WasReadInto, WasAtom, IsOneMore}
-use Rattle.mcs_reader.specs.TextImages.{named_read_of}
-use Rattle.mcs_faults.specs.Watching.{ListsEach, IsContextSeen, IsSpokenOf, names_seen, IsWatch, IsNumberOf, IsUseAllowed, IsUnseenContext, IsHeld}
+use Rattle.mcs_account.specs.Images.{named_read_of}
+use Rattle.mcs_faults.specs.Watching.{ListsEach, IsContextSeen, names_seen, IsWatch, IsNumberOf, IsUseAllowed, IsUnseenContext, IsHeld}
+use Rattle.mcs_account.specs.Images.{IsSpokenOf}
 use Rattle.mcs_faults.proofs.ApartLemmas.{apart-names_context, apart-read}
 use Rattle.mcs_faults.proofs.DifferentLemmas.{values-at, lists-same, lists-more, same-length}
 use Rattle.mcs_faults.proofs.LaterLemmas.{same-among, the-new, earlier, atoms-later, reads-later}
 use Rattle.mcs_faults.proofs.SeenLater.{IsLonger, not-longer, one-longer, seen-later, all-set, all-push, names-set}
 use Rattle.mcs_faults.proofs.StepWatch.{watch-step}
 use Rattle.mcs_faults.proofs.WatchFacts.{seen-name, seen-here, one-more, no-rules, no-defaults, no-items}
-use Rattle.mcs_reader.proofs.TextUses.{same-named}
+use Rattle.mcs_account.proofs.TextUses.{same-named}
 
 -- ---- the name of a context
 module _ (w : Watch) (before : List Use) (watch : IsWatch w before) (n : Name) (new : IsUseAllowed before (NamesContext n)) where

@@ -12,8 +12,11 @@ use Rattle.mcs_faults.specs.declared.watch.Said.{Said}
 use Rattle.mcs_grammar.specs.Written.{IsNameWord}
 use Rattle.mcs_grammar.specs.Entries.{Token, Use, BeginsItem, BeginsBelief, EndsRead, Entry}
 use Rattle.mcs_grammar.specs.Faults.{TextFault, Has, begins_item_of}
-use Rattle.mcs_reader.specs.TextImages.{About, capped, role_uses, when, uses_in}
-use Rattle.mcs_faults.specs.Watching.{context_named, contexts_named, IsSpokenOf, names_seen, IsWatch, IsNumberOf, IsNaming, IsEntryAsked, IsUseAllowed, HaveNoFault}
+use Rattle.mcs_account.specs.Account.{when}
+use Rattle.mcs_account.specs.Images.{About, capped, role_uses, uses_in}
+use Rattle.mcs_account.specs.Known.{context_named, contexts_named}
+use Rattle.mcs_faults.specs.Watching.{names_seen, IsWatch, IsNumberOf, IsEntryAsked, IsUseAllowed, HaveNoFault}
+use Rattle.mcs_account.specs.Images.{IsSpokenOf, IsNaming}
 use Rattle.mcs_faults.proofs.CappedWatch.{capped-watch}
 use Rattle.mcs_faults.proofs.FreeLemmas.{early-read, early-belief, early-item, roles-later, item-later, fitting, free-uses}
 use Rattle.mcs_faults.proofs.LaterLemmas.{named-later}

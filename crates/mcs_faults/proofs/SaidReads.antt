@@ -15,9 +15,9 @@ use Rattle.mcs_system.proofs.NameLemmas.{position-there}
 use Rattle.mcs_grammar.specs.Written.{WrittenContext, WrittenBridge, WrittenText}
 use Rattle.mcs_grammar.specs.Saying.{SaysBridge, SaysSystem, names_of}
 use Rattle.mcs_grammar.specs.Faults.{AreDifferent, NamedRead, WasReadInto}
-use Rattle.mcs_reader.specs.TextImages.{read_in}
+use Rattle.mcs_account.specs.Images.{read_in}
 use Rattle.mcs_faults.proofs.UsesLemmas.{text_uses, names-there, reads-there}
-use Rattle.mcs_reader.proofs.TextUses.{same-named}
+use Rattle.mcs_account.proofs.TextUses.{same-named}
 use Rattle.mcs_faults.proofs.Within.{IsWithin}
 use Rattle.mcs_grammar.proofs.SaidSystem.{read-written, as-many-contexts, as-many-names, IsContextAt}
 

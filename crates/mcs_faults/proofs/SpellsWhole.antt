@@ -1,55 +1,35 @@
 -- The tokens of a text without faults spell what the text says.
-use Rattle.std.proofs.Common.{◌≡◌, ℕ, ◌+◌, List, [], ◌∷◌, ◌++◌, take, length, Some, refl, sym, ap, subst, ◌∙◌, arith, append_assoc, slice_get}
-use Rattle.std.specs.Option.{option_map}
-use Rattle.std.proofs.lemmas.List.{append-nil, length-append, length-map}
-use Rattle.std.proofs.lemmas.Option.{slice_get-map}
-use Rattle.std.proofs.Math.Seq.{take-append_seam}
-use Rattle.mcs_base.proofs.Lists.{slice_get_seam}
+use Rattle.std.proofs.Common.{◌≡◌, ℕ, ◌+◌, ◌<◌, List, take, length, Some, inl, inr, refl, sym, ap, subst, ◌∙◌, arith, slice_get, length-take-le}
+use Rattle.std.proofs.lemmas.List.{length-map, take-append-le}
+use Rattle.mcs_base.proofs.Lists.{slice_get-append_left}
 use Rattle.mcs_system.specs.Plain as plain
 use Rattle.mcs_tokens.specs.Tokens.{AreTokens}
 use Rattle.mcs_tokens.specs.declared.scan.Span.{Span}
 use Rattle.mcs_grammar.specs.Written.{WrittenText, IsText}
 use Rattle.mcs_grammar.specs.Entries.{Token, Entry, text_entries, tokens_of, uses_of}
 use Rattle.mcs_grammar.specs.Saying.{SaysSystem}
-use Rattle.mcs_grammar.specs.Faults.{TextFault, Has, IsFaultAt}
+use Rattle.mcs_grammar.specs.Faults.{TextFault, NoGrammar, Has, IsEntered, IsFaultAt}
 use Rattle.mcs_grammar.specs.Texts.{token_texts, Spells}
-use Rattle.mcs_reader.specs.TextSteps.{PartText, nothing_written, text_step, text_steps}
-use Rattle.mcs_reader.proofs.TextRuns.{steps-first}
-use Rattle.mcs_reader.proofs.TextForward.{whole_text}
-use Rattle.mcs_reader.proofs.TextTheory.{text-forward}
-use Rattle.mcs_reader.proofs.FaultTheory.{Reached, reached-none, reached-more, IsFree, free-none, free-more, free-whole}
+use Rattle.mcs_account.proofs.TextFronts.{same-entries}
 use Rattle.mcs_faults.proofs.Within.{NoFaults}
 
 module _ (t : WrittenText) (grammar : IsText t) (none : NoFaults (text_entries t)) where
-  abbrev ms : List Entry
-  ms = text_entries t
-
   abbrev ts : List Token
   ts = tokens_of (text_entries t)
 
-  -- the entry that stands after those that were taken
-  token-there : (done : List Entry) (m : Entry) (todo : List Entry) → done ++ m ∷ todo ≡ ms → slice_get ts (length done) ≡ Some m.token
-  token-there done m todo whole = slice_get-map (λ (x : Entry). x.token) ms (length done) ∙ ap (option_map (λ (x : Entry). x.token)) (ap (λ (xs : List Entry). slice_get xs (length done)) (sym whole) ∙ slice_get_seam done m todo (length done) refl)
-
-  none-there : (done : List Entry) (m : Entry) (todo : List Entry) → done ++ m ∷ todo ≡ ms → (f : TextFault) → ¬ Has f (uses_of done) m
-  none-there done m todo whole f h =
-      let before : take (length done) ms ≡ done = ap (take (length done)) (sym whole) ∙ take-append_seam done (m ∷ todo) in
-      none (length done) m f (ap (λ (xs : List Entry). slice_get xs (length done)) (sym whole) ∙ slice_get_seam done m todo (length done) refl) (subst (λ (xs : List Entry). Has f (uses_of xs) m) (sym before) h)
-
-  walk : (done todo : List Entry) (s : PartText) (k : ℕ) → k ≡ length done → done ++ todo ≡ ms → Reached ts k done s → text_steps s (tokens_of todo) ≡ Some (todo, whole_text t) → IsFree ts k → IsFree ts (length ts)
-  walk done [] s k long whole reached steps free = subst (IsFree ts) (long ∙ ap (λ (xs : List Entry). length xs) (sym (append-nil done) ∙ whole) ∙ sym (length-map ms (λ (x : Entry). x.token))) free
-  walk done (m ∷ todo) s k long whole reached steps free =
-      let d = steps-first s m.token (tokens_of todo) (m ∷ todo) (whole_text t) steps in
-      let same : (d.first ≡ m) × (d.rest ≡ todo) = (let e = d.entries_are in (cc, cc)) in
-      let step : text_step s m.token ≡ Some (m, d.middle) = d.step ∙ ap (λ (x : Entry). Some (x, d.middle)) same.0 in
-      let is : slice_get ts k ≡ Some m.token = ap (slice_get ts) long ∙ token-there done m todo whole in
-      walk (done ++ m ∷ []) todo d.middle (k + 1) (omega (arith, length-append done (m ∷ []))) (append_assoc done (m ∷ []) todo ∙ whole)
-      (reached-more ts k done s m.token m d.middle reached is step)
-      (d.steps ∙ ap (λ (xs : List Entry). Some (xs, whole_text t)) same.1)
-      (free-more ts k done s m.token m d.middle reached is step (none-there done m todo whole) free)
+  none-entered : (k : ℕ) (f : TextFault) → k < length ts → IsEntered ts k f → ⊥
+  none-entered k f less h =
+      let s = same-entries t grammar h.text h.grammar (k + 1) h.same in
+      let long : length s.es ≡ k + 1 = sym (length-map s.es (λ (m : Entry). m.token)) ∙ ap (λ (us : List Token). length us) s.tokens_are ∙ length-take-le (k + 1) ts (omega arith) in
+      let inside : k < length s.es = omega arith in
+      let here : slice_get (text_entries t) k ≡ Some h.here = ap (λ (l : List Entry). slice_get l k) s.here ∙ slice_get-append_left s.es s.more k inside ∙ sym (slice_get-append_left s.es s.others k inside) ∙ ap (λ (l : List Entry). slice_get l k) (sym s.there) ∙ h.is_here in
+      let before : take k (text_entries h.text) ≡ take k (text_entries t) = ap (take k) s.there ∙ take-append-le k s.es s.others (omega arith) ∙ sym (take-append-le k s.es s.more (omega arith)) ∙ ap (take k) (sym s.here) in
+      none k h.here f here (subst (λ (l : List Entry). Has f (uses_of l) h.here) before h.has)
 
   pub no-fault-at : (k : ℕ) (f : TextFault) → ¬ IsFaultAt ts k f
-  no-fault-at = free-whole ts (length ts) refl (t, grammar, refl) (walk [] ms nothing_written 0 refl refl (reached-none ts) (text-forward t grammar).0 (free-none ts))
+  no-fault-at k NoGrammar (inl h) = h.1 (record { text = t; grammar = grammar; first = ap (λ (n : ℕ). take n ts) (let less = h.0 in length-take-le (k + 1) ts (omega arith)) })
+  no-fault-at k NoGrammar (inr h) = h.1 (t, grammar, refl)
+  no-fault-at k f h = none-entered k f h.0 h.1
 
 pub spells-whole : (bytes : List ℕ) (spans : List Span) (t : WrittenText) (m : plain.System) → AreTokens bytes 0 spans → token_texts bytes spans ≡ tokens_of (text_entries t) → IsText t → SaysSystem t m → NoFaults (text_entries t) → Spells bytes m
 spells-whole bytes spans t m tokens written grammar says none = record {

@@ -10,8 +10,10 @@ use Rattle.mcs_faults.specs.declared.watch.Watch.{Watch}
 use Rattle.mcs_faults.specs.declared.watch.ContextSeen.{ContextSeen}
 use Rattle.mcs_grammar.specs.Entries.{Use, BeginsContext, BeginsBridge, NamesContext, NamesBridge, NamesTarget, EndsRead}
 use Rattle.mcs_grammar.specs.Faults.{begins_context, begins_bridge, AreDifferent, WasRead}
-use Rattle.mcs_reader.specs.TextImages.{named_read_of}
-use Rattle.mcs_faults.specs.Watching.{context_named, bridge_named, contexts_named, bridges_named, ListsEach, IsContextSeen, IsSpokenOf, names_seen, IsWatch, IsUseAllowed}
+use Rattle.mcs_account.specs.Images.{named_read_of}
+use Rattle.mcs_account.specs.Known.{context_named, contexts_named}
+use Rattle.mcs_faults.specs.Watching.{bridge_named, bridges_named, ListsEach, IsContextSeen, names_seen, IsWatch, IsUseAllowed}
+use Rattle.mcs_account.specs.Images.{IsSpokenOf}
 use Rattle.mcs_faults.proofs.LaterLemmas.{earlier, spoken-later, reads-later, named-later, bridges-later}
 use Rattle.mcs_faults.proofs.SeenLater.{IsApart, not-longer, all-later, all-set, names-set}
 use Rattle.mcs_faults.proofs.WatchFacts.{context-named, bridge-named}

@@ -5,8 +5,8 @@ use Rattle.mcs_base.specs.Listings.{IsAmong}
 use Rattle.mcs_faults.specs.Watching.{IsNumberOf}
 use Rattle.mcs_faults.proofs.WatchFacts.{number-there}
 use Rattle.std.proofs.lemmas.Bool.Decides.{Decides-eqb, Decides-ltb}
-use Rattle.mcs_reader.specs.declared.place.Role as code_role
-use Rattle.mcs_reader.specs.declared.place.Role.TheVariants as roles
+use Rattle.mcs_account.specs.declared.place.Role as code_role
+use Rattle.mcs_account.specs.declared.place.Role.TheVariants as roles
 
 -- it is there where its number is one
 pub told-there : {A : Type 0} (xs : List A) (x : A) (k n : ℕ) → IsNumberOf xs x k → n ≡ length xs → IsTrue (nat_lt k n) ↔ IsAmong x xs

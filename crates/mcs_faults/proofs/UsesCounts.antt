@@ -13,11 +13,12 @@ use Rattle.mcs_grammar.specs.Written.{WrittenKb, WrittenContext, WrittenBridge, 
 use Rattle.mcs_grammar.specs.Entries.{Use, BeginsContext, BeginsBridge, NamesContext, NamesBridge, NamesTarget, kb_entries, context_entries, bridge_entries, uses_of}
 use Rattle.mcs_grammar.specs.Saying.{names_of}
 use Rattle.mcs_grammar.specs.Faults.{begins_context, begins_bridge, names_target}
-use Rattle.mcs_faults.specs.Watching.{context_named, bridge_named, contexts_named, bridges_named}
-use Rattle.mcs_reader.proofs.UsesParts.{text_uses, goes_into}
-use Rattle.mcs_reader.proofs.EntryLists.{uses-append, uses-flat_map}
-use Rattle.mcs_reader.proofs.ContextUses.{in_kb, kb-in}
-use Rattle.mcs_reader.proofs.BridgeUses.{later_uses, bridge-front, later-in, in_read}
+use Rattle.mcs_account.specs.Known.{context_named, contexts_named}
+use Rattle.mcs_faults.specs.Watching.{bridge_named, bridges_named}
+use Rattle.mcs_account.proofs.UsesParts.{text_uses, goes_into}
+use Rattle.mcs_account.proofs.EntryLists.{uses-append, uses-flat_map}
+use Rattle.mcs_account.proofs.ContextUses.{in_kb, kb-in}
+use Rattle.mcs_account.proofs.BridgeUses.{later_uses, bridge-front, later-in, in_read}
 
 -- ---- over the parts of a text
 module _ (p : Use → Bool) where

@@ -15,12 +15,12 @@ use Rattle.mcs_grammar.specs.Written.{Written, WrittenItem, Fact, Rule, WrittenK
 use Rattle.mcs_grammar.specs.Entries.{Use, formula_in, BeginsItem, BeginsDefault, Entry, entry, with_first, whole_entries, item_entries, head_entries, optional, body_entries, rule_entries, ended, kb_entries, uses_of}
 use Rattle.mcs_grammar.specs.Saying.{item_in, rule_in, kb_in}
 use Rattle.mcs_grammar.specs.Faults.{begins_default_of, begins_item_of}
-use Rattle.mcs_reader.proofs.UsesParts.{text_uses, sum_of}
-use Rattle.mcs_reader.proofs.EntryLists.{formula-some, uses-flat_map, uses-end, uses-first, some-append}
-use Rattle.mcs_reader.proofs.ContextUses.{formula_uses, later_formulas, default-all, in_formula, formula-in, rule-in, items-among}
-use Rattle.mcs_reader.proofs.BridgeUses.{in_read}
+use Rattle.mcs_account.proofs.UsesParts.{text_uses, sum_of}
+use Rattle.mcs_account.proofs.EntryLists.{formula-some, uses-flat_map, uses-end, uses-first, some-append}
+use Rattle.mcs_account.proofs.ContextUses.{formula_uses, later_formulas, default-all, in_formula, formula-in, rule-in, items-among}
+use Rattle.mcs_account.proofs.BridgeUses.{in_read}
 use Rattle.mcs_faults.proofs.UsesCounts.{text-count, context-parts, bridge-parts}
-use Rattle.mcs_reader.specs.TextImages.{HasSome}
+use Rattle.mcs_account.specs.Reading.{HasSome}
 
 -- ---- what they are not
 default-no-formula : (c : Name) (u : Use) → in_formula u ≡ true → begins_default_of c u ≡ false

@@ -15,11 +15,11 @@ use Rattle.mcs_grammar.specs.Written.{WrittenItem, Fact, Rule, WrittenKb, Classi
 use Rattle.mcs_grammar.specs.Entries.{SaysProgram, formula_in, context_entries, text_entries, uses_of}
 use Rattle.mcs_grammar.specs.Saying.{item_in, kb_in, SaysPlace, SaysSystem, names_of}
 use Rattle.mcs_grammar.specs.Faults.{NoAtom}
-use Rattle.mcs_reader.proofs.UsesParts.{IsPlaceOf, OfHead, OfRead, IsProgramKb}
+use Rattle.mcs_account.proofs.UsesParts.{IsPlaceOf, OfHead, OfRead, IsProgramKb}
 use Rattle.mcs_faults.proofs.Within.{NoFaults}
-use Rattle.mcs_reader.proofs.EntryLists.{parts-among}
-use Rattle.mcs_reader.proofs.ContextUses.{kind-among}
-use Rattle.mcs_reader.proofs.FirstTokens.{first-there, entry-at}
+use Rattle.mcs_account.proofs.EntryLists.{parts-among}
+use Rattle.mcs_account.proofs.ContextUses.{kind-among}
+use Rattle.mcs_account.proofs.FirstTokens.{first-there, entry-at}
 use Rattle.mcs_grammar.proofs.SaidSystem.{read-written, context-written, bridge-written, context-at}
 
 -- ---- justifications

@@ -15,7 +15,7 @@ use Rattle.mcs_grammar.specs.Faults.{Exceeds}
 use Rattle.mcs_faults.proofs.UsesLemmas.{text_uses, IsPlaceOf, OfHead, OfRead, item_formulas, kb_formulas, rule_size, kb_rules, IsSizeOf, OfFormula, OfRule, OfPlace, numbers-there}
 use Rattle.mcs_faults.proofs.Within.{NoFaults}
 use Rattle.mcs_grammar.proofs.SaidSystem.{read-written, context-written, bridge-written}
-use Rattle.mcs_reader.proofs.StepLemmas.{literals-count}
+use Rattle.mcs_account.proofs.UsesParts.{literals-count}
 
 -- ---- sizes
 pub size-said : (f : Written) → formula_size (formula_in f) ≡ size_of f

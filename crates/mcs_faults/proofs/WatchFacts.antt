@@ -16,8 +16,9 @@ use Rattle.mcs_faults.specs.declared.watch.Watch.{Watch}
 use Rattle.mcs_faults.specs.declared.watch.ContextSeen.{ContextSeen}
 use Rattle.mcs_grammar.specs.Entries.{Use, BeginsContext, BeginsBridge, NamesContext, NamesBridge, SaysProgram, BeginsItem, BeginsDefault, NamesTarget, NamesSource, BeginsBelief, EndsRead, AtomOf, IsNumber, OpensWithin}
 use Rattle.mcs_grammar.specs.Faults.{names_target, begins_default_of, begins_item_of, IsOneMore}
-use Rattle.mcs_reader.specs.TextImages.{named_read_of}
-use Rattle.mcs_faults.specs.Watching.{context_named, bridge_named, contexts_named, bridges_named, ListsEach, IsContextSeen, names_seen, IsWatch, IsNumberOf}
+use Rattle.mcs_account.specs.Images.{named_read_of}
+use Rattle.mcs_account.specs.Known.{context_named, contexts_named}
+use Rattle.mcs_faults.specs.Watching.{bridge_named, bridges_named, ListsEach, IsContextSeen, names_seen, IsWatch, IsNumberOf}
 use Rattle.mcs_faults.proofs.DifferentLemmas.{same-length}
 
 -- ---- names

@@ -12,7 +12,7 @@ use Rattle.mcs_faults.specs.declared.watch.Watch.{Watch}
 use Rattle.mcs_faults.specs.declared.watch.ContextSeen.{ContextSeen}
 use Rattle.mcs_grammar.specs.Entries.{Use, NamesContext, EndsRead, AtomOf}
 use Rattle.mcs_grammar.specs.Faults.{names_target, begins_default_of, begins_item_of, AreDifferent, NamedRead, WasReadInto, WasAtom}
-use Rattle.mcs_reader.specs.TextImages.{named_read_of}
+use Rattle.mcs_account.specs.Images.{named_read_of}
 use Rattle.mcs_faults.specs.Watching.{ListsEach, IsContextSeen, named_read, IsWatch}
 use Rattle.mcs_faults.proofs.Within.{IsWithin}
 use Rattle.mcs_faults.proofs.DifferentLemmas.{values-at}

@@ -5,7 +5,8 @@ use Rattle.mcs_base.specs.Listings.{IsAmong}
 use Rattle.mcs_system.specs.Plain.{Name}
 use Rattle.mcs_grammar.specs.Entries.{Use, Entry, uses_of}
 use Rattle.mcs_grammar.specs.Faults.{begins_context, begins_bridge, names_target, begins_default_of, begins_item_of, AreDifferent, NamedRead, WasReadInto, WasRead, WasAtom, TextFault, Has}
-use Rattle.mcs_faults.specs.Watching.{contexts_named, bridges_named}
+use Rattle.mcs_account.specs.Known.{contexts_named}
+use Rattle.mcs_faults.specs.Watching.{bridges_named}
 
 pub record IsWithin (uses : List Use) : Type 0 where
   pub contexts : count_by begins_context uses ≤ 64

@@ -15,26 +15,18 @@ use Rattle.mcs_faults.specs.declared.watch.Subject as code_subject
 use Rattle.mcs_faults.specs.declared.watch.Said.{Said}
 use Rattle.mcs_faults.specs.declared.fault.Fault as code_fault
 use Rattle.mcs_faults.specs.declared.fault.Fault.TheVariants as faults
-use Rattle.mcs_reader.specs.declared.place.NamedRead as code_read
-use Rattle.mcs_reader.specs.declared.place.Role as code_role
-use Rattle.mcs_reader.specs.declared.place.Role.TheVariants as roles
-use Rattle.mcs_reader.specs.declared.place.Uses as code_uses
+use Rattle.mcs_account.specs.declared.reader.NamedRead as code_read
+use Rattle.mcs_account.specs.declared.place.Uses as code_uses
 use Rattle.mcs_grammar.specs.Written.{IsNameWord}
-use Rattle.mcs_grammar.specs.Entries.{Use, BeginsContext, BeginsBridge, NamesContext, NamesBridge, NamesTarget, SaysProgram, BeginsItem, BeginsDefault, BeginsBelief, EndsRead, AtomOf, Entry}
+use Rattle.mcs_grammar.specs.Entries.{Use, BeginsContext, BeginsBridge, NamesContext, NamesBridge, NamesTarget, SaysProgram, BeginsItem, BeginsDefault, EndsRead, AtomOf, Entry}
 use Rattle.mcs_grammar.specs.Faults.{begins_context, begins_bridge, names_target, begins_default_of, begins_item_of, AreDifferent, NamedRead, WasReadInto, WasRead, WasAtom, IsOneMore, TextFault, NoGrammar, NoContext, Twin, NoAtom, Exceeds, rank, Has}
-use Rattle.mcs_reader.specs.TextImages.{named_read_of, Subject, About, capped, uses_in}
+use Rattle.mcs_account.specs.Known.{contexts_named}
+use Rattle.mcs_account.specs.Images.{named_read_of, Subject, About, capped, uses_in, IsSpokenOf, AreShort, IsNaming}
 
 -- ---- what was named
-abbrev pub context_named : Use → List Name
-context_named (NamesContext c) = c ∷ []
-context_named u = []
-
 abbrev pub bridge_named : Use → List Name
 bridge_named (NamesBridge b) = b ∷ []
 bridge_named u = []
-
-abbrev pub contexts_named : List Use → List Name
-contexts_named before = flat_map context_named before
 
 abbrev pub bridges_named : List Use → List Name
 bridges_named before = flat_map bridge_named before
@@ -55,26 +47,12 @@ pub record IsContextSeen (variables : List NamedRead) (before : List Use) (c : C
   pub few : (c.rules ≤ most RulesPerContext) × (c.defaults ≤ most DefaultsPerContext) × (c.items ≤ most ItemsPerContext) × (length c.atoms.items ≤ most AtomsPerContext) × (size c.inputs ≤ most InputsPerContext)
 
 -- ---- of all
--- what a token is said of, when it was named before
-abbrev pub IsSpokenOf : List Use → Use → Type 0
-IsSpokenOf before (SaysProgram c) = IsAmong (NamesContext c) before
-IsSpokenOf before (BeginsItem c) = IsAmong (NamesContext c) before
-IsSpokenOf before (BeginsDefault c) = IsAmong (NamesContext c) before
-IsSpokenOf before (BeginsBelief c) = IsAmong (NamesContext c) before
-IsSpokenOf before (AtomOf c a) = IsAmong (NamesContext c) before
-IsSpokenOf before (EndsRead t c f) = IsAmong (NamesContext t) before × IsAmong (NamesContext c) before
-IsSpokenOf before u = Unit {0}
-
 -- the names of the contexts that were named
 abbrev pub names_seen : Watch → List Name
 names_seen w = map (λ (c : ContextSeen). c.name) w.contexts.items
 
 abbrev pub named_read : Name → Formula → NamedRead
 named_read c f = record { context = c; belief = f }
-
--- none of the names is longer than a name may be
-abbrev pub AreShort : List Name → Type 0
-AreShort names = (a : Name) → IsAmong a names → length a ≤ most_name_bytes
 
 pub record IsWatch (w : Watch) (before : List Use) : Type 0 where
   pub begun : w.contexts_begun ≡ count_by begins_context before
@@ -98,13 +76,6 @@ IsNumberOf xs x k = (slice_get xs k ≡ Some x) ⊎ ((k ≡ length xs) × (¬ Is
 pub record IsSubject (w : Watch) (u : Subject) (s : code_subject.Subject) : Type 0 where
   pub context : IsNumberOf (names_seen w) u.context s.context
   pub target : IsNumberOf (names_seen w) u.target s.target
-
--- the token is the name of a context or of a rule, or an atom
-abbrev pub IsNaming : code_role.Role → Type 0
-IsNaming roles.NamesContext = Unit {0}
-IsNaming roles.NamesBridge = Unit {0}
-IsNaming (roles.Atom n) = Unit {0}
-IsNaming role = ⊥
 
 -- what the entry says of the token, and the read that ends with it
 pub record IsSaid (a : About) (m : Entry) (uses : code_uses.Uses) (read : Option code_read.NamedRead) : Type 0 where

@@ -7,14 +7,14 @@ ghost use Rattle.mcs_sets.specs.Sets.{has};
 ghost use Rattle.mcs_grammar.specs.Entries.{Entry, Use};
 ghost use Rattle.mcs_grammar.specs.Faults as faults;
 ghost use Rattle.mcs_grammar.specs.Faults.{Has, ExceedsLimit};
-ghost use Rattle.mcs_reader.specs.TextImages.{About, named_read_of};
+ghost use Rattle.mcs_account.specs.Images.{About, named_read_of};
 ghost use Rattle.mcs_faults.specs.Watching.{IsEntryAsked, IsNumberOf, IsLowestFault, AnswersTest};
-ghost use Rattle.mcs_reader.specs.declared.place.NamedRead as code_read;
+ghost use Rattle.mcs_account.specs.declared.reader.NamedRead as code_read;
 
 use crate::fault::Fault;
 use crate::watch::{Said, Watch};
+use mcs_account::{NamedRead, Role, is_name_word};
 use mcs_base::Vars;
-use mcs_reader::{NamedRead, Role, is_name_word};
 use mcs_system::{Limit, Name, same_formula};
 
 /// The limits, in the order in which they are tested.

@@ -8,15 +8,16 @@ ghost use Rattle.mcs_grammar.specs.Entries as entries;
 ghost use Rattle.mcs_grammar.specs.Entries.{Entry, Use};
 ghost use Rattle.mcs_grammar.specs.Faults as faults;
 ghost use Rattle.mcs_grammar.specs.Faults.{Has};
-ghost use Rattle.mcs_reader.specs.TextImages.{About, named_read_of, role_uses, when};
+ghost use Rattle.mcs_account.specs.Images.{About, IsNaming, IsSpokenOf, named_read_of, role_uses};
+ghost use Rattle.mcs_account.specs.Account.{when};
 ghost use Rattle.mcs_faults.specs.Watching.{HaveNoFault, IsUseAllowed, IsEntryAsked};
-ghost use Rattle.mcs_faults.specs.Watching.{IsUnseenContext, IsHeld, IsNaming, IsNumberOf};
-ghost use Rattle.mcs_faults.specs.Watching.{IsSpokenOf, IsWatch, names_seen};
+ghost use Rattle.mcs_faults.specs.Watching.{IsUnseenContext, IsHeld, IsNumberOf};
+ghost use Rattle.mcs_faults.specs.Watching.{IsWatch, names_seen};
 
 use crate::limits::is_one_of;
 use crate::watch::{ContextSeen, Said, Watch};
+use mcs_account::{NamedRead, Role};
 use mcs_base::{Memory, Vars};
-use mcs_reader::{NamedRead, Role};
 use mcs_system::Name;
 use std::alloc::Global;
 

@@ -8,14 +8,13 @@ ghost use Rattle.mcs_base.specs.Listings.{IsAmong};
 ghost use Rattle.mcs_system.specs.Plain.{Name};
 ghost use Rattle.mcs_grammar.specs.Entries.{Entry, SaysProgram, Use};
 ghost use Rattle.mcs_grammar.specs.Faults.{begins_default_of, begins_item_of, names_target};
-ghost use Rattle.mcs_reader.specs.TextSteps as written;
-ghost use Rattle.mcs_reader.specs.TextImages.{About, IsAt, subject_at};
-ghost use Rattle.mcs_faults.specs.Watching.{IsNumberOf, IsSaid, IsSpokenOf, IsSubject};
+ghost use Rattle.mcs_account.specs.Images.{About, IsSpokenOf};
+ghost use Rattle.mcs_faults.specs.Watching.{IsNumberOf, IsSaid, IsSubject};
 ghost use Rattle.mcs_faults.specs.Watching.{IsFaultVerdict, IsWatch, names_seen};
 
 use crate::fault::Fault;
+use mcs_account::{NamedRead, Place, Uses};
 use mcs_base::{Memory, Vars};
-use mcs_reader::{NamedRead, Place, Uses};
 use mcs_system::Name;
 use std::alloc::Global;
 
@@ -67,6 +66,19 @@ pub(crate) struct Said<'a> {
     pub(crate) read: Option<&'a NamedRead>,
 }
 
+impl Subject {
+    /// The contexts that the next token at the place speaks about.
+    pub fn at(place: &Place) -> Subject
+        ensures context { result.context ≡ place.now.context }
+        ensures target { result.target ≡ place.now.target }
+    {
+        Subject {
+            context: place.context,
+            target: place.target,
+        }
+    }
+}
+
 impl Watch {
     /// The table before the first token.
     pub fn new(alloc: Global) -> Watch
@@ -113,7 +125,7 @@ impl Watch {
     }
 
     /// The number of the context with this name, or the number of contexts so far if there is none.
-    pub(crate) fn number_of(&self, name: &[u8]) -> usize
+    pub fn number_of(&self, name: &[u8]) -> usize
         ensures { IsNumberOf (names_seen self.now) name.now result }
     {
         for (number, context) in self.contexts.iter().enumerate() {
@@ -177,59 +189,5 @@ impl Watch {
             Some(context) => context.items,
             None => 0,
         }
-    }
-
-    /// The contexts that the next token speaks about.
-    pub fn subject(&self, place: &Place) -> Subject
-        ensures { (q : written.Place) → IsAt place.now q
-            → IsSubject self.now (subject_at q) result }
-    {
-        Subject {
-            context: self.number_of(context_at(place)),
-            target: self.number_of(target_at(place)),
-        }
-    }
-}
-
-/// The name of the context that the next token is in or speaks about; empty if there is none.
-fn context_at(place: &Place) -> &[u8]
-    ensures { (q : written.Place) → IsAt place.now q → result.now ≡ (subject_at q).context }
-{
-    match place {
-        Place::OpenBrace { context }
-        | Place::NextItem { context }
-        | Place::InFact { context, .. }
-        | Place::InJust { context, .. }
-        | Place::InConclusion { context, .. }
-        | Place::AfterHeadName { context, .. }
-        | Place::NextHeadName { context, .. }
-        | Place::AfterSign { context, .. }
-        | Place::NextLiteral { context, .. }
-        | Place::AfterNot { context, .. }
-        | Place::AfterLiteral { context, .. } => context.name.bytes(),
-        Place::KindWord { name }
-        | Place::InHead { context: name, .. }
-        | Place::InRead { context: name, .. } => name.bytes(),
-        Place::Between
-        | Place::ContextName
-        | Place::BridgeName
-        | Place::BridgeColon { .. }
-        | Place::HeadContext { .. }
-        | Place::HeadColon { .. }
-        | Place::AfterHead { .. }
-        | Place::NextRead { .. }
-        | Place::ReadContext { .. }
-        | Place::ReadColon { .. }
-        | Place::AfterRead { .. } => b"",
-    }
-}
-
-/// The name of the target of the rule in whose read the next token is; empty if there is none.
-fn target_at(place: &Place) -> &[u8]
-    ensures { (q : written.Place) → IsAt place.now q → result.now ≡ (subject_at q).target }
-{
-    match place {
-        Place::InRead { bridge, .. } => bridge.target.bytes(),
-        _ => b"",
     }
 }

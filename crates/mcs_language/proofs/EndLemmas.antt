@@ -1,10 +1,11 @@
--- A text of which all tokens were read: its parts, and the system that it spells.
-use Rattle.std.proofs.Common.{◌≡◌, ℕ, ◌≤◌, List, [], ◌∷◌, map, length, Option, Some, None, refl, sym, ap, subst, ◌∙◌, inl, arith}
+-- A text of which all tokens were read, where it may end: the system that it spells.
+use Rattle.std.proofs.Common.{◌≡◌, ℕ, ◌≤◌, Bool, true, false, List, [], ◌∷◌, map, take, length, refl, sym, subst, ◌∙◌, arith}
 use Rattle.std.specs.List.{AllByRecursion}
-use Rattle.std.proofs.lemmas.List.{length-map}
-use Rattle.std.proofs.lemmas.Option.{same_Some}
+use Rattle.std.proofs.lemmas.List.{length-map, take_all}
 use Rattle.mcs_base.specs.Listings.{IsAmong}
-use Rattle.mcs_base.proofs.Among.{among_flat_map}
+use Rattle.mcs_base.proofs.Each.{all_from_among}
+use Rattle.mcs_syntax.specs.Reads.{IsRead}
+use Rattle.mcs_syntax.specs.Parts.{rest}
 use Rattle.mcs_system.specs.Plain.{Name}
 use Rattle.mcs_system.specs.Plain as plain
 use Rattle.mcs_system.specs.Seen.{context_of, bridge_of, system_of}
@@ -13,116 +14,111 @@ use Rattle.mcs_system.specs.declared.knowledge.Context as code_context
 use Rattle.mcs_system.specs.declared.bridge.Bridge as code_bridge
 use Rattle.mcs_tokens.specs.Tokens.{AreTokens}
 use Rattle.mcs_tokens.specs.declared.scan.Span.{Span}
-use Rattle.mcs_reader.specs.declared.reader.Parts.{Parts}
-use Rattle.mcs_language.specs.declared.reading.Reading.{Reading}
-use Rattle.mcs_grammar.specs.Written.{WrittenRead, WrittenContext, WrittenBridge, WrittenText, IsText}
-use Rattle.mcs_grammar.specs.Entries.{Use, NamesContext, Entry, text_entries, tokens_of, uses_of}
-use Rattle.mcs_grammar.specs.Saying.{context_in, names_of, Each, SaysBridge, SaysSystem}
+use Rattle.mcs_productions.specs.Productions.{grammar}
+use Rattle.mcs_grammar.specs.Written.{WrittenPlace, WrittenRead, WrittenBridge, WrittenText}
+use Rattle.mcs_grammar.specs.Entries.{Token, NamesContext, EndsRead, Entry, text_entries, uses_of}
+use Rattle.mcs_grammar.specs.Saying.{context_in, names_of, Each, SaysBridge, SaysSystem, positive_places, negative_places}
 use Rattle.mcs_grammar.specs.Texts.{token_texts, Spells}
-use Rattle.mcs_reader.specs.TextSteps.{Place, Between, finished_text}
-use Rattle.mcs_reader.specs.TextImages.{AreBridges}
-use Rattle.mcs_faults.specs.Watching.{context_named, contexts_named}
-use Rattle.mcs_reader.specs.Known.{WasNamed, SpeaksOfNamed}
-use Rattle.mcs_reader.specs.Ends.{AreReaderParts, context_names, HaveKnownContexts}
-use Rattle.mcs_language.specs.Progress.{AreReadUpTo}
-use Rattle.mcs_reader.proofs.FaultTheory.{is-whole, free-whole}
+use Rattle.mcs_account.specs.Account.{no_account, accounted, entries_in}
+use Rattle.mcs_account.specs.Reading.{AreRead, Events}
+use Rattle.mcs_account.proofs.Accounts.{bridge_said, names_in, bridge-says}
+use Rattle.mcs_account.proofs.FaultTheory.{free-whole}
+use Rattle.mcs_account.proofs.WholeTexts.{SaysAll, says-all}
+use Rattle.mcs_account.proofs.TextUses.{targets-there, reads-there}
+use Rattle.mcs_account.specs.Images.{read_in}
+use Rattle.mcs_faults.proofs.BeforeRules.{among-named}
+use Rattle.mcs_faults.proofs.Unambiguous.{written-names}
 use Rattle.mcs_faults.proofs.Within.{IsWithin, NoFaults}
 use Rattle.mcs_faults.proofs.UsesCounts.{context-count, names-there}
 use Rattle.mcs_faults.proofs.ValidTexts.{valid-text}
 use Rattle.mcs_faults.proofs.WatchWithin.{within}
-use Rattle.mcs_language.proofs.ProgressLemmas.{reached}
+use Rattle.mcs_faults.specs.Watching.{IsWatch}
+use Rattle.mcs_language.specs.declared.reading.Reading.{Reading}
+use Rattle.mcs_language.specs.Progress.{AreReadUpTo}
 use Rattle.mcs_language.proofs.ToldLemmas.{tokens-many}
 
--- ---- what the reader hands out
-pub record HandsOut (p : Parts) (o : Option WrittenText) : Type 0 where
-  pub text : WrittenText
-  pub is : o ≡ Some text
-  pub contexts : map context_of p.contexts.items ≡ map context_in text.contexts
-  pub bridges : AreBridges p.bridges.items text.bridges
+-- the places of the reads that are denied, and of those that are not
+module _ (P : WrittenPlace → Type 0) where
+  abbrev OfReads : List WrittenRead → Type 0
+  OfReads rs = AllByRecursion (λ (r : WrittenRead). P r.place) rs
 
-pub hands-out : (p : Parts) (o : Option WrittenText) → AreReaderParts (Some p) o → HandsOut p o
-hands-out p None h = absurd h
-hands-out p (Some t) h = record { text = t; is = refl; contexts = h.0; bridges = h.1 }
+  places-of : (rs : List WrittenRead) → OfReads rs → AllByRecursion P (positive_places rs) × AllByRecursion P (negative_places rs)
+  places-of [] h = (tt, tt)
+  places-of (r ∷ rs) h = at r.denied refl (places-of rs h.1)
+    where
+      at : (b : Bool) → r.denied ≡ b → AllByRecursion P (positive_places rs) × AllByRecursion P (negative_places rs) → AllByRecursion P (positive_places (r ∷ rs)) × AllByRecursion P (negative_places (r ∷ rs))
+      at true e more = rw e (more.0, (h.0, more.1))
+      at false e more = rw e ((h.0, more.0), more.1)
 
-pub hands-nothing : (o : Option WrittenText) → AreReaderParts None o → o ≡ None
-hands-nothing None h = refl
-hands-nothing (Some t) h = absurd h
-
--- ---- the rules that are whole
-bridges-whole : (cs : List WrittenContext) (bs : List WrittenBridge) (p : Place) (t : WrittenText) → finished_text (record { contexts = cs; bridges = bs; place = p }) ≡ Some t → bs ≡ t.bridges
-unfolding finished_text
-bridges-whole cs bs Between t e = ap (λ (u : WrittenText). u.bridges) (same_Some _ _ e)
-bridges-whole cs bs p t e = absurd (cc)
-
--- ---- contexts that were named
-named-among : (c : Name) (uses : List Use) → WasNamed uses c → IsAmong c (contexts_named uses)
-named-among c uses h = among_flat_map context_named (NamesContext c) c uses h (inl refl)
-
-module _ (uses : List Use) (names : List Name) (are : contexts_named uses ≡ names) where
-  known-name : (c : Name) → WasNamed uses c → IsAmong c names
-  known-name c h = subst (IsAmong c) are (named-among c uses h)
-
-  known-reads : (rs : List WrittenRead) → AllByRecursion (λ (r : WrittenRead). WasNamed uses r.place.context) rs → AllByRecursion (λ (r : WrittenRead). IsAmong r.place.context names) rs
-  known-reads [] h = tt
-  known-reads (r ∷ rs) h = (known-name r.place.context h.0, known-reads rs h.1)
-
-  known-bridges : (bs : List WrittenBridge) → AllByRecursion (SpeaksOfNamed uses) bs → HaveKnownContexts names bs
-  known-bridges [] h = tt
-  known-bridges (b ∷ bs) h = (record { head = known-name b.head.context h.0.head; reads = known-reads b.reads h.0.reads }, known-bridges bs h.1)
-
--- the code's contexts have the names of the text's
-abbrev names_in : List plain.Context → List Name
-names_in cs = map (λ (c : plain.Context). c.name) cs
-
-code-names : (cs : List code_context.Context) → names_in (map context_of cs) ≡ context_names cs
-code-names [] = refl
-code-names (c ∷ cs) = ap (λ (ns : List Name). c.name ∷ ns) (code-names cs)
-
-written-names : (ws : List WrittenContext) → names_in (map context_in ws) ≡ names_of ws
-written-names [] = refl
-written-names (w ∷ ws) = ap (λ (ns : List Name). w.name ∷ ns) (written-names ws)
-
-names-same : (cs : List code_context.Context) (ws : List WrittenContext) → map context_of cs ≡ map context_in ws → context_names cs ≡ names_of ws
-names-same cs ws e = sym (code-names cs) ∙ ap names_in e ∙ written-names ws
+each-says : (cs : List plain.Context) (bs : List WrittenBridge) → AllByRecursion (λ (b : WrittenBridge). SaysBridge (names_in cs) b (bridge_said cs b)) bs → Each (SaysBridge (names_in cs)) bs (map (bridge_said cs) bs)
+each-says cs [] h = tt
+each-says cs (b ∷ bs) h = (h.0, each-says cs bs h.1)
 
 -- ---- the whole text
-module _ (bytes : List ℕ) (spans : List Span) (r : Reading) (tokens : AreTokens bytes 0 spans) (h : AreReadUpTo r (token_texts bytes spans) (length spans))
-    (contexts : List code_context.Context) (t : WrittenText) (ends : finished_text h.state ≡ Some t) (contexts-are : map context_of contexts ≡ map context_in t.contexts) where
-  whole : IsText t × (text_entries t ≡ h.entries) × (tokens_of (text_entries t) ≡ token_texts bytes spans)
-  whole = is-whole (token_texts bytes spans) (length spans) h.entries h.state t (reached r (token_texts bytes spans) (length spans) h) (tokens-many bytes spans) ends
+module _ (bytes : List ℕ) (spans : List Span) (r : Reading) (tokens : AreTokens bytes 0 spans) (h : AreReadUpTo r (token_texts bytes spans) (length spans)) (xs : Events) (ends : IsRead grammar (rest r.reader.reader) [] xs) where
+  abbrev ts : List Token
+  ts = token_texts bytes spans
+
+  all-taken : take (length spans) ts ≡ ts
+  all-taken = take_all (length spans) ts (let e = tokens-many bytes spans in omega arith)
+
+  is-read : AreRead ts h.marks (rest r.reader.reader)
+  is-read = subst (λ (us : List Token). AreRead us h.marks (rest r.reader.reader)) all-taken h.reader.reader.read
+
+  said : SaysAll ts h.marks xs
+  said = says-all ts h.marks (rest r.reader.reader) xs is-read ends
+
+  abbrev t : WrittenText
+  t = said.whole.text
 
   is-within : IsWithin (uses_of (text_entries t))
-  is-within = subst (λ (ms : List Entry). IsWithin (uses_of ms)) (sym whole.1) (within r.watch (uses_of h.entries) h.watch)
+  is-within = subst (λ (ms : List Entry). IsWithin (uses_of ms)) (sym said.whole.entries) (within r.watch (uses_of (entries_in h.marks)) h.watch)
 
-  names : context_names contexts ≡ names_of t.contexts
-  names = names-same contexts t.contexts contexts-are
+  seen : IsWatch r.watch (uses_of (text_entries t))
+  seen = subst (λ (ms : List Entry). IsWatch r.watch (uses_of ms)) (sym said.whole.entries) h.watch
 
-  pub few-contexts : length contexts ≤ 64
-  few-contexts =
-      let many : length contexts ≡ length t.contexts = sym (length-map contexts context_of) ∙ ap (λ (cs : List plain.Context). length cs) contexts-are ∙ length-map t.contexts context_in in
-      omega (arith, context-count t, is-within.contexts)
+  abbrev cs : List plain.Context
+  cs = map context_in t.contexts
 
-  pub all-known : HaveKnownContexts (context_names contexts) t.bridges
-  all-known =
-      let there : contexts_named (uses_of h.entries) ≡ context_names contexts = ap (λ (ms : List Entry). contexts_named (uses_of ms)) (sym whole.1) ∙ names-there t ∙ sym names in
-      let bridges : h.state.bridges ≡ t.bridges = bridges-whole h.state.contexts h.state.bridges h.state.place t ends in
-      subst (HaveKnownContexts (context_names contexts)) bridges (known-bridges (uses_of h.entries) (context_names contexts) there h.state.bridges h.known.bridges)
+  few : length cs ≤ 64
+  few = let many : length cs ≡ length t.contexts = length-map t.contexts context_in in omega (arith, context-count t, is-within.contexts)
 
-  pub says-system : (bs : List code_bridge.Bridge) → Each (SaysBridge (context_names contexts)) t.bridges (map bridge_of bs) → SaysSystem t (system_of contexts bs)
-  says-system bs each = record { contexts = contexts-are; bridges = subst (λ (ns : List Name). Each (SaysBridge ns) t.bridges (map bridge_of bs)) names each }
+  -- a context that was named is one of the text's
+  is-known : (c : Name) → IsAmong (NamesContext c) (uses_of (text_entries t)) → IsAmong c (names_in cs)
+  is-known c there = subst (IsAmong c) (names-there t ∙ sym (written-names t.contexts)) (among-named (uses_of (text_entries t)) c there)
 
-  pub is-valid : (m : plain.System) → SaysSystem t m → IsValid m
-  is-valid m says =
-      let none : NoFaults (text_entries t) = subst NoFaults (sym whole.1) h.faultless in
-      valid-text t m whole.0 says is-within none
+  known-target : (b : WrittenBridge) → IsAmong b t.bridges → IsAmong b.head.context (names_in cs)
+  known-target b there = is-known b.head.context (seen.targets b.head.context ((targets-there t b.head.context).1 (b, there, refl)))
 
-  pub spells-system : (m : plain.System) → SaysSystem t m → Spells bytes m
-  spells-system m says = record {
-    spans = spans;
-    tokens = tokens;
-    text = t;
-    grammar = whole.0;
-    written = sym whole.2;
-    says = says;
-    no_fault = free-whole (token_texts bytes spans) (length spans) (tokens-many bytes spans) (t, whole.0, whole.2) h.free;
-  }
+  known-read : (b : WrittenBridge) → IsAmong b t.bridges → (q : WrittenRead) → IsAmong q b.reads → IsAmong q.place.context (names_in cs)
+  known-read b there q here =
+      let ended : IsAmong (EndsRead b.head.context (read_in q.place).context (read_in q.place).belief) (uses_of (text_entries t)) = (reads-there t b.head.context (read_in q.place)).1 (record { bridge = b; is_there = there; into = refl; read = q; is_read = here; says = refl }) in
+      is-known q.place.context (seen.spoken (EndsRead b.head.context (read_in q.place).context (read_in q.place).belief) ended).1
+
+  bridge-is-said : (b : WrittenBridge) → IsAmong b t.bridges → SaysBridge (names_in cs) b (bridge_said cs b)
+  bridge-is-said b there =
+      let places = places-of (λ (p : WrittenPlace). IsAmong p.context (names_in cs)) b.reads (all_from_among (λ (q : WrittenRead). IsAmong q.place.context (names_in cs)) b.reads (known-read b there)) in
+      bridge-says cs b few (known-target b there) places.0 places.1
+
+  module _ (contexts : List code_context.Context) (bridges : List code_bridge.Bridge) (contexts-are : map context_of contexts ≡ (accounted no_account h.marks).contexts) (bridges-are : map bridge_of bridges ≡ (accounted no_account h.marks).bridges) where
+    says : SaysSystem t (system_of contexts bridges)
+    says = record {
+      contexts = contexts-are ∙ said.contexts;
+      bridges = subst (Each (SaysBridge (names_of t.contexts)) t.bridges) (sym (bridges-are ∙ said.bridges)) (subst (λ (ns : List Name). Each (SaysBridge ns) t.bridges (map (bridge_said cs) t.bridges)) (written-names t.contexts) (each-says cs t.bridges (all_from_among (λ (b : WrittenBridge). SaysBridge (names_in cs) b (bridge_said cs b)) t.bridges bridge-is-said)));
+    }
+
+    pub is-valid : IsValid (system_of contexts bridges)
+    is-valid =
+        let none : NoFaults (text_entries t) = subst NoFaults (sym said.whole.entries) h.faultless in
+        valid-text t (system_of contexts bridges) said.whole.grammar says is-within none
+
+    pub spells-system : Spells bytes (system_of contexts bridges)
+    spells-system = record {
+      spans = spans;
+      tokens = tokens;
+      text = t;
+      grammar = said.whole.grammar;
+      written = sym said.whole.tokens_are;
+      says = says;
+      no_fault = free-whole ts (length spans) (tokens-many bytes spans) (t, said.whole.grammar, said.whole.tokens_are) h.free;
+    }

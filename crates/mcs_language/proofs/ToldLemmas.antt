@@ -1,5 +1,5 @@
 -- Which fault is told of a text, and at which offset.
-use Rattle.std.proofs.Common.{◌≡◌, ℕ, ◌<◌, List, length, Some, None, refl, sym, ap, subst, ◌∙◌, arith, get_or, slice_get}
+use Rattle.std.proofs.Common.{◌≡◌, ℕ, ◌<◌, List, [], length, Some, None, refl, sym, ap, subst, ◌∙◌, arith, get_or, slice_get}
 use Rattle.std.specs.Prelude.{slice_range}
 use Rattle.std.proofs.lemmas.List.{length-map}
 use Rattle.std.proofs.lemmas.Option.{slice_get-get_or, slice_get_past}
@@ -13,10 +13,13 @@ use Rattle.mcs_language.specs.declared.reading.Reading.{Reading}
 use Rattle.mcs_grammar.specs.Entries.{Token}
 use Rattle.mcs_grammar.specs.Faults.{NoGrammar, IsFirstTextFault, fault_number, limit_of}
 use Rattle.mcs_grammar.specs.Texts.{token_texts, offset_of, HasFault}
-use Rattle.mcs_reader.specs.TextSteps.{finished_text}
+use Rattle.mcs_syntax.specs.Reads.{IsRead}
+use Rattle.mcs_syntax.specs.Parts.{rest}
+use Rattle.mcs_productions.specs.Productions.{grammar}
+use Rattle.mcs_account.specs.Reading.{Events}
 use Rattle.mcs_faults.specs.Watching.{fault_for}
 use Rattle.mcs_language.specs.Progress.{AreReadUpTo, IsToldOf}
-use Rattle.mcs_reader.proofs.FaultTheory.{first-end}
+use Rattle.mcs_account.proofs.FaultTheory.{first-end}
 use Rattle.mcs_language.proofs.ProgressLemmas.{reached}
 
 -- ---- where a token stands
@@ -41,10 +44,10 @@ told-at bytes spans k d f told tokens less first is =
     subst (IsToldOf bytes) (sym is) here
 
 -- at the end, where something has to come
-pub told-end : (bytes : List ℕ) (spans : List Span) (r : Reading) (told : code_text.TextFault) (size : ℕ) → AreTokens bytes 0 spans → (h : AreReadUpTo r (token_texts bytes spans) (length spans)) → finished_text h.state ≡ None
+pub told-end : (bytes : List ℕ) (spans : List Span) (r : Reading) (told : code_text.TextFault) (size : ℕ) → AreTokens bytes 0 spans → (h : AreReadUpTo r (token_texts bytes spans) (length spans)) → ((xs : Events) → IsRead grammar (rest r.reader.reader) [] xs → ⊥)
     → size ≡ length bytes → told ≡ texts.Fault (fault_number NoGrammar) size (limit_of NoGrammar) → IsToldOf bytes told
 told-end bytes spans r told size tokens h none whole is =
     let offset : size ≡ offset_of bytes spans (length spans) = whole ∙ offset-past bytes spans (length spans) (slice_get_past spans (length spans) (omega arith)) in
-    let first = first-end (token_texts bytes spans) (length spans) h.entries h.state (reached r (token_texts bytes spans) (length spans) h) (tokens-many bytes spans) none h.free in
+    let first = first-end (token_texts bytes spans) (length spans) h.marks (rest r.reader.reader) (reached r (token_texts bytes spans) (length spans) h) (tokens-many bytes spans) none h.free in
     let here : HasFault bytes (fault_number NoGrammar) (limit_of NoGrammar) size = record { spans = spans; tokens = tokens; token = length spans; fault = NoGrammar; first = first; number_is = refl; limit_is = refl; offset_is = offset } in
     subst (IsToldOf bytes) (sym is) here

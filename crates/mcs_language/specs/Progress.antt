@@ -2,6 +2,9 @@
 use Rattle.std.specs.Prelude.{◌≡◌, ℕ, ◌+◌, ◌<◌, ◌≤◌, List, take, length, Option, Some, None, slice_get}
 use Rattle.mcs_tokens.specs.Tokens.{AreTokens}
 use Rattle.mcs_tokens.specs.declared.scan.Span.{Span}
+use Rattle.mcs_productions.specs.declared.class.Class.{Class}
+use Rattle.mcs_productions.specs.declared.class.Class.TheVariants as class
+use Rattle.mcs_system.specs.Plain.{Name}
 use Rattle.mcs_faults.specs.declared.fault.Fault as code_fault
 use Rattle.mcs_faults.specs.declared.fault.TextFault as code_text
 use Rattle.mcs_faults.specs.declared.fault.TextFault.TheVariants as texts
@@ -9,22 +12,26 @@ use Rattle.mcs_language.specs.declared.reading.Reading.{Reading}
 use Rattle.mcs_grammar.specs.Entries.{Token, Entry, uses_of}
 use Rattle.mcs_grammar.specs.Faults.{TextFault, Has, IsFaultAt, IsFirstTextFault}
 use Rattle.mcs_grammar.specs.Texts.{token_texts, HasFault}
-use Rattle.mcs_reader.specs.TextSteps.{PartText, nothing_written, text_steps}
-use Rattle.mcs_reader.specs.TextImages.{IsTextReader}
-use Rattle.mcs_faults.specs.Watching.{IsWatch, fault_for}
-use Rattle.mcs_reader.specs.Known.{AreKnownIn}
+use Rattle.mcs_account.specs.Marks.{Marked}
+use Rattle.mcs_account.specs.Account.{entries_in}
+use Rattle.mcs_account.specs.Known.{IsUpTo}
+use Rattle.mcs_faults.specs.Watching.{IsWatch, IsNumberOf, fault_for}
 
 -- the first k tokens were read
 pub record AreReadUpTo (reading : Reading) (ts : List Token) (k : ℕ) : Type 0 where
-  pub entries : List Entry
-  pub state : PartText
-  pub taken : text_steps nothing_written (take k ts) ≡ Some (entries, state)
+  pub marks : Marked
   pub inside : k ≤ length ts
-  pub reader : IsTextReader reading.reader state
-  pub watch : IsWatch reading.watch (uses_of entries)
-  pub known : AreKnownIn (uses_of entries) state
-  pub faultless : (j : ℕ) (m : Entry) (f : TextFault) → slice_get entries j ≡ Some m → ¬ Has f (uses_of (take j entries)) m
+  pub reader : IsUpTo reading.reader (take k ts) marks
+  pub watch : IsWatch reading.watch (uses_of (entries_in marks))
+  pub faultless : (j : ℕ) (m : Entry) (f : TextFault) → slice_get (entries_in marks) j ≡ Some m → ¬ Has f (uses_of (take j (entries_in marks))) m
   pub free : (j : ℕ) (f : TextFault) → j < k → ¬ IsFaultAt ts j f
+
+-- the number of the token's name, where it is the name of a context
+abbrev pub IsNumberFor : List Name → Class → Token → ℕ → Type 0
+IsNumberFor names class.NamesContext t number = IsNumberOf names t number
+IsNumberFor names class.NamesTarget t number = IsNumberOf names t number
+IsNumberFor names class.NamesSource t number = IsNumberOf names t number
+IsNumberFor names c t number = Unit {0}
 
 -- the next token was read too, or it has the first fault
 abbrev pub IsNextRead : Option code_fault.Fault → Reading → List Token → ℕ → Type 0

@@ -2,7 +2,6 @@
 #![tactic(auto)]
 
 mod laws;
-mod numbers;
 mod reading;
 mod writing;
 

@@ -6,14 +6,15 @@ ghost use Rattle.mcs_system.specs.Seen.{system_of};
 ghost use Rattle.mcs_tokens.specs.Tokens.{AreTokens};
 ghost use Rattle.mcs_tokens.specs.declared.scan.Span as declared;
 ghost use Rattle.mcs_grammar.specs.Entries.{Token};
-ghost use Rattle.mcs_language.specs.Progress.{IsNextRead, AreTokensRead, IsToldOf, AreReadUpTo};
+ghost use Rattle.mcs_faults.specs.Watching.{names_seen};
+ghost use Rattle.mcs_language.specs.Progress.{AreReadUpTo, AreTokensRead, IsNextRead, IsNumberFor, IsToldOf};
 ghost use Rattle.mcs_grammar.specs.Texts.{Spells};
 ghost use Rattle.mcs_faults.specs.declared.fault.TextFault.TheVariants as texts;
 
-use crate::numbers::numbered;
+use mcs_account::{Taken, TextReader};
 use mcs_base::Memory;
-use mcs_faults::{Fault, TextFault, Watch};
-use mcs_reader::{Parts, Reader};
+use mcs_faults::{Fault, Subject, TextFault, Watch};
+use mcs_productions::Class;
 use mcs_system::{Bridge, BuildFault, Context, System};
 use mcs_tokens::{Span, next_token};
 use std::alloc::Global;
@@ -21,7 +22,7 @@ use std::alloc::Global;
 /// The state of reading a text: the parser and the symbol table.
 #[derive(Drop)]
 pub(crate) struct Reading {
-    pub(crate) reader: Reader,
+    pub(crate) reader: TextReader,
     pub(crate) watch: Watch,
 }
 
@@ -43,12 +44,25 @@ fn pass_tokens(bytes: &[u8], start: usize)
 
 impl Reading {
     /// The state before the first token.
-    fn new(alloc: Global) -> Reading
-        ensures { (ts : List Token) → AreReadUpTo result ts 0 }
+    fn new(alloc: Global) -> Result<Reading, Memory>
+        ensures { IfOk result (λ r. (ts : List Token) → AreReadUpTo r ts 0) }
     {
-        Reading {
-            reader: Reader::new(alloc),
+        let reader = TextReader::new(alloc)?;
+        Ok(Reading {
+            reader,
             watch: Watch::new(alloc),
+        })
+    }
+
+    /// The number of the context with the token as its name, if the token is the name of a context.
+    fn number_of(&self, taken: &Taken, token: &[u8]) -> usize
+        ensures { IsNumberFor (names_seen self.now.watch) taken.now.class token.now result }
+    {
+        match taken.class {
+            Class::NamesContext | Class::NamesTarget | Class::NamesSource => {
+                self.watch.number_of(token)
+            }
+            _ => 0,
         }
     }
 
@@ -57,12 +71,19 @@ impl Reading {
         ensures { (ts : List Token) (k : ℕ) → AreReadUpTo self.old ts k
             → slice_get ts k ≡ Some token.now → IfOk result (λ f. IsNextRead f self.new ts k) }
     {
-        let subject = self.watch.subject(&self.reader.place);
-        let Some(uses) = self.reader.take(alloc, token)? else {
+        let Some(taken) = self.reader.take(alloc, token)? else {
             return Ok(Some(Fault::NoGrammar));
         };
-        self.watch
-            .note(alloc, subject, uses, token, self.reader.last_read())
+        let subject = Subject::at(&self.reader.place);
+        let number = self.number_of(&taken, token);
+        if let Some(fault) = self
+            .watch
+            .note(alloc, subject, taken.uses, token, self.reader.last_read())?
+        {
+            return Ok(Some(fault));
+        }
+        self.reader.pass(&taken, number)?;
+        Ok(None)
     }
 
     /// Takes all tokens of the text, one after the other, up to the first one that has a fault.
@@ -93,11 +114,13 @@ impl Reading {
         ensures system { IfOk result (Spells bytes.now) }
         ensures fault { IfErr result (IsToldOf bytes.now) }
     {
-        let Some(parts) = self.reader.finish() else {
+        let Reading { reader, watch } = self;
+        drop(watch);
+        if !reader.can_end() {
+            drop(reader);
             return Err(Fault::NoGrammar.at(bytes.len()));
-        };
-        let Parts { contexts, bridges } = parts;
-        let bridges = numbered(alloc, &contexts, bridges)?;
+        }
+        let (contexts, bridges) = reader.into_parts();
         built(alloc, contexts, bridges)
     }
 }
@@ -123,7 +146,7 @@ pub fn read_system(alloc: Global, bytes: &[u8]) -> Result<System, TextFault>
     ensures system { IfOk result (Spells bytes.now) }
     ensures fault { IfErr result (IsToldOf bytes.now) }
 {
-    let mut reading = Reading::new(alloc);
+    let mut reading = Reading::new(alloc)?;
     match reading.read(alloc, bytes) {
         Ok(()) => reading.system(alloc, bytes),
         Err(fault) => {

@@ -6,7 +6,7 @@ use Rattle.mcs_text.specs.Writes.{Writes, WritesFront}
 use Rattle.mcs_text.specs.declared.unwritten.Unwritten.{Unwritten}
 use Rattle.mcs_text.specs.declared.unwritten.Unwritten.TheVariants as unwritten
 use Rattle.mcs_system.specs.Plain.{System}
-use Rattle.mcs_reader.proofs.Unambiguous.{texts-unambiguous}
+use Rattle.mcs_faults.proofs.Unambiguous.{texts-unambiguous}
 use Rattle.mcs_words.specs.Commands.{Word, check}
 use Rattle.mcs_check.specs.Validity.{IsValidReport}
 use Rattle.mcs_check.specs.Findings.{IsReportFinding, RulesOut, finding_line}

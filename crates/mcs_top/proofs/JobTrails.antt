@@ -3,7 +3,7 @@ use Rattle.std.proofs.Common.{◌≡◌, ℕ, ◌<◌, List, [], ◌∷◌, Opti
 use Rattle.std.specs.Result.{IsErrAnd}
 use Rattle.mcs_ports.specs.Pieces.{Device, noted}
 use Rattle.mcs_system.specs.Plain.{System}
-use Rattle.mcs_reader.proofs.Unambiguous.{texts-unambiguous}
+use Rattle.mcs_faults.proofs.Unambiguous.{texts-unambiguous}
 use Rattle.mcs_generator.specs.Generated.{generated_system}
 use Rattle.mcs_work.specs.declared.task.Task.{Task}
 use Rattle.mcs_work.specs.declared.task.Task.TheVariants.{Make}

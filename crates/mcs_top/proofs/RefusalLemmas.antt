@@ -4,7 +4,7 @@ use Rattle.std.proofs.lemmas.List.{append-nil}
 use Rattle.mcs_ports.specs.Pieces.{appended}
 use Rattle.mcs_text.specs.Writes.{WritesFront}
 use Rattle.mcs_system.specs.Plain.{System}
-use Rattle.mcs_reader.proofs.Unambiguous.{texts-unambiguous}
+use Rattle.mcs_faults.proofs.Unambiguous.{texts-unambiguous}
 use Rattle.mcs_grammar.proofs.OneFault.{no-fault}
 use Rattle.mcs_report.specs.Solutions.{first, below}
 use Rattle.mcs_generator.specs.Generated.{generated_system}

@@ -5,13 +5,13 @@ use Rattle.mcs_faults.proofs.LimitLemmas.{no-atom-is}
 use Rattle.mcs_faults.proofs.watch.Watch.begins_no_atom.Goals as goal
 
 pub returns-then-is_name_word : goal.returns-then-is_name_word
-returns-then-is_name_word c = λ before m a asked. false_tells (λ h. ((no-atom-is c.args.self.now before m a c.args.said.now asked).0 h).2 (sym c.is_name_word.ensures ∙ c.if-is_name_word.true))
+returns-then-is_name_word c = λ before m a asked. false_tells (λ h. ((no-atom-is c.args.self.now before m a c.args.said.now asked).0 h).2 (c.is_name_word.ensures.0 c.if-is_name_word.true))
 
 pub returns-then-said : goal.returns-then-said
 returns-then-said c = λ before m a asked.
     let program = c.is_program.ensures before a.subject.context asked.watch asked.subject_is.context in
     Decides-like _ (no-atom-is c.args.self.now before m a c.args.said.now asked).1 (no-atom-is c.args.self.now before m a c.args.said.now asked).0 (
-      λ h. (c.if-said.true, program.0 h, λ word. true≢false (sym word ∙ sym c.is_name_word.ensures ∙ c.if-is_name_word.false)),
+      λ h. (c.if-said.true, program.0 h, λ word. true≢false (sym (c.is_name_word.ensures.1 word) ∙ c.if-is_name_word.false)),
       λ h. program.1 h.1,
     )
 

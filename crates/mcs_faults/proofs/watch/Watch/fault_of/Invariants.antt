@@ -2,7 +2,7 @@ use Rattle.std.proofs.Common.{◌<◌, List}
 use Rattle.mcs_system.specs.declared.limit.Limit.{Limit}
 use Rattle.mcs_grammar.specs.Entries.{Use, Entry}
 use Rattle.mcs_grammar.specs.Faults.{row, ExceedsLimit}
-use Rattle.mcs_reader.specs.TextImages.{About}
+use Rattle.mcs_account.specs.Images.{About}
 use Rattle.mcs_faults.specs.Watching.{IsEntryAsked}
 use Rattle.mcs_faults.proofs.watch.Watch.fault_of.Given as goal
 

@@ -1,5 +1,5 @@
 use Rattle.std.proofs.Common.{refl, arith}
-use Rattle.mcs_reader.specs.TextImages.{named_read_of}
+use Rattle.mcs_account.specs.Images.{named_read_of}
 use Rattle.mcs_faults.proofs.ReadLemmas.{held-now, held-already}
 use Rattle.mcs_faults.proofs.watch.Watch.hold.Goals as goal
 

@@ -1,7 +1,7 @@
 use Rattle.std.proofs.Common.{◌≡◌, inl, inr, sym, ◌∙◌}
 use Rattle.std.proofs.lemmas.Bool.Decides.{Decides-like}
 use Rattle.mcs_base.proofs.Booleans.{false_tells}
-use Rattle.mcs_reader.specs.declared.place.Role.TheVariants as roles
+use Rattle.mcs_account.specs.declared.place.Role.TheVariants as roles
 use Rattle.mcs_faults.proofs.LimitLemmas.{twin-is}
 use Rattle.mcs_faults.proofs.WatchFacts.{named-there, bridge-there}
 use Rattle.mcs_faults.proofs.watch.Watch.names_a_twin.Goals as goal

@@ -3,7 +3,8 @@ use Rattle.std.proofs.lemmas.List.{append-nil}
 use Rattle.std.specs.Option.{option_copied}
 use Rattle.mcs_grammar.specs.Entries.{Use, EndsRead}
 use Rattle.mcs_grammar.specs.Faults.{NamedRead}
-use Rattle.mcs_faults.specs.Watching.{IsSpokenOf, IsUseAllowed, IsWatch}
+use Rattle.mcs_faults.specs.Watching.{IsUseAllowed, IsWatch}
+use Rattle.mcs_account.specs.Images.{IsSpokenOf}
 use Rattle.mcs_faults.proofs.LimitLemmas.{spoken-of, in-use}
 use Rattle.mcs_faults.proofs.FreeLemmas.{allowed-use, no-read}
 use Rattle.mcs_faults.proofs.RecordLemmas.{when-yes, when-no}

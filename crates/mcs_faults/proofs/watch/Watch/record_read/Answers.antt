@@ -4,7 +4,7 @@ use Rattle.mcs_base.specs.declared.set.Set.{Set}
 use Rattle.mcs_base.proofs.Lists.{slice_get_read_as, slice_get_past_as}
 use Rattle.mcs_faults.specs.declared.watch.Watch.{Watch}
 use Rattle.mcs_faults.specs.declared.watch.ContextSeen.{ContextSeen}
-use Rattle.mcs_reader.specs.TextImages.{named_read_of}
+use Rattle.mcs_account.specs.Images.{named_read_of}
 use Rattle.mcs_faults.proofs.ReadSteps.{number-below, with_inputs, step-ends_read}
 use Rattle.mcs_faults.proofs.WatchFacts.{seen-none}
 use Rattle.mcs_faults.proofs.watch.Watch.record_read.Goals as goal

@@ -1,11 +1,12 @@
 use Rattle.std.proofs.Common.{◌≡◌, ◌++◌, [], ◌∷◌, refl, sym, subst, inl, inr, IfOk}
 use Rattle.std.proofs.lemmas.List.{append-nil, append_assoc}
 use Rattle.std.proofs.lemmas.Result.{IfOk-weaker}
-use Rattle.mcs_reader.specs.declared.place.Role.{Role}
-use Rattle.mcs_reader.specs.declared.place.Role.TheVariants as roles
+use Rattle.mcs_account.specs.declared.place.Role.{Role}
+use Rattle.mcs_account.specs.declared.place.Role.TheVariants as roles
 use Rattle.mcs_grammar.specs.Entries.{BeginsContext, BeginsBridge, NamesContext, NamesBridge, SaysProgram, BeginsDefault, NamesTarget, AtomOf, IsNumber}
-use Rattle.mcs_reader.specs.TextImages.{role_uses}
-use Rattle.mcs_faults.specs.Watching.{IsNaming, HaveNoFault, IsWatch}
+use Rattle.mcs_account.specs.Images.{role_uses}
+use Rattle.mcs_faults.specs.Watching.{HaveNoFault, IsWatch}
+use Rattle.mcs_account.specs.Images.{IsNaming}
 use Rattle.mcs_faults.proofs.PlainSteps.{more-context, more-bridge, step-begins_context, step-begins_bridge, step-names_source, step-number, step-opens}
 use Rattle.mcs_faults.proofs.watch.Watch.record_role.Goals as goal
 

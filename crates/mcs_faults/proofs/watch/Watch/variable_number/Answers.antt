@@ -2,7 +2,7 @@ use Rattle.std.proofs.Common.{ap, length, map, arith}
 use Rattle.std.proofs.lemmas.Bool.Decides.{not_from_Decides}
 use Rattle.mcs_base.proofs.Among.{no_image_more}
 use Rattle.mcs_grammar.specs.Faults.{NamedRead}
-use Rattle.mcs_reader.specs.TextImages.{named_read_of}
+use Rattle.mcs_account.specs.Images.{named_read_of}
 use Rattle.mcs_faults.specs.Watching.{IsNumberOf}
 use Rattle.mcs_faults.proofs.NumberLemmas.{number-here, number-none}
 use Rattle.mcs_faults.proofs.ReadLemmas.{read-copied}

@@ -1,7 +1,6 @@
-use Rattle.std.proofs.Common.{◌≡◌, Option, Some, ℕ, List, slice_get, subst, arith}
+use Rattle.std.proofs.Common.{Option, subst, arith}
 use Rattle.mcs_faults.specs.declared.fault.Fault as code_fault
-use Rattle.mcs_grammar.specs.Entries.{Token}
-use Rattle.mcs_language.specs.Progress.{IsNextRead, AreReadUpTo}
+use Rattle.mcs_language.specs.Progress.{IsNextRead}
 use Rattle.mcs_language.proofs.SpanLemmas.{inside, none_before, all_read, one_more, told_there}
 use Rattle.mcs_language.proofs.reading.Reading.read.Goals as goal
 

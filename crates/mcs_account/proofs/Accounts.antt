@@ -1,0 +1,143 @@
+-- What is written is accounted for: after it stands what it says.
+use Rattle.std.proofs.Common.{◌≡◌, ℕ, ◌<◌, ◌≤◌, Bool, true, false, codes, List, [], ◌∷◌, ◌++◌, map, length, Some, refl, sym, ap, ◌∙◌, inl, inr, ◌⊎◌, arith, append_assoc, append-nil}
+use Rattle.std.proofs.lemmas.List.{length-map}
+use Rattle.std.specs.List.{flat_map, position, position_or_len, AllByRecursion}
+use Rattle.std.proofs.lemmas.Bool.Decides.{nat_tests}
+use Rattle.std.proofs.lemmas.Slice.Eq.{bytes_eq-Decides}
+use Rattle.mcs_base.specs.Listings.{IsAmong}
+use Rattle.mcs_system.specs.Plain.{Name}
+use Rattle.mcs_system.specs.Plain as plain
+use Rattle.mcs_system.specs.Logic.{same_name}
+use Rattle.mcs_grammar.specs.Written.{Written, True', False', Named, Denied, Grouped, Both, Either, Leads, Equals, WrittenPlace, WrittenRead, WrittenBridge}
+use Rattle.mcs_grammar.specs.Entries.{Token, formula_in}
+use Rattle.mcs_grammar.specs.Saying.{SaysPlace, SaysBridge, Each, positive_places, negative_places}
+use Rattle.mcs_productions.specs.declared.class.Class.{Class}
+use Rattle.mcs_productions.specs.declared.class.Class.TheVariants as class
+use Rattle.mcs_productions.specs.declared.production.Action.{Action}
+use Rattle.mcs_productions.specs.declared.production.Action.TheVariants as action
+use Rattle.mcs_account.specs.Mark.{Seen, Said}
+use Rattle.mcs_account.specs.Marks.{Marked, formula_marks, two_marks, belief_marks, denial_marks, read_marks, further_marks, reads_marks, bridge_marks}
+use Rattle.mcs_account.specs.Account.{Account, number_of, the_read, pushed, took, told, account_step, accounted, in_last, named_rule, with_target, with_read}
+
+pub accounted-append : (a : Account) (ms ns : Marked) → accounted a (ms ++ ns) ≡ accounted (accounted a ms) ns
+accounted-append a [] ns = refl
+accounted-append a (m ∷ ms) ns = accounted-append (account_step a m) ms ns
+
+-- ---- formulas
+abbrev Accounts : Written → Type 0
+Accounts f = (a : Account) → accounted a (formula_marks f) ≡ pushed a (formula_in f)
+
+two-account : (c : Class) (sign : Token) (b : Action) (f g : Written) (join : plain.Formula → plain.Formula → plain.Formula) → ((a : Account) → took a c sign ≡ a) → ((a : Account) (x y : plain.Formula) → told (pushed (pushed a x) y) b ≡ pushed a (join x y))
+    → Accounts f → Accounts g → (a : Account) → accounted a (two_marks c sign b (formula_marks f) (formula_marks g)) ≡ pushed a (join (formula_in f) (formula_in g))
+two-account c sign b f g join takes tells hf hg a = simp (accounted-append, hf, takes, hg, tells a (formula_in f) (formula_in g))
+
+pub formula-accounts : (f : Written) → Accounts f
+formula-accounts True' a = refl
+formula-accounts False' a = refl
+formula-accounts (Named n) a = refl
+formula-accounts (Denied f) a = accounted-append a (formula_marks f) (Said action.ToNot ∷ []) ∙ ap (λ (r : Account). accounted r (Said action.ToNot ∷ [])) (formula-accounts f a)
+formula-accounts (Grouped f) a = accounted-append a (formula_marks f) (Seen class.ClosesParenthesis (codes ")") ∷ []) ∙ ap (λ (r : Account). accounted r (Seen class.ClosesParenthesis (codes ")") ∷ [])) (formula-accounts f a)
+formula-accounts (Both f g) a = two-account class.Conjoins (codes "&") action.ToAnd f g plain.And (λ r. refl) (λ r x y. refl) (formula-accounts f) (formula-accounts g) a
+formula-accounts (Either f g) a = two-account class.Disjoins (codes "|") action.ToOr f g plain.Or (λ r. refl) (λ r x y. refl) (formula-accounts f) (formula-accounts g) a
+formula-accounts (Leads f g) a = two-account class.Implies (codes "->") action.ToImplies f g plain.Implies (λ r. refl) (λ r x y. refl) (formula-accounts f) (formula-accounts g) a
+formula-accounts (Equals f g) a = two-account class.Equates (codes "<->") action.ToIff f g plain.Iff (λ r. refl) (λ r x y. refl) (formula-accounts f) (formula-accounts g) a
+
+-- ---- bridge rules, by the numbers of their contexts
+abbrev pub read_said : List plain.Context → WrittenPlace → plain.Read
+read_said cs p = the_read (number_of cs p.context) (formula_in p.belief)
+
+abbrev pub bridge_said : List plain.Context → WrittenBridge → plain.Bridge
+bridge_said cs b = plain.plain_rule b.name (number_of cs b.head.context) (formula_in b.head.belief) (map (read_said cs) (positive_places b.reads)) (map (read_said cs) (negative_places b.reads))
+
+pub last-changed : {A : Type 0} (f : A → A) (xs : List A) (x : A) → in_last f (xs ++ x ∷ []) ≡ xs ++ f x ∷ []
+last-changed f [] x = refl
+last-changed f (y ∷ []) x = refl
+last-changed f (y ∷ z ∷ xs) x = ap (λ l. y ∷ l) (last-changed f (z ∷ xs) x)
+
+-- the last rule so far is this one, which may still grow
+abbrev pub growing : Account → ℕ → plain.Bridge → Account
+growing a source x = record a { bridges = a.bridges ++ x ∷ []; denied = false; source = source }
+
+-- one read more
+abbrev read_more : Account → WrittenRead → plain.Bridge → plain.Bridge
+read_more a r x = with_read r.denied (read_said a.contexts r.place) x
+
+read-accounts : (a : Account) (k : ℕ) (x : plain.Bridge) (r : WrittenRead) → accounted (growing a k x) (read_marks r) ≡ growing a (number_of a.contexts r.place.context) (read_more a r x)
+read-accounts a k x r = at r.denied
+  where
+    at : (b : Bool) → accounted (growing a k x) (denial_marks b ++ Seen class.NamesSource r.place.context ∷ (belief_marks r.place.belief ++ Said action.EndsRead ∷ []))
+        ≡ growing a (number_of a.contexts r.place.context) (with_read b (read_said a.contexts r.place) x)
+    at true = simp (accounted-append, formula-accounts, last-changed)
+    at false = simp (accounted-append, formula-accounts, last-changed)
+
+-- all of them
+abbrev reads_more : Account → List WrittenRead → plain.Bridge → plain.Bridge
+reads_more a rs x = record x { pos = x.pos ++ map (read_said a.contexts) (positive_places rs); neg = x.neg ++ map (read_said a.contexts) (negative_places rs) }
+
+one-before : (a : Account) (r : WrittenRead) (rs : List WrittenRead) (x : plain.Bridge) → reads_more a rs (read_more a r x) ≡ reads_more a (r ∷ rs) x
+one-before a r rs x = at r.denied refl
+  where
+    at : (b : Bool) → r.denied ≡ b → reads_more a rs (read_more a r x) ≡ reads_more a (r ∷ rs) x
+    at true is = rw is (ap (λ l. record x { pos = x.pos ++ map (read_said a.contexts) (positive_places rs); neg = l }) (append_assoc x.neg (read_said a.contexts r.place ∷ []) (map (read_said a.contexts) (negative_places rs))))
+    at false is = rw is (ap (λ l. record x { pos = l; neg = x.neg ++ map (read_said a.contexts) (negative_places rs) }) (append_assoc x.pos (read_said a.contexts r.place ∷ []) (map (read_said a.contexts) (positive_places rs))))
+
+none-before : (a : Account) (x : plain.Bridge) → x ≡ reads_more a [] x
+none-before a x = ap (λ l. record x { pos = l }) (sym (append-nil x.pos)) ∙ ap (λ l. record x { pos = x.pos ++ []; neg = l }) (sym (append-nil x.neg))
+
+further-account : (a : Account) (k : ℕ) (x : plain.Bridge) (rs : List WrittenRead) → (source : ℕ) × (accounted (growing a k x) (flat_map further_marks rs) ≡ growing a source (reads_more a rs x))
+further-account a k x [] = (k, ap (growing a k) (none-before a x))
+further-account a k x (r ∷ rs) =
+    let q = further-account a (number_of a.contexts r.place.context) (read_more a r x) rs in
+    (q.0, accounted-append (growing a k x) (read_marks r) (flat_map further_marks rs) ∙ ap (λ (b : Account). accounted b (flat_map further_marks rs)) (read-accounts a k x r) ∙ q.1 ∙ ap (growing a q.0) (one-before a r rs x))
+
+reads-account : (a : Account) (k : ℕ) (x : plain.Bridge) (rs : List WrittenRead) → (source : ℕ) × (accounted (growing a k x) (reads_marks rs) ≡ growing a source (reads_more a rs x))
+reads-account a k x [] = further-account a k x []
+reads-account a k x (r ∷ rs) = further-account a k x (r ∷ rs)
+
+-- between the parts of a text no formula waits
+abbrev pub idle : Account → ℕ → Account
+idle a source = record a { operands = []; denied = false; source = source }
+
+pub bridge-accounts : (a : Account) (k : ℕ) (b : WrittenBridge) → (source : ℕ) × (accounted (idle a k) (bridge_marks b) ≡ record (idle a source) { bridges = a.bridges ++ bridge_said a.contexts b ∷ [] })
+bridge-accounts a k b =
+    let x : plain.Bridge = with_target (number_of a.contexts b.head.context) (named_rule b.name) in
+    let q = reads-account (record a { operands = formula_in b.head.belief ∷ [] }) k x b.reads in
+    (q.0, simp (last-changed, accounted-append, formula-accounts, q.1))
+
+-- ---- which is what the rule says, where its contexts are known
+found : (n : Name) (names : List Name) → IsAmong n names → position_or_len (same_name n) names < length names
+found n [] h = absurd h
+found n (m ∷ names) h = go (same_name n m) refl h (found n names)
+  where
+    go : (b : Bool) → same_name n m ≡ b → (n ≡ m) ⊎ IsAmong n names → (IsAmong n names → position_or_len (same_name n) names < length names) → position_or_len (same_name n) (m ∷ names) < length (m ∷ names)
+    go true is h more = rw is (omega arith)
+    go false is (inl e) more = let yes' : same_name n m ≡ true = (bytes_eq-Decides n m).1 e in absurd (cc)
+    go false is (inr h) more = let k = more h in rw is (omega arith)
+
+is-at : (n : Name) (names : List Name) → IsAmong n names → position (same_name n) names ≡ Some (position_or_len (same_name n) names)
+is-at n names h = let k = found n names h in grind (arith, nat_tests)
+
+abbrev pub names_in : List plain.Context → List Name
+names_in cs = map (λ (c : plain.Context). c.name) cs
+
+-- the number that the account has
+is-number : (cs : List plain.Context) (n : Name) → length cs ≤ 64 → IsAmong n (names_in cs) → position (same_name n) (names_in cs) ≡ Some (number_of cs n)
+is-number cs n few h =
+    let k = found n (names_in cs) h in
+    let many : length (names_in cs) ≡ length cs = length-map cs (λ (c : plain.Context). c.name) in
+    let same : position_or_len (same_name n) (names_in cs) ≡ number_of cs n = omega arith in
+    is-at n (names_in cs) h ∙ ap (λ (i : ℕ). Some i) same
+
+said-reads : (cs : List plain.Context) (ps : List WrittenPlace) → length cs ≤ 64 → AllByRecursion (λ (p : WrittenPlace). IsAmong p.context (names_in cs)) ps → Each (SaysPlace (names_in cs)) ps (map (read_said cs) ps)
+said-reads cs [] few h = tt
+said-reads cs (p ∷ ps) few h = (record { number = is-number cs p.context few h.0; belief = refl }, said-reads cs ps few h.1)
+
+pub bridge-says : (cs : List plain.Context) (b : WrittenBridge) → length cs ≤ 64 → IsAmong b.head.context (names_in cs) → AllByRecursion (λ (p : WrittenPlace). IsAmong p.context (names_in cs)) (positive_places b.reads)
+    → AllByRecursion (λ (p : WrittenPlace). IsAmong p.context (names_in cs)) (negative_places b.reads) → SaysBridge (names_in cs) b (bridge_said cs b)
+bridge-says cs b few h pos neg = record {
+  named = refl;
+  head = record { number = is-number cs b.head.context few h; belief = refl };
+  pos = said-reads cs (positive_places b.reads) few pos;
+  neg = said-reads cs (negative_places b.reads) few neg;
+  unmarked = refl;
+}

@@ -1,0 +1,187 @@
+-- What is written goes the course of its entries: after it stands what its tokens are there for.
+use Rattle.std.proofs.Common.{◌≡◌, ℕ, ◌+◌, ◌-◌, Bool, true, false, codes, List, [], ◌∷◌, ◌++◌, refl, sym, ap, ◌∙◌, arith, append_assoc, append-nil}
+use Rattle.std.specs.List.{flat_map, AllByRecursion}
+use Rattle.mcs_system.specs.Plain.{Name}
+use Rattle.mcs_system.specs.Plain as plain
+use Rattle.mcs_grammar.specs.Written.{Written, True', False', Named, Denied, Grouped, Both, Either, Leads, Equals, WrittenRead, WrittenBridge}
+use Rattle.mcs_grammar.specs.Entries.{Token, Use, BeginsBridge, NamesBridge, NamesTarget, NamesSource, BeginsBelief, EndsRead, IsNumber, Entry, entry, with_first, with_last, size_of, formula_entries, whole_entries, formula_in, place_entries, optional, read_entries, further_read, reads_entries, bridge_entries}
+use Rattle.mcs_productions.specs.declared.class.Class.{Class}
+use Rattle.mcs_productions.specs.declared.class.Class.TheVariants as class
+use Rattle.mcs_productions.specs.declared.production.Action.{Action}
+use Rattle.mcs_productions.specs.declared.production.Action.TheVariants as action
+use Rattle.mcs_account.specs.Mark.{Seen, Said}
+use Rattle.mcs_account.specs.Marks.{Marked, formula_marks, two_marks, belief_marks, denial_marks, read_marks, further_marks, reads_marks, bridge_marks}
+use Rattle.mcs_account.specs.Reading.{HasSome}
+use Rattle.mcs_account.specs.Account.{Place, next_counted, Course, course_step, course_told, followed}
+use Rattle.mcs_account.proofs.EntryLists.{formula-some}
+
+-- ---- lists
+pub all-of : {W : Type 0} (ws : List W) → AllByRecursion (λ (w : W). Unit {0}) ws
+all-of [] = tt
+all-of (w ∷ ws) = (tt, all-of ws)
+
+pub first-append : (us : List Use) (xs ys : List Entry) → HasSome xs → with_first us (xs ++ ys) ≡ with_first us xs ++ ys
+first-append us [] ys h = absurd h
+first-append us (x ∷ xs) ys h = refl
+
+pub first-none : (xs : List Entry) → with_first [] xs ≡ xs
+first-none [] = refl
+first-none (x ∷ xs) = refl
+
+some-first : (us : List Use) (xs : List Entry) → HasSome xs → HasSome (with_first us xs)
+some-first us [] h = absurd h
+some-first us (x ∷ xs) h = tt
+
+pub last-append : (us : List Use) (xs ys : List Entry) → HasSome ys → with_last us (xs ++ ys) ≡ xs ++ with_last us ys
+last-append us [] ys h = refl
+last-append us (x ∷ xs) [] h = absurd h
+last-append us (x ∷ []) (y ∷ ys) h = refl
+last-append us (x ∷ z ∷ xs) (y ∷ ys) h = ap (λ (l : List Entry). x ∷ l) (last-append us (z ∷ xs) (y ∷ ys) h)
+
+-- ---- one part after another
+pub followed-append : (s : Course) (ms ns : Marked) → followed s (ms ++ ns) ≡ followed (followed s ms) ns
+followed-append s [] ns = refl
+followed-append s (m ∷ ms) ns = followed-append (course_step s m) ms ns
+
+pub zero-add : (n : ℕ) → 0 + n ≡ n
+zero-add n = omega arith
+
+-- ---- formulas
+abbrev pub counting : Place → ℕ → Place
+counting p k = record p { counted = k; begins = [] }
+
+abbrev pub course_at : Place → List plain.Formula → List Entry → Course
+course_at p fs es = record { place = p; operands = fs; entries = es }
+
+abbrev formula_part : Place → Written → List Entry
+formula_part p f = with_first p.begins (formula_entries p.context p.counted p.opened f)
+
+-- after the formula
+abbrev pub after_formula : Course → Written → Course
+after_formula s f = course_at (counting s.place (s.place.counted + size_of f)) (formula_in f ∷ s.operands) (s.entries ++ formula_part s.place f)
+
+abbrev Follows : Written → Type 0
+Follows f = (s : Course) → followed s (formula_marks f) ≡ after_formula s f
+
+same-course : (p : Place) (fs : List plain.Formula) (j k : ℕ) (es fs' : List Entry) → j ≡ k → es ≡ fs' → course_at (counting p j) fs es ≡ course_at (counting p k) fs fs'
+same-course p fs j k es es' e h = ap (λ (n : ℕ). course_at (counting p n) fs es) e ∙ ap (course_at (counting p k) fs) h
+
+-- a sign that counts
+abbrev after_sign : Course → Token → Course
+after_sign s sign = course_at (next_counted s.place) s.operands (s.entries ++ entry sign (s.place.begins ++ IsNumber (s.place.counted + 1) ∷ []) ∷ [])
+
+denied-follows : (f : Written) → Follows f → Follows (Denied f)
+denied-follows f ih s = let e : s.place.counted + 1 + size_of f ≡ s.place.counted + (size_of f + 1) = omega arith in simp (followed-append, ih, first-none, append_assoc, e)
+
+grouped-follows : (f : Written) → Follows f → Follows (Grouped f)
+grouped-follows f ih s = let e : s.place.opened + 1 - 1 ≡ s.place.opened = omega arith in simp (followed-append, ih, first-none, append_assoc, e)
+
+-- two formulas with a sign between them
+two-follow : (c : Class) (sign : Token) (a : Action) (f g : Written) (join : plain.Formula → plain.Formula → plain.Formula) → ((s : Course) → course_step s (Seen c sign) ≡ after_sign s sign)
+    → ((p : Place) (x y : plain.Formula) (fs : List plain.Formula) (es : List Entry) → course_told (course_at p (y ∷ x ∷ fs) es) a ≡ course_at p (join x y ∷ fs) es) → Follows f → Follows g → (s : Course)
+    → followed s (two_marks c sign a (formula_marks f) (formula_marks g))
+    ≡ course_at (counting s.place (s.place.counted + (size_of f + size_of g + 1))) (join (formula_in f) (formula_in g) ∷ s.operands)
+    (s.entries ++ with_first s.place.begins (formula_entries s.place.context s.place.counted s.place.opened f ++ entry sign (IsNumber (s.place.counted + size_of f + 1) ∷ []) ∷ formula_entries s.place.context (s.place.counted + size_of f + 1) s.place.opened g))
+two-follow c sign a f g join steps tells hf hg s =
+    let p : Place = s.place in
+    let n : ℕ = p.counted in
+    let one : Course = after_formula s f in
+    let two : Course = after_sign one sign in
+    let e : Entry = entry sign (IsNumber (n + size_of f + 1) ∷ []) in
+    let es : List Entry = formula_entries p.context n p.opened f in
+    let ds : List Entry = formula_entries p.context (n + size_of f + 1) p.opened g in
+    let back : Marked = formula_marks g ++ Said a ∷ [] in
+    followed-append s (formula_marks f) (Seen c sign ∷ back)
+    ∙ ap (λ (r : Course). followed r (Seen c sign ∷ back)) (hf s)
+    ∙ ap (λ (r : Course). followed r back) (steps one)
+    ∙ followed-append two (formula_marks g) (Said a ∷ [])
+    ∙ ap (λ (r : Course). followed r (Said a ∷ [])) (hg two)
+    ∙ tells (counting p (n + size_of f + 1 + size_of g)) (formula_in f) (formula_in g) s.operands _
+    ∙ same-course p (join (formula_in f) (formula_in g) ∷ s.operands) (n + size_of f + 1 + size_of g) (n + (size_of f + size_of g + 1)) (((s.entries ++ with_first p.begins es) ++ e ∷ []) ++ with_first [] ds) (s.entries ++ with_first p.begins (es ++ e ∷ ds)) (omega arith)
+    (ap (λ (l : List Entry). ((s.entries ++ with_first p.begins es) ++ e ∷ []) ++ l) (first-none ds) ∙ append_assoc (s.entries ++ with_first p.begins es) (e ∷ []) ds ∙ append_assoc s.entries (with_first p.begins es) (e ∷ ds)
+    ∙ ap (λ (l : List Entry). s.entries ++ l) (sym (first-append p.begins es (e ∷ ds) (formula-some p.context n p.opened f))))
+
+pub formula-follows : (f : Written) → Follows f
+formula-follows True' s = refl
+formula-follows False' s = refl
+formula-follows (Named n) s = refl
+formula-follows (Denied f) s = denied-follows f (formula-follows f) s
+formula-follows (Grouped f) s = grouped-follows f (formula-follows f) s
+formula-follows (Both f g) s = two-follow class.Conjoins (codes "&") action.ToAnd f g plain.And (λ r. refl) (λ p x y fs es. refl) (formula-follows f) (formula-follows g) s
+formula-follows (Either f g) s = two-follow class.Disjoins (codes "|") action.ToOr f g plain.Or (λ r. refl) (λ p x y fs es. refl) (formula-follows f) (formula-follows g) s
+formula-follows (Leads f g) s = two-follow class.Implies (codes "->") action.ToImplies f g plain.Implies (λ r. refl) (λ p x y fs es. refl) (formula-follows f) (formula-follows g) s
+formula-follows (Equals f g) s = two-follow class.Equates (codes "<->") action.ToIff f g plain.Iff (λ r. refl) (λ p x y fs es. refl) (formula-follows f) (formula-follows g) s
+
+-- ---- bridge rules
+-- where no parenthesis is open and nothing begins
+abbrev pub free_place : (context target : Name) → ℕ → Place
+free_place c t n = record { context = c; target = t; counted = n; opened = 0; begins = [] }
+
+-- after the name of the context: its colon and the belief
+belief-follows : (c t : Name) (n : ℕ) (fs : List plain.Formula) (es : List Entry) (f : Written) (ms : Marked)
+    → followed (course_at (free_place c t n) fs es) (belief_marks f ++ ms) ≡ followed (course_at (free_place c t (size_of f)) (formula_in f ∷ fs) ((es ++ entry (codes ":") [] ∷ []) ++ with_first (BeginsBelief c ∷ []) (whole_entries c f))) ms
+belief-follows c t n fs es f ms = simp (followed-append, formula-follows, zero-add)
+
+source_entries : Name → Name → Written → List Entry
+source_entries t c f = with_last (EndsRead t c (formula_in f) ∷ []) (place_entries (NamesSource c) (record { context = c; belief = f }))
+
+-- from the name of the context on
+source-follows : (c d t : Name) (n : ℕ) (fs : List plain.Formula) (es : List Entry) (f : Written)
+    → followed (course_at (free_place d t n) fs es) (Seen class.NamesSource c ∷ (belief_marks f ++ Said action.EndsRead ∷ [])) ≡ course_at (free_place c t (size_of f)) fs (es ++ source_entries t c f)
+unfolding source_entries
+source-follows c d t n fs es f =
+    let us : List Use = EndsRead t c (formula_in f) ∷ [] in
+    let ws : List Entry = with_first (BeginsBelief c ∷ []) (whole_entries c f) in
+    let some : HasSome ws = some-first (BeginsBelief c ∷ []) (whole_entries c f) (formula-some c 0 0 f) in
+    let long = last-append us (es ++ entry c (NamesSource c ∷ []) ∷ entry (codes ":") [] ∷ []) ws some in
+    let short = last-append us (entry c (NamesSource c ∷ []) ∷ entry (codes ":") [] ∷ []) ws some in
+    simp (followed-append, formula-follows, zero-add, append_assoc, simp append_assoc at long, short)
+
+read-follows : (d t : Name) (n : ℕ) (fs : List plain.Formula) (es : List Entry) (r : WrittenRead)
+    → followed (course_at (free_place d t n) fs es) (read_marks r) ≡ course_at (free_place r.place.context t (size_of r.place.belief)) fs (es ++ read_entries t r)
+unfolding source_entries
+read-follows d t n fs es r = at r.denied
+  where
+    at : (b : Bool) → followed (course_at (free_place d t n) fs es) (denial_marks b ++ Seen class.NamesSource r.place.context ∷ (belief_marks r.place.belief ++ Said action.EndsRead ∷ []))
+        ≡ course_at (free_place r.place.context t (size_of r.place.belief)) fs (es ++ (optional b (codes "not") ++ with_last (EndsRead t r.place.context (formula_in r.place.belief) ∷ []) (place_entries (NamesSource r.place.context) r.place)))
+    at true = source-follows r.place.context d t n fs (es ++ entry (codes "not") [] ∷ []) r.place.belief ∙ ap (course_at (free_place r.place.context t (size_of r.place.belief)) fs) (append_assoc es (entry (codes "not") [] ∷ []) (source_entries t r.place.context r.place.belief))
+    at false = source-follows r.place.context d t n fs es r.place.belief
+
+-- the place after reads is one within the rule
+pub record FollowsReads (t : Name) (fs : List plain.Formula) (es : List Entry) (s : Course) : Type 0 where
+  pub context : Name
+  pub counted : ℕ
+  pub course : s ≡ course_at (free_place context t counted) fs es
+
+further-follow : (d t : Name) (n : ℕ) (fs : List plain.Formula) (es : List Entry) (rs : List WrittenRead) → FollowsReads t fs (es ++ flat_map (further_read t) rs) (followed (course_at (free_place d t n) fs es) (flat_map further_marks rs))
+further-follow d t n fs es [] = record { context = d; counted = n; course = ap (course_at (free_place d t n) fs) (sym (append-nil es)) }
+further-follow d t n fs es (r ∷ rs) =
+    let e : Entry = entry (codes ",") [] in
+    let one : Course = course_at (free_place d t n) fs (es ++ e ∷ []) in
+    let more = further-follow r.place.context t (size_of r.place.belief) fs ((es ++ e ∷ []) ++ read_entries t r) rs in
+    record {
+      context = more.context;
+      counted = more.counted;
+      course = followed-append one (read_marks r) (flat_map further_marks rs) ∙ ap (λ (s : Course). followed s (flat_map further_marks rs)) (read-follows d t n fs (es ++ e ∷ []) r) ∙ more.course
+          ∙ ap (course_at (free_place more.context t more.counted) fs) (append_assoc (es ++ e ∷ []) (read_entries t r) (flat_map (further_read t) rs) ∙ append_assoc es (e ∷ []) (read_entries t r ++ flat_map (further_read t) rs));
+    }
+
+reads-follow : (d t : Name) (n : ℕ) (fs : List plain.Formula) (es : List Entry) (rs : List WrittenRead) → FollowsReads t fs (es ++ reads_entries t rs) (followed (course_at (free_place d t n) fs es) (reads_marks rs))
+reads-follow d t n fs es [] = record { context = d; counted = n; course = ap (course_at (free_place d t n) fs) (sym (append-nil es)) }
+reads-follow d t n fs es (r ∷ rs) =
+    let e : Entry = entry (codes "if") [] in
+    let one : Course = course_at (free_place d t n) fs (es ++ e ∷ []) in
+    let more = further-follow r.place.context t (size_of r.place.belief) fs ((es ++ e ∷ []) ++ read_entries t r) rs in
+    record {
+      context = more.context;
+      counted = more.counted;
+      course = followed-append one (read_marks r) (flat_map further_marks rs) ∙ ap (λ (s : Course). followed s (flat_map further_marks rs)) (read-follows d t n fs (es ++ e ∷ []) r) ∙ more.course
+          ∙ ap (course_at (free_place more.context t more.counted) fs) (append_assoc (es ++ e ∷ []) (read_entries t r) (flat_map (further_read t) rs) ∙ append_assoc es (e ∷ []) (read_entries t r ++ flat_map (further_read t) rs));
+    }
+
+pub bridge-follows : (d t : Name) (n : ℕ) (es : List Entry) (b : WrittenBridge) → FollowsReads b.head.context [] (es ++ bridge_entries b) (followed (course_at (free_place d t n) [] es) (bridge_marks b))
+bridge-follows d t n es b =
+    let c : Name = b.head.context in
+    let f : Written = b.head.belief in
+    let more = reads-follow c c (size_of f) (formula_in f ∷ []) (es ++ entry (codes "bridge") (BeginsBridge ∷ []) ∷ entry b.name (NamesBridge b.name ∷ []) ∷ entry (codes ":") [] ∷ entry c (NamesTarget c ∷ []) ∷ entry (codes ":") [] ∷ with_first (BeginsBelief c ∷ []) (whole_entries c f)) b.reads in
+    record { context = more.context; counted = more.counted; course = simp (followed-append, formula-follows, zero-add, append_assoc, simp append_assoc at more.course) }

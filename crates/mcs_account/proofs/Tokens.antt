@@ -1,0 +1,142 @@
+-- The tokens of what is written, and that each may be there for what it is there for.
+use Rattle.std.proofs.Common.{◌≡◌, Bool, true, false, codes, List, [], ◌∷◌, ◌++◌, refl, sym, ap, ◌∙◌, append_assoc, append-nil}
+use Rattle.std.proofs.lemmas.List.{map-append}
+use Rattle.std.specs.List.{flat_map, AllByRecursion}
+use Rattle.mcs_system.specs.Plain as plain
+use Rattle.mcs_grammar.specs.Written.{Written, True', False', Named, Denied, Grouped, Both, Either, Leads, Equals, HasNames, IsFormula, WrittenItem, Fact, IsItem, WrittenLiteral, WrittenRule, IsRule, WrittenKb, Classical, DefaultTheory, Program, IsKb, WrittenContext, IsContext, WrittenRead, IsPlace, WrittenBridge, IsWrittenBridge, WrittenText, IsText, IsNameWord}
+use Rattle.mcs_grammar.specs.Written as written
+use Rattle.mcs_grammar.specs.Entries.{Token, Use, EndsRead, Entry, with_last, text_entries, tokens_of}
+use Rattle.mcs_system.specs.Plain.{Name}
+use Rattle.mcs_productions.specs.declared.class.Class.{Class}
+use Rattle.mcs_productions.specs.declared.class.Class.TheVariants as class
+use Rattle.mcs_productions.specs.declared.production.Action.{Action}
+use Rattle.mcs_productions.specs.declared.production.Action.TheVariants as action
+use Rattle.mcs_account.specs.Mark.{Mark, Seen, Said, IsFilled, tokens_in}
+use Rattle.mcs_account.specs.Marks.{Marked, Filled, Fill, bytes_for, formula_marks, two_marks, after_marks, item_marks, head_marks, further_head_marks, literal_denial, literal_marks, further_literal_marks, sign_marks, rule_marks, ended_marks, kb_marks, context_marks, denial_marks, read_marks, further_marks, reads_marks, bridge_marks, text_marks}
+use Rattle.mcs_account.specs.Account.{Course, course_step, course_told, read_ends, followed}
+use Rattle.mcs_account.proofs.Courses.{course_at, free_place}
+use Rattle.mcs_account.proofs.ContextCourses.{text-follows}
+
+-- ---- tokens
+last-tokens : (us : List Use) (ms : List Entry) → tokens_of (with_last us ms) ≡ tokens_of ms
+last-tokens us [] = refl
+last-tokens us (m ∷ []) = refl
+last-tokens us (m ∷ n ∷ ms) = ap (λ (l : List Token). m.token ∷ l) (last-tokens us (n ∷ ms))
+
+ends-tokens : (s : Course) (fs : List plain.Formula) → tokens_of (read_ends s fs).entries ≡ tokens_of s.entries
+ends-tokens s [] = refl
+ends-tokens s (f ∷ fs) = last-tokens (EndsRead s.place.target s.place.context f ∷ []) s.entries
+
+told-tokens : (s : Course) (a : Action) → tokens_of (course_told s a).entries ≡ tokens_of s.entries
+told-tokens s action.EndsRead = ends-tokens s s.operands
+told-tokens s a = refl
+
+pub followed-tokens : (s : Course) (ms : Marked) → tokens_of (followed s ms).entries ≡ tokens_of s.entries ++ tokens_in ms
+followed-tokens s [] = sym (append-nil (tokens_of s.entries))
+followed-tokens s (Seen c t ∷ ms) =
+    followed-tokens (course_step s (Seen c t)) ms ∙ ap (λ (l : List Token). l ++ tokens_in ms) (map-append (λ (m : Entry). m.token) s.entries _) ∙ append_assoc (tokens_of s.entries) (t ∷ []) (tokens_in ms)
+followed-tokens s (Said a ∷ ms) = followed-tokens (course_told s a) ms ∙ ap (λ (l : List Token). l ++ tokens_in ms) (told-tokens s a)
+
+pub text-tokens : (t : WrittenText) → IsText t → tokens_of (text_entries t) ≡ tokens_in (text_marks t)
+text-tokens t h = let f = text-follows t h in sym (ap (λ (s : Course). tokens_of s.entries) f.course) ∙ followed-tokens (course_at (free_place [] [] 0) [] []) (text_marks t)
+
+-- ---- what each is there for
+abbrev IsOne : Mark Class Action Token → Type 0
+IsOne m = IsFilled Fill bytes_for m
+
+pub join-filled : (ms ns : Marked) → Filled ms → Filled ns → Filled (ms ++ ns)
+join-filled [] ns h k = k
+join-filled (m ∷ ms) ns h k = (h.0, join-filled ms ns h.1 k)
+
+all-filled : {W : Type 0} (P : W → Type 0) (f : W → Marked) → ((w : W) → P w → Filled (f w)) → (ws : List W) → AllByRecursion P ws → Filled (flat_map f ws)
+all-filled P f one [] h = tt
+all-filled P f one (w ∷ ws) h = join-filled (f w) (flat_map f ws) (one w h.0) (all-filled P f one ws h.1)
+
+two-filled : (c : Class) (sign : Token) (a : Action) (ms ns : Marked) → IsOne (Seen c sign) → Filled ms → Filled ns → Filled (two_marks c sign a ms ns)
+two-filled c sign a ms ns e h k = join-filled ms _ h (e, join-filled ns (Said a ∷ []) k (tt, tt))
+
+formula-filled : (f : Written) → HasNames f → Filled (formula_marks f)
+formula-filled True' h = ((tt, refl), tt)
+formula-filled False' h = ((tt, refl), tt)
+formula-filled (Named n) h = (((n, h), refl), tt)
+formula-filled (Denied f) h = ((tt, refl), join-filled (formula_marks f) _ (formula-filled f h) (tt, tt))
+formula-filled (Grouped f) h = ((tt, refl), join-filled (formula_marks f) _ (formula-filled f h) ((tt, refl), tt))
+formula-filled (Both f g) h = two-filled class.Conjoins (codes "&") action.ToAnd (formula_marks f) (formula_marks g) (tt, refl) (formula-filled f h.0) (formula-filled g h.1)
+formula-filled (Either f g) h = two-filled class.Disjoins (codes "|") action.ToOr (formula_marks f) (formula_marks g) (tt, refl) (formula-filled f h.0) (formula-filled g h.1)
+formula-filled (Leads f g) h = two-filled class.Implies (codes "->") action.ToImplies (formula_marks f) (formula_marks g) (tt, refl) (formula-filled f h.0) (formula-filled g h.1)
+formula-filled (Equals f g) h = two-filled class.Equates (codes "<->") action.ToIff (formula_marks f) (formula_marks g) (tt, refl) (formula-filled f h.0) (formula-filled g h.1)
+
+item-filled : (i : WrittenItem) → IsItem i → Filled (item_marks i)
+item-filled (Fact f) h = formula-filled f h.1
+item-filled (written.Rule d) h =
+    join-filled (formula_marks d.pre) _ (formula-filled d.pre h.0.1) (
+      (tt, refl),
+      join-filled (formula_marks d.first_just) _ (formula-filled d.first_just h.1.0.1)
+          (join-filled (flat_map (after_marks class.SeparatesJustifications (codes ",")) d.justs) _ (all-filled IsFormula (after_marks class.SeparatesJustifications (codes ",")) (λ f g. ((tt, refl), formula-filled f g.1)) d.justs h.1.1) ((tt, refl), formula-filled d.conclusion h.2.1)),
+    )
+
+literal-filled : (l : WrittenLiteral) → IsNameWord l.atom → Filled (literal_marks l)
+literal-filled l h = at l.denied
+  where
+    at : (b : Bool) → Filled (literal_denial b ++ Seen class.IsBodyAtom l.atom ∷ [])
+    at true = ((tt, refl), (((l.atom, h), refl), tt))
+    at false = (((l.atom, h), refl), tt)
+
+sign-filled : (sign : Bool) (ls : List WrittenLiteral) → AllByRecursion (λ (l : WrittenLiteral). IsNameWord l.atom) ls → Filled (sign_marks sign ls)
+sign-filled false ls h = tt
+sign-filled true [] h = ((tt, refl), tt)
+sign-filled true (l ∷ ls) h = ((tt, refl), join-filled (literal_marks l) _ (literal-filled l h.0) (all-filled (λ (q : WrittenLiteral). IsNameWord q.atom) further_literal_marks (λ q n. ((tt, refl), literal-filled q n)) ls h.1))
+
+head-filled : (names : List Name) → AllByRecursion IsNameWord names → Filled (head_marks names)
+head-filled [] h = tt
+head-filled (a ∷ names) h = (((a, h.0), refl), all-filled IsNameWord further_head_marks (λ n w. ((tt, refl), (((n, w), refl), tt))) names h.1)
+
+rule-filled : (r : WrittenRule) → IsRule r → Filled (rule_marks r)
+rule-filled r h = join-filled (head_marks r.head) _ (head-filled r.head h.head_names) (sign-filled r.has_sign r.body h.body_names)
+
+ended-filled : (ms : Marked) → Filled ms → Filled (ended_marks ms)
+ended-filled ms h = join-filled ms _ h ((tt, refl), tt)
+
+kb-filled : (kb : WrittenKb) → IsKb kb → Filled (kb_marks kb)
+kb-filled (Classical fs) h = ((tt, refl), ((tt, refl), join-filled _ _ (all-filled IsFormula (λ f. ended_marks (formula_marks f)) (λ f g. ended-filled (formula_marks f) (formula-filled f g.1)) fs h) ((tt, refl), tt)))
+kb-filled (DefaultTheory is) h = ((tt, refl), ((tt, refl), join-filled _ _ (all-filled IsItem (λ i. ended_marks (item_marks i)) (λ i g. ended-filled (item_marks i) (item-filled i g)) is h) ((tt, refl), tt)))
+kb-filled (Program rs) h = ((tt, refl), ((tt, refl), join-filled _ _ (all-filled IsRule (λ r. ended_marks (rule_marks r)) (λ r g. ended-filled (rule_marks r) (rule-filled r g)) rs h) ((tt, refl), tt)))
+
+context-filled : (c : WrittenContext) → IsContext c → Filled (context_marks c)
+context-filled c h = ((tt, refl), (((c.name, h.0), refl), kb-filled c.kb h.1))
+
+read-filled : (r : WrittenRead) → IsPlace r.place → Filled (read_marks r)
+read-filled r h = at r.denied
+  where
+    rest : Filled (Seen class.NamesSource r.place.context ∷ Seen class.BeginsBelief (codes ":") ∷ (formula_marks r.place.belief ++ Said action.EndsRead ∷ []))
+    rest = (((r.place.context, h.0), refl), ((tt, refl), join-filled (formula_marks r.place.belief) _ (formula-filled r.place.belief h.1.1) (tt, tt)))
+
+    at : (b : Bool) → Filled (denial_marks b ++ Seen class.NamesSource r.place.context ∷ Seen class.BeginsBelief (codes ":") ∷ (formula_marks r.place.belief ++ Said action.EndsRead ∷ []))
+    at true = ((tt, refl), rest)
+    at false = rest
+
+reads-filled : (rs : List WrittenRead) → AllByRecursion (λ (r : WrittenRead). IsPlace r.place) rs → Filled (reads_marks rs)
+reads-filled [] h = tt
+reads-filled (r ∷ rs) h = ((tt, refl), join-filled (read_marks r) _ (read-filled r h.0) (all-filled (λ (q : WrittenRead). IsPlace q.place) further_marks (λ q p. ((tt, refl), read-filled q p)) rs h.1))
+
+bridge-filled : (b : WrittenBridge) → IsWrittenBridge b → Filled (bridge_marks b)
+bridge-filled b h = (
+  (tt, refl),
+  (
+    ((b.name, h.0), refl),
+    (
+      (tt, refl),
+      (
+        ((b.head.context, h.1.0), refl),
+        (
+          (tt, refl),
+          join-filled (formula_marks b.head.belief) _ (formula-filled b.head.belief h.1.1.1)
+              (join-filled (reads_marks b.reads) _ (reads-filled b.reads h.2) ((tt, refl), tt)),
+        ),
+      ),
+    ),
+  ),
+)
+
+pub text-filled : (t : WrittenText) → IsText t → Filled (text_marks t)
+text-filled t h = join-filled (flat_map context_marks t.contexts) _ (all-filled IsContext context_marks context-filled t.contexts h.0) (all-filled IsWrittenBridge bridge_marks bridge-filled t.bridges h.1)

@@ -1,4 +1,0 @@
-pub mod TextSteps
-pub mod TextImages
-pub mod Ends
-pub mod Known

@@ -1,0 +1,16 @@
+pub mod Options
+pub mod KindSets
+pub mod Levels
+pub mod Fills
+pub mod Fronts
+pub mod Steps
+pub mod Choices
+pub mod Texts
+pub mod Unique
+pub mod Places
+pub mod Tables
+pub mod Stacks
+pub mod Promises
+pub mod Counts
+pub mod Prompt
+pub mod Advance

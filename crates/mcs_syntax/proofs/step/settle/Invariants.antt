@@ -1,0 +1,9 @@
+use Rattle.mcs_syntax.specs.Parts.{due, tops}
+use Rattle.mcs_syntax.proofs.Stacks.{IsSettling}
+use Rattle.mcs_syntax.proofs.step.settle.Given as goal
+
+abbrev pub invariant-loop-place : goal.invariant-loop-place
+invariant-loop-place g l = IsSettling (g.N.Rules).grammar l.table l.initial.stack.items l.stack.items l.initial.events.items l.events.items
+
+abbrev pub decreases-loop-place : goal.decreases-loop-place
+decreases-loop-place g l = due (g.N.Rules).grammar (tops l.table l.stack.items)
