@@ -2,8 +2,9 @@
 
 ghost use Rattle.std.specs.Prelude.{◌≡◌, ◌<◌, ◌≤◌, ◌↔◌, ◌⊎◌, ℕ, List, map, length, IfOk};
 ghost use Rattle.mcs_base.specs.Listings.{IsAmong};
-ghost use Rattle.mcs_sets.specs.Sets.{size, Within};
-ghost use Rattle.mcs_system.specs.Imports.{IsImportOrder, supplied};
+ghost use Rattle.mcs_sets.specs.Sets.{common, size, Within};
+ghost use Rattle.mcs_base.specs.Pairs.{removed_of, forced_of};
+ghost use Rattle.mcs_system.specs.Imports.{IsImportOrder, supplied, rules_into};
 ghost use Rattle.mcs_system.specs.Repairs.{allowed_marks};
 ghost use Rattle.mcs_import.specs.Plans.{AreSupplies};
 ghost use Rattle.mcs_table.specs.declared.row.Row as rows;
@@ -18,31 +19,32 @@ use crate::finding::answer_to;
 use crate::local::add_parts;
 use crate::marks::marks_of;
 use crate::states::input_states;
-use mcs_base::{Memory, Pair, Vars};
+use mcs_base::{Active, Memory, Pair, Vars};
 use mcs_import::Plan;
 use mcs_system::System;
 use mcs_table::{Row, Table};
 use std::alloc::Global;
 
-/// Adds the rows of context `i` of the state at its inputs with the answer to the rules that the
-/// pair makes of those that apply.
+/// Adds the rows of context `i` of the state at its inputs with the answer to the rules that a pair
+/// makes of those that apply, where the pair removes and forces these of the rules into the context.
 fn add_changed(
     all: &mut Vec<Row>,
     system: &System,
     i: u32,
     state: Vars,
     answers: &[Answer],
-    pair: Pair,
+    removed: Active,
+    forced: Active,
 ) -> Result<(), Memory>
     requires in_range { i < length system.now.contexts }
     requires in_order { AreAscendingQuestions answers.now }
-    ensures { IfOk result (λ _. (r : rows.Row)
-        → IsAmong r all.new.items
-        ↔ (IsAmong r all.old.items ⊎ IsChangedRow system.now i pair answers.now state r)) }
+    ensures { IfOk result (λ _. (p : ℕ) → removed ≡ removed_of p
+        → forced ≡ common (forced_of p) (rules_into system.now i)
+        → (r : rows.Row) → IsAmong r all.new.items
+        ↔ (IsAmong r all.old.items ⊎ IsChangedRow system.now i p answers.now state r)) }
 {
     let applying = system.applicable(i, state);
-    let forced = pair.forced().common(system.rules_of(i));
-    let acting = applying.minus(pair.removed()).union(forced);
+    let acting = applying.minus(removed).union(forced);
     match answer_to(answers, acting) {
         Some(answer) => {
             let marks = marks_of(applying.minus(acting), acting.minus(applying));
@@ -67,9 +69,11 @@ fn changed_in(
     ensures { IfOk result (λ all. (r : rows.Row) → IsAmong r all.items
         ↔ ((s : ℕ) × IsAmong s states.now × IsChangedRow system.now i pair answers.now s r)) }
 {
+    let removed = pair.removed();
+    let forced = pair.forced().common(system.rules_of(i));
     let mut all = Vec::new(alloc);
     for state in states {
-        add_changed(&mut all, system, i, *state, answers, pair)?;
+        add_changed(&mut all, system, i, *state, answers, removed, forced)?;
     }
     Ok(all)
 }

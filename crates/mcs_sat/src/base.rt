@@ -85,6 +85,19 @@ fn learn_beforehand(state: &mut State, order: &mut Order, from: usize) -> Result
     Ok(())
 }
 
+/// Makes true what follows by unit propagation at level 0, and learns what a bounded search finds.
+fn settle_state(state: &mut State, order: &mut Order) -> Result<(), Memory>
+    requires { IsGround state.old }
+    ensures { IsLaterGround state.old state.new }
+{
+    let from = state.watches.pairs.len();
+    settle_all(state)?;
+    learn_beforehand(state, order, from)?;
+    let _found = run(state)?;
+    keep(state);
+    Ok(())
+}
+
 impl ClauseBase {
     /// The list without clauses, over the variables 1 to `vars`.
     pub fn new(alloc: Global, vars: u64) -> Result<ClauseBase, Memory>
@@ -228,12 +241,7 @@ impl ClauseBase {
     pub fn settle(&mut self) -> Result<(), Memory>
         ensures { self.new ≡ self.old }
     {
-        let from = self.state.watches.pairs.len();
-        settle_all(&mut self.state)?;
-        learn_beforehand(&mut self.state, &mut self.order, from)?;
-        let _found = run(&mut self.state)?;
-        keep(&mut self.state);
-        Ok(())
+        settle_state(&mut self.state, &mut self.order)
     }
 
     /// An assignment that satisfies the clauses, with a value for each variable; or, exactly if

@@ -349,6 +349,25 @@ fn flatten(
     noted
 }
 
+/// Does this for each clause from the index `from` on that is there at the call.
+fn flatten_each(
+    state: &mut State,
+    definitions: &Definitions,
+    resolved: &mut Resolved,
+    from: usize,
+) -> Result<(), Memory>
+    requires ground { IsGround state.old }
+    requires full { IsFull state.old }
+    ensures later { IsLaterGround state.old state.new }
+    ensures full { OnOk result (IsFull state.new) }
+{
+    let count = state.clauses.len();
+    for index in from..count {
+        flatten(state, definitions, resolved, index)?;
+    }
+    Ok(())
+}
+
 /// Learns clauses over the parts of the formulas whose clauses are those from the index `from` on.
 /// Each such clause with a false literal is resolved with the reasons for its false literals, and
 /// then with the definitions of those that are left, one after the other, on their last literals.
@@ -362,15 +381,18 @@ pub(crate) fn flatten_from(state: &mut State, from: usize) -> Result<Vec<bool>, 
     ensures full { OnOk result (IsFull state.new) }
 {
     let alloc = *state.levels.allocator();
-    let count = state.clauses.len();
     let definitions = definitions_of(alloc, &state.clauses, &state.watches.pairs, from)?;
     let mut resolved = Resolved {
         variables: Vec::new(alloc),
         clauses: Vec::new(alloc),
     };
-    for index in from..count {
-        flatten(state, &definitions, &mut resolved, index)?;
-    }
+    let flattened = flatten_each(state, &definitions, &mut resolved, from);
     drop(definitions);
-    Ok(resolved.variables_of(&state.clauses, &state.watches.pairs, from))
+    match flattened {
+        Ok(()) => Ok(resolved.variables_of(&state.clauses, &state.watches.pairs, from)),
+        Err(error) => {
+            drop(resolved);
+            Err(error)
+        }
+    }
 }

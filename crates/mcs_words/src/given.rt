@@ -31,7 +31,11 @@ pub(crate) fn given_by<'a>(alloc: Global, words: &'a [String]) -> Result<Given<'
 {
     let matches = match line(alloc)?.try_get_matches_from(words) {
         Ok(matches) => matches,
-        Err(error) => return Err(fault_of(&error)),
+        Err(error) => {
+            let fault = fault_of(&error);
+            drop(error);
+            return Err(fault);
+        }
     };
     let Some(job) = matches.get_str("job") else {
         unreachable!()
@@ -39,14 +43,16 @@ pub(crate) fn given_by<'a>(alloc: Global, words: &'a [String]) -> Result<Given<'
     let Some(file) = matches.get_str("file") else {
         unreachable!()
     };
-    Ok(Given {
+    let given = Given {
         job,
         file,
         report: matches.get_str("report"),
         budget: matches.get_str("budget"),
         workers: matches.get_str("workers"),
         proof: matches.get_flag("proof"),
-    })
+    };
+    drop(matches);
+    Ok(given)
 }
 
 /// The fault for an error of clap.

@@ -1,3 +1,4 @@
+use Rattle.std.proofs.lemmas.Option.{slice_get_within}
 use Rattle.std.proofs.Common.{◌≡◌, ◌+◌, ◌++◌, ◌∷◌, [], ◌∙◌, Bool, false, List, ℕ, suc, ℤ, Some, length, replicate, ap, subst, sym, arith}
 use Rattle.mcs_base.specs.Listings.{IsListing}
 use Rattle.mcs_base.proofs.Each.{all_get}
@@ -6,7 +7,7 @@ use Rattle.mcs_trace.specs.Traces.{IsChainResolvent, numbered_clause}
 use Rattle.mcs_engine.specs.declared.trail.Entry.{Entry}
 use Rattle.mcs_engine.specs.Learning.{GoesOnByReasons, IsSingle}
 use Rattle.mcs_engine.specs.Marking.{IsVariableMarked, IsMarking, IsOfMarks}
-use Rattle.mcs_engine.specs.Trails.{IsFalse}
+use Rattle.mcs_engine.specs.Trails.{IsFalse, AreCovered}
 use Rattle.mcs_engine.proofs.KnownLemmas.{chain-start}
 use Rattle.mcs_engine.proofs.MarkLemmas.{free-empty, late-marked, marked-start, none-marked, same-clause, single-marked}
 use Rattle.mcs_engine.proofs.ReasonLemmas.{reasons-more}
@@ -75,3 +76,47 @@ pub returns-clause-empty : goal.returns-clause-empty
 returns-clause-empty c = λ past.
     let m = c.in_ok-shorten.ensures.resolved.marked in
     sym (same_at c) ∙ free-empty c.args.trail.now.entries.items c.shorten.new.marks.items m.clause m.marking (c.in_ok-shorten.ensures.past past)
+
+pub row-requires : goal.row-requires
+row-requires c =
+    let (d, at, off) = c.requires.conflict in
+    slice_get_within c.args.clauses.now c.args.index d at
+
+pub mark_all-requires-clause-clause : goal.mark_all-requires-clause-clause
+mark_all-requires-clause-clause c =
+    let known : List (List ℤ) = c.args.clauses.now in
+    let row : List ℤ = c.row.result.now in
+    (all_get IsClause known c.args.index row c.requires.trail.clauses c.row.ensures, all_get (AreCovered c.args.trail.now.positions.items) known c.args.index row c.requires.trail.covered c.row.ensures)
+
+pub mark_all-requires-clause-sized : goal.mark_all-requires-clause-sized
+mark_all-requires-clause-sized c =
+    let ok = c.args.trail.now.entries.ok.0 in
+    let ok' = c.in_ok-marks.marks.ok.0 in
+    omega (arith, c.in_ok-marks.ensures.len, c.len.ensures, ok, ok')
+
+pub prove-unreachable-requires : goal.prove-unreachable-requires
+prove-unreachable-requires c =
+    let (d, at, off) = c.requires.conflict in
+    let within = slice_get_within c.args.clauses.now c.args.index d at in
+    omega (arith, within, c.len-2.ensures, c.if-prove.true)
+
+pub resolve_back-requires-clause-trail : goal.resolve_back-requires-clause-trail
+resolve_back-requires-clause-trail c = c.requires.trail
+
+pub resolve_back-requires-clause-implied : goal.resolve_back-requires-clause-implied
+resolve_back-requires-clause-implied c = c.requires.implied
+
+pub shorten-requires-clause-trail : goal.shorten-requires-clause-trail
+shorten-requires-clause-trail c = c.requires.trail
+
+pub shorten-requires-clause-marked : goal.shorten-requires-clause-marked
+shorten-requires-clause-marked c = c.in_ok-resolve_back.ensures.resolved.marked
+
+pub shorten-requires-clause-single : goal.shorten-requires-clause-single
+shorten-requires-clause-single c = c.in_ok-resolve_back.ensures.single
+
+pub shorten-requires-clause-implied : goal.shorten-requires-clause-implied
+shorten-requires-clause-implied c = c.requires.implied
+
+pub clause_of-requires : goal.clause_of-requires
+clause_of-requires c = ap length c.deref.ensures.value ∙ c.in_ok-shorten.ensures.resolved.marked.marking.sized

@@ -5,4 +5,4 @@ use Rattle.mcs_rows.specs.Making.{IsChangedRow}
 use Rattle.mcs_rows.proofs.changed.changed_in.Given as goal
 
 abbrev pub invariant-loop-state : goal.invariant-loop-state
-invariant-loop-state l = (r : Row) → IsAmong r l.all.items ↔ ((s : ℕ) × IsAmong s (take l.state-index l.states) × IsChangedRow l.system l.i l.pair l.answers s r)
+invariant-loop-state l = (r : Row) → IsAmong r l.all.items ↔ ((s : ℕ) × IsAmong s (take l.state-index l.states) × IsChangedRow l.system l.i l.fn.pair l.answers s r)

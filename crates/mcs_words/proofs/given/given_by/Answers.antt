@@ -10,7 +10,7 @@ use Rattle.mcs_words.proofs.given.given_by.Goals as goal
 pub returns-in-Err : goal.returns-in-Err
 returns-in-Err c =
     let known = taken (texts_of c.args.words.now) c.requires.0 c.requires.1 c.requires.2 in
-    c.fault_of.ensures (c.in-Err.ensures.passes (ap (λ (a : App). takes a (texts_of c.args.words.now)) c.in_ok-line.ensures ∙ known.takes))
+    c.fault_of-fault.ensures (c.in-Err.ensures.passes (ap (λ (a : App). takes a (texts_of c.args.words.now)) c.in_ok-line.ensures ∙ known.takes))
 
 pub unreachable-requires : goal.unreachable-requires
 unreachable-requires c =

@@ -1,7 +1,7 @@
 use Rattle.std.proofs.Common.{ap, arith, length, length-append, map}
 use Rattle.mcs_trace.specs.Traces.{Inference}
 use Rattle.mcs_engine.proofs.StoreLemmas.{later-ground}
-use Rattle.mcs_sat.proofs.flatten.flatten_from.Goals as goal
+use Rattle.mcs_sat.proofs.flatten.flatten_each.Goals as goal
 
 pub returns-in_err-flatten-clause-later : goal.returns-in_err-flatten-clause-later
 returns-in_err-flatten-clause-later c = later-ground c.args.state.now c.loop-index.state c.flatten.new.state c.loop-index.invariant.later.later c.flatten.ensures.later

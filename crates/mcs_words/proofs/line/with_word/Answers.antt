@@ -1,0 +1,10 @@
+use Rattle.std.proofs.Common.{rules, ◌≡◌, ◌∙◌, ap}
+use Rattle.std.proofs.lemmas.Result.{IfOk-weaker}
+use Rattle.clap.specs.Words.{app_of, rule_of, with_rule}
+use Rattle.mcs_words.specs.Line.{word_rule}
+use Rattle.mcs_words.proofs.line.with_word.Goals as goal
+
+pub returns : goal.returns
+returns c =
+    let rule_is : rule_of c.required.result ≡ word_rule c.args.name.now = search rules in
+    IfOk-weaker c.arg.result _ _ (λ r h. h.shape (search rules) ∙ ap (with_rule (app_of c.args.command)) rule_is) c.arg.ensures
