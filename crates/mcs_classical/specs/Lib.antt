@@ -3,3 +3,4 @@ pub mod Consequences
 pub mod Models
 pub mod OneProof
 pub mod Given
+pub mod Calls

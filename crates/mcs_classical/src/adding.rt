@@ -2,8 +2,9 @@
 
 ghost use Rattle.std.specs.Prelude.{◌≡◌, ◌≤◌, length, map, OnOk, OnErr};
 ghost use Rattle.mcs_system.specs.Seen.{formula_of};
-ghost use Rattle.mcs_cnf.specs.ClauseLists.{IsOver, AreOver, with_formulas};
+ghost use Rattle.mcs_cnf.specs.ClauseLists.{IsOver, AreOver};
 ghost use Rattle.mcs_meant.specs.Meanings.{AddsFormula};
+ghost use Rattle.mcs_classical.specs.Calls.{AddsOrKeeps};
 ghost use Rattle.mcs_classical.specs.Given.{given_names, given_with};
 
 use crate::assumptions::assumed;
@@ -25,9 +26,8 @@ pub fn add_formulas(
 ) -> Result<(), Memory>
     requires over { AreOver atoms.now (map (λ f. formula_of f.now) formulas.now) }
     requires room { length atoms.now ≤ known.old.vars }
-    ensures ok { OnOk result (known.new
-        ≡ with_formulas atoms.now known.old (map (λ f. formula_of f.now) formulas.now)) }
-    ensures err { OnErr result (known.new ≡ known.old) }
+    ensures { AddsOrKeeps atoms.now (map (λ f. formula_of f.now) formulas.now) known.old
+        known.new result }
 {
     let mut more = Cnf::new(alloc, known.vars());
     push_all(alloc, &mut more, formulas, atoms)?;
@@ -63,9 +63,8 @@ pub(crate) fn add_assumed(
     set: Active,
 ) -> Result<(), Memory>
     requires { length (given_names given.now) ≤ known.old.vars }
-    ensures ok { OnOk result (known.new
-        ≡ with_formulas (given_names given.now) known.old (given_with given.now set)) }
-    ensures err { OnErr result (known.new ≡ known.old) }
+    ensures { AddsOrKeeps (given_names given.now) (given_with given.now set) known.old
+        known.new result }
 {
     let formulas = assumed(alloc, given.assumptions, set)?;
     let added = add_formulas(alloc, known, &formulas, given.asked.atoms);

@@ -10,9 +10,10 @@ ghost use Rattle.mcs_system.specs.Plain.{Classical};
 ghost use Rattle.mcs_system.specs.Plain as plain;
 ghost use Rattle.mcs_system.specs.Seen.{formula_of};
 ghost use Rattle.mcs_system.specs.Views.{IsAcceptedView};
-ghost use Rattle.mcs_cnf.specs.ClauseLists.{clause_list, AreOver};
+ghost use Rattle.mcs_cnf.specs.ClauseLists.{AreOver};
 ghost use Rattle.mcs_cnf.specs.Classical.{IsAcceptedClassical, certificate_of};
 ghost use Rattle.mcs_cnf.specs.Entailments.{entailment_of, says_yes};
+ghost use Rattle.mcs_classical.specs.Calls.{AnswersBeliefs};
 ghost use Rattle.mcs_classical.specs.Given.{given_names, given_beliefs};
 
 use crate::adding::add_formulas;
@@ -85,15 +86,8 @@ pub fn outputs_in(
     given: &Given<'_>,
 ) -> Result<(Vars, ClassicalCert), Memory>
     requires { length (given_names given.now) ≤ known.old.vars }
-    ensures kept { known.new ≡ known.old }
-    ensures exact { IfOk result (λ r. (fs : List plain.Formula)
-        → known.old ≡ clause_list (given_names given.now) fs → AreOver (given_names given.now) fs
-        → IsListing (IsAcceptedView (Classical fs) (given_beliefs given.now)) StateBefore
-        (r.0 ∷ [])) }
-    ensures accepted { IfOk result (λ r. (fs : List plain.Formula)
-        → known.old ≡ clause_list (given_names given.now) fs → AreOver (given_names given.now) fs
-        → IsAcceptedClassical (given_names given.now) fs (given_beliefs given.now) (r.0 ∷ [])
-        (certificate_of r.1)) }
+    ensures { AnswersBeliefs (given_names given.now) (given_beliefs given.now) (λ fs. fs) known.old
+        known.new result }
 {
     let beliefs = given.asked.beliefs;
     let mut state = Vars::empty();
@@ -118,15 +112,8 @@ pub fn outputs_with(
 ) -> Result<(Vars, ClassicalCert), Memory>
     requires added { AreOver (given_names given.now) (map (λ f. formula_of f.now) added.now) }
     requires room { length (given_names given.now) ≤ known.old.vars }
-    ensures kept { known.new ≡ known.old }
-    ensures exact { IfOk result (λ r. (fs : List plain.Formula)
-        → known.old ≡ clause_list (given_names given.now) fs → AreOver (given_names given.now) fs
-        → IsListing (IsAcceptedView (Classical (fs ++ map (λ f. formula_of f.now) added.now))
-        (given_beliefs given.now)) StateBefore (r.0 ∷ [])) }
-    ensures accepted { IfOk result (λ r. (fs : List plain.Formula)
-        → known.old ≡ clause_list (given_names given.now) fs → AreOver (given_names given.now) fs
-        → IsAcceptedClassical (given_names given.now) (fs ++ map (λ f. formula_of f.now) added.now)
-        (given_beliefs given.now) (r.0 ∷ []) (certificate_of r.1)) }
+    ensures { AnswersBeliefs (given_names given.now) (given_beliefs given.now)
+        (λ fs. fs ++ map (λ f. formula_of f.now) added.now) known.old known.new result }
 {
     let vars = known.vars();
     let count = known.count();
@@ -144,15 +131,8 @@ pub fn outputs_from(
     given: &Given<'_>,
 ) -> Result<(Vars, ClassicalCert), Memory>
     requires { length (given_names given.now) ≤ known.old.vars }
-    ensures kept { known.new ≡ known.old }
-    ensures exact { IfOk result (λ r. (fs : List plain.Formula)
-        → known.old ≡ clause_list (given_names given.now) fs → AreOver (given_names given.now) fs
-        → IsListing (IsAcceptedView (Classical fs) (given_beliefs given.now)) StateBefore
-        (r.0 ∷ [])) }
-    ensures accepted { IfOk result (λ r. (fs : List plain.Formula)
-        → known.old ≡ clause_list (given_names given.now) fs → AreOver (given_names given.now) fs
-        → IsAcceptedClassical (given_names given.now) fs (given_beliefs given.now) (r.0 ∷ [])
-        (certificate_of r.1)) }
+    ensures { AnswersBeliefs (given_names given.now) (given_beliefs given.now) (λ fs. fs) known.old
+        known.new result }
 {
     let mut base = ClauseBase::of(alloc, known)?;
     let shown = outputs_in(alloc, &mut base, given);

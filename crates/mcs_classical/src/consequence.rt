@@ -1,14 +1,14 @@
 //! Whether one formula follows.
 
 ghost use Rattle.std.specs.Prelude.{◌≡◌, ◌≤◌, ◌↔◌, ◌∷◌, [], List, Some, false, length, map, IsTrue};
-ghost use Rattle.std.specs.Prelude.{IfOk, IfSome, OnOk, OnErr};
+ghost use Rattle.std.specs.Prelude.{IfOk, IfSome};
 ghost use Rattle.mcs_system.specs.Faults.{has_twins};
 ghost use Rattle.mcs_system.specs.Logic.{holds, true_names, Entails};
 ghost use Rattle.mcs_system.specs.Plain as plain;
 ghost use Rattle.mcs_system.specs.Seen.{formula_of};
-ghost use Rattle.mcs_cnf.specs.ClauseLists.{clause_list, with_formulas, IsOver, AreOver};
-ghost use Rattle.mcs_cnf.specs.Entailments.{entailment_of, says_yes, IsModelAt};
-ghost use Rattle.mcs_cnf.specs.Entailments.{IsAcceptedEntailment};
+ghost use Rattle.mcs_cnf.specs.ClauseLists.{IsOver, AreOver};
+ghost use Rattle.mcs_cnf.specs.Entailments.{entailment_of, says_yes, IsAcceptedEntailment};
+ghost use Rattle.mcs_classical.specs.Calls.{AddsOrKeeps, AnswersGoal, AnswersGoalBeside};
 ghost use Rattle.mcs_classical.specs.Given.{given_names};
 ghost use Rattle.mcs_meant.specs.Meanings.{AreMeantBy};
 ghost use Rattle.mcs_classical.specs.Models.{IsCounterexample};
@@ -42,9 +42,8 @@ fn push_goal(
 ) -> Result<(), Memory>
     requires goal { IsOver atoms.now (formula_of goal.now) }
     requires room { length atoms.now ≤ known.old.vars }
-    ensures ok { OnOk result (known.new
-        ≡ with_formulas atoms.now known.old (plain.Not (formula_of goal.now) ∷ [])) }
-    ensures err { OnErr result (known.new ≡ known.old) }
+    ensures { AddsOrKeeps atoms.now (plain.Not (formula_of goal.now) ∷ []) known.old known.new
+        result }
 {
     let mut more = Cnf::new(alloc, known.vars());
     push_negation(alloc, &mut more, atoms, goal)?;
@@ -67,15 +66,7 @@ pub fn entails_in(
 ) -> Result<Entail, Memory>
     requires goal { IsOver (given_names given.now) (formula_of goal.now) }
     requires room { length (given_names given.now) ≤ known.old.vars }
-    ensures kept { known.new ≡ known.old }
-    ensures accepted { IfOk result
-        (λ e. (fs : List plain.Formula) → known.old ≡ clause_list (given_names given.now) fs
-        → AreOver (given_names given.now) fs
-        → IsAcceptedEntailment (given_names given.now) fs (formula_of goal.now) (entailment_of e)) }
-    ensures exact { IfOk result
-        (λ e. (fs : List plain.Formula) → known.old ≡ clause_list (given_names given.now) fs
-        → AreOver (given_names given.now) fs
-        → IsTrue (says_yes (entailment_of e)) ↔ Entails fs (formula_of goal.now)) }
+    ensures { AnswersGoal (given_names given.now) (formula_of goal.now) known.old known.new result }
 {
     let atoms = given.asked.atoms;
     let vars = known.vars();
@@ -126,15 +117,7 @@ pub fn entails_from(
 ) -> Result<Entail, Memory>
     requires goal { IsOver (given_names given.now) (formula_of goal.now) }
     requires room { length (given_names given.now) ≤ known.old.vars }
-    ensures kept { known.new ≡ known.old }
-    ensures accepted { IfOk result
-        (λ e. (fs : List plain.Formula) → known.old ≡ clause_list (given_names given.now) fs
-        → AreOver (given_names given.now) fs
-        → IsAcceptedEntailment (given_names given.now) fs (formula_of goal.now) (entailment_of e)) }
-    ensures exact { IfOk result
-        (λ e. (fs : List plain.Formula) → known.old ≡ clause_list (given_names given.now) fs
-        → AreOver (given_names given.now) fs
-        → IsTrue (says_yes (entailment_of e)) ↔ Entails fs (formula_of goal.now)) }
+    ensures { AnswersGoal (given_names given.now) (formula_of goal.now) known.old known.new result }
 {
     let mut base = ClauseBase::of(alloc, known)?;
     let entail = entails_in(alloc, &mut base, goal, given);
@@ -203,17 +186,8 @@ pub fn entails_beside(
 ) -> Result<Entail, Memory>
     requires goal { IsOver (given_names given.now) (formula_of goal.now) }
     requires room { length (given_names given.now) ≤ known.old.vars }
-    ensures kept { known.new ≡ known.old }
-    ensures accepted { IfOk result
-        (λ e. (fs : List plain.Formula) → known.old ≡ clause_list (given_names given.now) fs
-        → AreOver (given_names given.now) fs
-        → IfSome model.now (IsModelAt (given_names given.now) fs)
-        → IsAcceptedEntailment (given_names given.now) fs (formula_of goal.now) (entailment_of e)) }
-    ensures exact { IfOk result
-        (λ e. (fs : List plain.Formula) → known.old ≡ clause_list (given_names given.now) fs
-        → AreOver (given_names given.now) fs
-        → IfSome model.now (IsModelAt (given_names given.now) fs)
-        → IsTrue (says_yes (entailment_of e)) ↔ Entails fs (formula_of goal.now)) }
+    ensures { AnswersGoalBeside (given_names given.now) model.now (formula_of goal.now) known.old
+        known.new result }
 {
     match refuting(model, goal, given.asked) {
         Some(places) => Ok(Entail::No(places.number())),

@@ -10,7 +10,8 @@ ghost use Rattle.mcs_system.specs.Views.{Shows};
 ghost use Rattle.mcs_asked.specs.Questions.{asked_beliefs};
 ghost use Rattle.mcs_meant.specs.Meanings.{AreMeantBy};
 ghost use Rattle.mcs_classical.specs.Consequences.{holds_goal, with_assumed, AreConsequences};
-ghost use Rattle.mcs_classical.specs.Consequences.{IsGoalAnswer, AreGoalsTold, IsUpperConsequence};
+ghost use Rattle.mcs_classical.specs.Calls.{Searches};
+ghost use Rattle.mcs_classical.specs.Consequences.{IsGoalAnswer, AreGoalsTold};
 ghost use Rattle.mcs_classical.specs.Given.{given_names, given_beliefs, with_given};
 ghost use Rattle.mcs_classical.specs.Given.{AreConsequencesOf};
 ghost use Rattle.mcs_classical.specs.declared.assumptions.Assumption as declared;
@@ -95,13 +96,7 @@ fn ask(
 ) -> Result<Option<Vars>, Memory>
     requires room { length (given_names given.now) ≤ known.old.vars }
     requires place { place < length given.now.asked.now.beliefs.now }
-    ensures kept { known.new ≡ known.old }
-    ensures right { (fs : List plain.Formula) (set : ℕ)
-        → AreMeantBy (given_names given.now) (with_given fs given.now set) known.old
-        → AllByRecursion (IsUpperConsequence fs given.now.assumptions.now
-        (given_beliefs given.now)) upper.old.items
-        → AllByRecursion (IsUpperConsequence fs given.now.assumptions.now
-        (given_beliefs given.now)) upper.new.items }
+    ensures search { Searches given.now known.old known.new upper.old.items upper.new.items }
     ensures answer { IfOk result (λ answer. (fs : List plain.Formula)
         → AreMeantBy (given_names given.now) fs known.old
         → IsGoalAnswer fs (given_beliefs given.now) place answer) }
@@ -148,13 +143,7 @@ fn ask_left(
     before: Told,
 ) -> Result<Vars, Memory>
     requires { length (given_names given.now) ≤ known.old.vars }
-    ensures kept { known.new ≡ known.old }
-    ensures right { (fs : List plain.Formula) (set : ℕ)
-        → AreMeantBy (given_names given.now) (with_given fs given.now set) known.old
-        → AllByRecursion (IsUpperConsequence fs given.now.assumptions.now
-        (given_beliefs given.now)) upper.old.items
-        → AllByRecursion (IsUpperConsequence fs given.now.assumptions.now
-        (given_beliefs given.now)) upper.new.items }
+    ensures search { Searches given.now known.old known.new upper.old.items upper.new.items }
     ensures exact { IfOk result (λ view. (fs : List plain.Formula)
         → AreMeantBy (given_names given.now) fs known.old
         → AreGoalsTold fs (given_beliefs given.now) 0 before

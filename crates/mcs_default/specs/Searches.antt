@@ -1,10 +1,11 @@
 -- What is known of a default theory while its extensions are searched, and what a search answers.
-use Rattle.std.specs.Prelude.{◌≡◌, ℕ, ◌≤◌, true, false, IsTrue, List, length, Option, Some, None}
+use Rattle.std.specs.Prelude.{◌≡◌, ℕ, ◌≤◌, true, false, IsTrue, List, [], length, Option, Some, None}
 use Rattle.std.specs.List.{AllByRecursion}
 use Rattle.mcs_sets.specs.Sets.{has, Within}
 use Rattle.mcs_system.specs.Plain.{Name, Formula, Falsity, Not, Default, Item}
 use Rattle.mcs_system.specs.Logic.{Theory, Entails, holds_all, true_names}
 use Rattle.mcs_system.specs.Views.{Shows}
+use Rattle.mcs_trace.specs.Clauses.{ClauseList}
 use Rattle.mcs_evidence.specs.Defaults.{facts_of, defaults_of, generated}
 use Rattle.mcs_grounding.specs.Theories.{AreParts}
 use Rattle.mcs_default.specs.Assignments.{with_part}
@@ -37,6 +38,13 @@ abbrev pub IsConflict : List Item → ℕ → Type 0
 IsConflict items set = Entails (generated items set) Falsity
 
 -- ---- what was found
+-- these are the clauses of the facts, and nothing is found yet
+pub record HasFoundNothing (known : ClauseList) (f : findings.Findings) : Type 0 where
+  pub facts : f.facts ≡ known
+  pub lower : f.lower.items ≡ []
+  pub upper : f.upper.items ≡ []
+  pub conflicts : f.conflicts.items ≡ []
+
 -- by the set these defaults are supported, and these are blocked
 pub record IsLower (items : List Item) (e : lower.Lower) : Type 0 where
   pub supported : (k : ℕ) → has e.supported k ≡ true → IsSupportedAt items e.set k

@@ -1,12 +1,14 @@
 -- What the answers to questions about the defaults of a theory say.
-use Rattle.std.specs.Prelude.{Option, None, ◌≡◌, ℕ, ◌+◌, false, IsTrue, ◌↔◌, List, [], ◌∷◌, ◌++◌, map, Some, slice_get}
+use Rattle.std.specs.Prelude.{Result, IfOk, Option, None, ◌≡◌, ℕ, ◌+◌, false, IsTrue, ◌↔◌, List, [], ◌∷◌, ◌++◌, map, Some, slice_get}
 use Rattle.std.specs.List.{AllZip}
 use Rattle.mcs_sets.specs.Sets.{has, minus, members}
 use Rattle.mcs_system.specs.Plain.{Name, Formula, Not, Default, Item}
+use Rattle.mcs_trace.specs.Clauses.{ClauseList}
 use Rattle.mcs_trace.specs.declared.certificate.Entail.{Entail}
 use Rattle.mcs_cnf.specs.Entailments.{Entailment, entailment_of}
 use Rattle.mcs_cnf.specs.Classical.{AreShown}
 use Rattle.mcs_evidence.specs.Defaults.{Absence, Unsupported, Blocked, absence_of, verdict_of, facts_of, defaults_at, defaults_in, generated, negated_justs, numbered_formula, IsEntailmentShown, IsDenied, AreDenied, AreGrounded, IsAcceptedVerdict, ShowsView}
+use Rattle.mcs_grounding.specs.Theories.{AreClausesOf}
 use Rattle.mcs_grounding.specs.Told.{AreDefaultNumbers}
 use Rattle.mcs_evidence.specs.Theories.{all_of}
 use Rattle.mcs_default.specs.declared.asking.Justs as justs
@@ -20,6 +22,11 @@ use Rattle.mcs_default.specs.declared.outside.Others.TheVariants as others_varia
 use Rattle.mcs_default.specs.declared.outside.Rest as rest
 use Rattle.mcs_default.specs.declared.outside.Rest.TheVariants as rest_variants
 use Rattle.mcs_default.specs.declared.verdict.Judged as judged
+
+-- the clauses are as before, and what is told is right of formulas with these clauses
+pub record TellsOf {T E : Type 0} (names : List Name) (old new : ClauseList) (result : Result T E) (says : T → List Formula → Type 0) : Type 0 where
+  pub kept : new ≡ old
+  pub told : IfOk result (λ x. (fs : List Formula) → AreClausesOf names fs old → says x fs)
 
 -- ---- of one default
 -- the negation of the justification of this number follows

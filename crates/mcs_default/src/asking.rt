@@ -8,7 +8,7 @@ ghost use Rattle.mcs_cnf.specs.Entailments.{entailment_of, says_yes, IsAcceptedE
 ghost use Rattle.mcs_grounding.specs.Asked.{theory_names};
 ghost use Rattle.mcs_grounding.specs.Theories.{AreClausesOf};
 ghost use Rattle.mcs_evidence.specs.Theories.{IsOverDefault};
-ghost use Rattle.mcs_default.specs.Told.{IsToldOfJusts, IsToldOfDefault};
+ghost use Rattle.mcs_default.specs.Told.{IsToldOfJusts, IsToldOfDefault, TellsOf};
 
 use mcs_base::Memory;
 use mcs_classical::{Given, entails_from, says_yes};
@@ -81,10 +81,8 @@ pub(crate) fn ask_justs(
 ) -> Result<Justs, Memory>
     requires over { AreOver (theory_names theory.now) (map formula_of justs.now) }
     requires room { length (theory_names theory.now) ≤ known.old.vars }
-    ensures kept { known.new ≡ known.old }
-    ensures told { IfOk result (λ told. (fs : List plain.Formula)
-        → AreClausesOf (theory_names theory.now) fs known.old
-        → IsToldOfJusts (theory_names theory.now) fs (map formula_of justs.now) told) }
+    ensures { TellsOf (theory_names theory.now) known.old known.new result (λ told fs.
+        IsToldOfJusts (theory_names theory.now) fs (map formula_of justs.now) told) }
 {
     let mut allowed = Vec::new(alloc);
     for (index, just) in justs.iter().enumerate() {
@@ -108,10 +106,8 @@ pub(crate) fn ask_default(
 ) -> Result<Standing, Memory>
     requires over { IsOverDefault (theory_names theory.now) (default_of default.now) }
     requires room { length (theory_names theory.now) ≤ known.old.vars }
-    ensures kept { known.new ≡ known.old }
-    ensures told { IfOk result (λ told. (fs : List plain.Formula)
-        → AreClausesOf (theory_names theory.now) fs known.old
-        → IsToldOfDefault (theory_names theory.now) fs (default_of default.now) number told) }
+    ensures { TellsOf (theory_names theory.now) known.old known.new result (λ told fs.
+        IsToldOfDefault (theory_names theory.now) fs (default_of default.now) number told) }
 {
     let given = Given {
         asked: theory.asked,

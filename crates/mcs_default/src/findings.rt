@@ -8,6 +8,7 @@ ghost use Rattle.mcs_system.specs.Seen.{formula_of};
 ghost use Rattle.mcs_evidence.specs.Defaults.{generated};
 ghost use Rattle.mcs_default.specs.Searches.{IsLower, IsUpper, IsSupportedAt, IsUnsupportedAt};
 ghost use Rattle.mcs_default.specs.Searches.{IsAllowedAt, IsBlockedAt, IsConflict};
+ghost use Rattle.mcs_default.specs.Searches.{HasFoundNothing};
 
 use mcs_base::{Memory, Vars};
 use mcs_sat::ClauseBase;
@@ -52,10 +53,7 @@ pub(crate) struct Findings {
 impl Findings {
     /// Nothing is found yet.
     pub(crate) fn new(alloc: Global, facts: ClauseBase) -> Findings
-        ensures facts { result.facts ≡ facts }
-        ensures lower { result.lower.items ≡ [] }
-        ensures upper { result.upper.items ≡ [] }
-        ensures conflicts { result.conflicts.items ≡ [] }
+        ensures { HasFoundNothing facts result }
     {
         Findings {
             facts,

@@ -4,7 +4,7 @@ ghost use Rattle.std.specs.Prelude.{◌≡◌, ◌≤◌, ◌++◌, List, length
 ghost use Rattle.mcs_system.specs.Plain as plain;
 ghost use Rattle.mcs_grounding.specs.Asked.{theory_names, theory_defaults};
 ghost use Rattle.mcs_grounding.specs.Theories.{AreClausesOf, consequents};
-ghost use Rattle.mcs_default.specs.Told.{IsToldInside};
+ghost use Rattle.mcs_default.specs.Told.{IsToldInside, TellsOf};
 
 use crate::asking::{Justs, ask_justs};
 use crate::theory::push_consequents;
@@ -31,10 +31,8 @@ fn ask_inside(
     set: Vars,
 ) -> Result<Inside, Memory>
     requires room { length (theory_names theory.now) ≤ known.old.vars }
-    ensures kept { known.new ≡ known.old }
-    ensures told { IfOk result (λ told. (fs : List plain.Formula)
-        → AreClausesOf (theory_names theory.now) fs known.old
-        → IsToldInside (theory_names theory.now) fs (theory_defaults theory.now) set told) }
+    ensures { TellsOf (theory_names theory.now) known.old known.new result (λ told fs.
+        IsToldInside (theory_names theory.now) fs (theory_defaults theory.now) set told) }
 {
     let defaults = theory.defaults;
     let mut allowed = Vec::new(alloc);

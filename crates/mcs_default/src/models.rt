@@ -5,8 +5,7 @@ ghost use Rattle.mcs_sets.specs.Sets.{such_that};
 ghost use Rattle.mcs_system.specs.Logic.{true_names};
 ghost use Rattle.mcs_system.specs.Seen.{default_of};
 ghost use Rattle.mcs_grounding.specs.Asked.{theory_names, theory_defaults};
-ghost use Rattle.mcs_default.specs.Assignments.{holds_part, holds_part_at};
-ghost use Rattle.mcs_default.specs.declared.models.Part.TheVariants as parts;
+ghost use Rattle.mcs_default.specs.Assignments.{holds_part, holds_part_at, ShowsParts};
 
 use crate::findings::Upper;
 use mcs_base::Vars;
@@ -52,16 +51,8 @@ fn holding(theory: &Theory<'_>, part: Part, values: Vars) -> Vars
 
 /// What this assignment, under which the facts hold, shows.
 pub(crate) fn upper_at(theory: &Theory<'_>, values: Vars) -> Upper
-    ensures values { result.values ≡ values }
-    ensures set { result.set ≡ such_that (length theory.now.defaults.now)
-        (holds_part_at (true_names 0 (theory_names theory.now) values) parts.Consequent
-        (theory_defaults theory.now)) }
-    ensures supported { result.supported ≡ such_that (length theory.now.defaults.now)
-        (holds_part_at (true_names 0 (theory_names theory.now) values) parts.Prerequisite
-        (theory_defaults theory.now)) }
-    ensures allowed { result.allowed ≡ such_that (length theory.now.defaults.now)
-        (holds_part_at (true_names 0 (theory_names theory.now) values) parts.Justifications
-        (theory_defaults theory.now)) }
+    ensures { ShowsParts (true_names 0 (theory_names theory.now) values)
+        (length theory.now.defaults.now) (theory_defaults theory.now) values result }
 {
     Upper {
         values,

@@ -6,7 +6,7 @@ ghost use Rattle.mcs_system.specs.Logic.{Entails};
 ghost use Rattle.mcs_system.specs.Plain as plain;
 ghost use Rattle.mcs_evidence.specs.Defaults.{generated};
 ghost use Rattle.mcs_evidence.specs.Theories.{IsDefaultAt};
-ghost use Rattle.mcs_default.specs.Asked.{IsSameTheory, IsSearchOf};
+ghost use Rattle.mcs_default.specs.Asked.{IsSameTheory, IsSearchOf, AnswersSearch};
 ghost use Rattle.mcs_default.specs.Nodes.{IsNode};
 ghost use Rattle.mcs_default.specs.Searches.{IsAllowedBy, IsOpenAt, IsNextOf, IsGroundedSet};
 
@@ -25,11 +25,9 @@ fn applies(
     index: u32,
 ) -> Result<bool, Memory>
     requires index { index < length search.old.theory.now.defaults.now }
-    ensures kept { IsSameTheory search.old search.new }
-    ensures exact { IfOk result (λ b. (items : List plain.Item) → IsSearchOf items search.old
-        → (d : plain.Default) → IsDefaultAt items index d
-        → IsTrue b ↔ (Entails (generated items supporting) d.pre
-        × IsAllowedBy (generated items allowing) d)) }
+    ensures { AnswersSearch search.old search.new result (λ b items.
+        (d : plain.Default) → IsDefaultAt items index d → IsTrue b ↔ (Entails (generated items
+        supporting) d.pre × IsAllowedBy (generated items allowing) d)) }
 {
     if supports(alloc, search, supporting, index)? {
         return allows(alloc, search, allowing, index);
@@ -50,9 +48,8 @@ fn is_open(
 ) -> Result<bool, Memory>
     requires index { index < length search.old.theory.now.defaults.now }
     requires within { Within taken all }
-    ensures kept { IsSameTheory search.old search.new }
-    ensures exact { IfOk result (λ b. (items : List plain.Item) → IsSearchOf items search.old
-        → IsTrue b ↔ IsOpenAt items taken all index) }
+    ensures { AnswersSearch search.old search.new result (λ b items.
+        IsTrue b ↔ IsOpenAt items taken all index) }
 {
     if taken.has(index) {
         return applies(alloc, search, all, taken, index);
@@ -77,10 +74,9 @@ fn has_below(set: Vars, count: usize) -> bool
 /// searched for only where what is known of the two sets does not tell it.
 pub(crate) fn are_open(alloc: Global, search: &mut Search<'_>, node: Node) -> Result<bool, Memory>
     requires { IsNode search.old node }
-    ensures kept { IsSameTheory search.old search.new }
-    ensures exact { IfOk result (λ b. (items : List plain.Item) → IsSearchOf items search.old
-        → IsTrue b ↔ ((k : ℕ) → k < length search.old.theory.now.defaults.now
-        → IsOpenAt items node.taken.set node.all.set k)) }
+    ensures { AnswersSearch search.old search.new result (λ b items.
+        IsTrue b ↔ ((k : ℕ) → k < length search.old.theory.now.defaults.now → IsOpenAt items
+        node.taken.set node.all.set k)) }
 {
     let Node { taken, all } = node;
     let defaults = search.theory.defaults;
@@ -123,9 +119,8 @@ fn next_supported(
 /// Whether the prerequisites of the defaults of the set follow one after the other, each from the
 /// facts and the consequents of those before it.
 pub(crate) fn is_grounded(alloc: Global, search: &mut Search<'_>, set: Vars) -> Result<bool, Memory>
-    ensures kept { IsSameTheory search.old search.new }
-    ensures exact { IfOk result (λ b. (items : List plain.Item) → IsSearchOf items search.old
-        → IsTrue b ↔ IsGroundedSet items set) }
+    ensures { AnswersSearch search.old search.new result (λ b items.
+        IsTrue b ↔ IsGroundedSet items set) }
 {
     let mut part = Vars::empty();
     while let Some(index) = next_supported(alloc, search, part, set.minus(part))? {

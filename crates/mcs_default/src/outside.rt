@@ -5,7 +5,7 @@ ghost use Rattle.std.specs.Prelude.{◌≡◌, ◌≤◌, ◌++◌, List, length
 ghost use Rattle.mcs_system.specs.Plain as plain;
 ghost use Rattle.mcs_grounding.specs.Asked.{theory_names, theory_beliefs, theory_defaults};
 ghost use Rattle.mcs_grounding.specs.Theories.{AreClausesOf, consequents};
-ghost use Rattle.mcs_default.specs.Told.{IsToldOutside, IsToldOfRest};
+ghost use Rattle.mcs_default.specs.Told.{IsToldOutside, IsToldOfRest, TellsOf};
 
 use crate::asking::{Standing, ask_default};
 use crate::theory::push_consequents;
@@ -41,10 +41,8 @@ fn ask_outside(
     set: Vars,
 ) -> Result<Others, Memory>
     requires room { length (theory_names theory.now) ≤ known.old.vars }
-    ensures kept { known.new ≡ known.old }
-    ensures told { IfOk result (λ told. (fs : List plain.Formula)
-        → AreClausesOf (theory_names theory.now) fs known.old
-        → IsToldOutside (theory_names theory.now) fs (theory_defaults theory.now) set told) }
+    ensures { TellsOf (theory_names theory.now) known.old known.new result (λ told fs.
+        IsToldOutside (theory_names theory.now) fs (theory_defaults theory.now) set told) }
 {
     let defaults = theory.defaults;
     let mut absent = Vec::new(alloc);
@@ -63,11 +61,9 @@ fn ask_outside(
 /// Asks the defaults outside the set, and where none applies the beliefs.
 fn ask_rest(alloc: Global, known: &mut Cnf, theory: &Theory<'_>, set: Vars) -> Result<Rest, Memory>
     requires room { length (theory_names theory.now) ≤ known.old.vars }
-    ensures kept { known.new ≡ known.old }
-    ensures told { IfOk result (λ told. (fs : List plain.Formula)
-        → AreClausesOf (theory_names theory.now) fs known.old
-        → IsToldOfRest (theory_names theory.now) fs (theory_defaults theory.now)
-        (theory_beliefs theory.now) set told) }
+    ensures { TellsOf (theory_names theory.now) known.old known.new result (λ told fs.
+        IsToldOfRest (theory_names theory.now) fs (theory_defaults theory.now) (theory_beliefs
+        theory.now) set told) }
 {
     let given = Given {
         asked: theory.asked,

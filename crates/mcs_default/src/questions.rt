@@ -11,7 +11,7 @@ ghost use Rattle.mcs_evidence.specs.Defaults.{defaults_of, generated};
 ghost use Rattle.mcs_evidence.specs.Theories.{IsDefaultAt};
 ghost use Rattle.mcs_grounding.specs.Theories.{AreClausesOf, consequents};
 ghost use Rattle.mcs_grounding.specs.Asked.{theory_names, theory_defaults};
-ghost use Rattle.mcs_default.specs.Asked.{IsSameTheory, IsSearchOf};
+ghost use Rattle.mcs_default.specs.Asked.{IsSameTheory, IsSearchOf, AnswersSearch};
 ghost use Rattle.mcs_default.specs.Searches.{IsAllowedBy, IsConflict};
 
 use crate::findings::{
@@ -66,9 +66,8 @@ pub(crate) fn follows(
     goal: &Formula,
 ) -> Result<bool, Memory>
     requires goal { IsOver (theory_names search.old.theory.now) (formula_of goal.now) }
-    ensures kept { IsSameTheory search.old search.new }
-    ensures exact { IfOk result (λ b. (items : List plain.Item) → IsSearchOf items search.old
-        → IsTrue b ↔ Entails (generated items set) (formula_of goal.now)) }
+    ensures { AnswersSearch search.old search.new result (λ b items.
+        IsTrue b ↔ Entails (generated items set) (formula_of goal.now)) }
 {
     let theory = search.theory;
     match counterexample(alloc, &mut search.findings.facts, theory, set, goal)? {
@@ -103,9 +102,8 @@ pub(crate) fn is_believed(
     belief: &Formula,
 ) -> Result<bool, Memory>
     requires belief { IsOver (theory_names search.old.theory.now) (formula_of belief.now) }
-    ensures kept { IsSameTheory search.old search.new }
-    ensures exact { IfOk result (λ b. (items : List plain.Item) → IsSearchOf items search.old
-        → IsTrue b ↔ Entails (generated items set) (formula_of belief.now)) }
+    ensures { AnswersSearch search.old search.new result (λ b items.
+        IsTrue b ↔ Entails (generated items set) (formula_of belief.now)) }
 {
     let theory = search.theory;
     if is_consequent(theory, set, belief) {
@@ -125,9 +123,8 @@ fn refutes(
     formula: &Formula,
 ) -> Result<bool, Memory>
     requires over { IsOver (theory_names search.old.theory.now) (formula_of formula.now) }
-    ensures kept { IsSameTheory search.old search.new }
-    ensures exact { IfOk result (λ b. (items : List plain.Item) → IsSearchOf items search.old
-        → IsTrue b ↔ Entails (generated items set) (plain.Not (formula_of formula.now))) }
+    ensures { AnswersSearch search.old search.new result (λ b items.
+        IsTrue b ↔ Entails (generated items set) (plain.Not (formula_of formula.now))) }
 {
     let goal = Formula::Not(Box::new(alloc, formula.copy(alloc)?)?);
     let is_refuted = follows(alloc, search, set, &goal);
@@ -143,10 +140,9 @@ fn allows_all(
     justs: &[Formula],
 ) -> Result<bool, Memory>
     requires over { AreOver (theory_names search.old.theory.now) (map formula_of justs.now) }
-    ensures kept { IsSameTheory search.old search.new }
-    ensures exact { IfOk result (λ b. (items : List plain.Item) → IsSearchOf items search.old
-        → IsTrue b ↔ AllByRecursion (λ j. ¬ Entails (generated items set) (plain.Not j))
-        (map formula_of justs.now)) }
+    ensures { AnswersSearch search.old search.new result (λ b items.
+        IsTrue b ↔ AllByRecursion (λ j. ¬ Entails (generated items set) (plain.Not j)) (map
+        formula_of justs.now)) }
 {
     for just in justs {
         if refutes(alloc, search, set, just)? {
@@ -165,10 +161,9 @@ pub(crate) fn supports(
     index: u32,
 ) -> Result<bool, Memory>
     requires index { index < length search.old.theory.now.defaults.now }
-    ensures kept { IsSameTheory search.old search.new }
-    ensures exact { IfOk result (λ b. (items : List plain.Item) → IsSearchOf items search.old
-        → (d : plain.Default) → IsDefaultAt items index d
-        → IsTrue b ↔ Entails (generated items set) d.pre) }
+    ensures { AnswersSearch search.old search.new result (λ b items.
+        (d : plain.Default) → IsDefaultAt items index d → IsTrue b ↔ Entails (generated items
+        set) d.pre) }
 {
     if is_supported(&search.findings.lower, set, index) {
         return Ok(true);
@@ -190,9 +185,8 @@ pub(crate) fn supports(
 
 /// Whether everything follows, by asking.
 fn entails_all(alloc: Global, search: &mut Search<'_>, set: Vars) -> Result<bool, Memory>
-    ensures kept { IsSameTheory search.old search.new }
-    ensures exact { IfOk result (λ b. (items : List plain.Item) → IsSearchOf items search.old
-        → IsTrue b ↔ IsConflict items set) }
+    ensures { AnswersSearch search.old search.new result (λ b items.
+        IsTrue b ↔ IsConflict items set) }
 {
     let falsity = Formula::False;
     let is_conflict = follows(alloc, search, set, &falsity);
@@ -211,9 +205,7 @@ fn without_needless(
     requires index { index < length search.old.theory.now.defaults.now }
     requires conflict { (items : List plain.Item) → IsSearchOf items search.old
         → IsConflict items set }
-    ensures kept { IsSameTheory search.old search.new }
-    ensures conflict { IfOk result (λ least. (items : List plain.Item)
-        → IsSearchOf items search.old → IsConflict items least) }
+    ensures { AnswersSearch search.old search.new result (λ least items. IsConflict items least) }
 {
     if !set.has(index) {
         return Ok(set);
@@ -232,9 +224,7 @@ fn without_needless(
 fn least_conflict(alloc: Global, search: &mut Search<'_>, set: Vars) -> Result<Vars, Memory>
     requires conflict { (items : List plain.Item) → IsSearchOf items search.old
         → IsConflict items set }
-    ensures kept { IsSameTheory search.old search.new }
-    ensures conflict { IfOk result (λ least. (items : List plain.Item)
-        → IsSearchOf items search.old → IsConflict items least) }
+    ensures { AnswersSearch search.old search.new result (λ least items. IsConflict items least) }
 {
     let defaults = search.theory.defaults;
     let mut least = set;
@@ -247,9 +237,8 @@ fn least_conflict(alloc: Global, search: &mut Search<'_>, set: Vars) -> Result<V
 /// Whether the facts and the consequents of the set contradict each other. Where they do, a least
 /// part that does is kept.
 fn contradicts(alloc: Global, search: &mut Search<'_>, set: Vars) -> Result<bool, Memory>
-    ensures kept { IsSameTheory search.old search.new }
-    ensures exact { IfOk result (λ b. (items : List plain.Item) → IsSearchOf items search.old
-        → IsTrue b ↔ IsConflict items set) }
+    ensures { AnswersSearch search.old search.new result (λ b items.
+        IsTrue b ↔ IsConflict items set) }
 {
     if has_conflict(&search.findings.conflicts, set) {
         return Ok(true);
@@ -274,10 +263,9 @@ fn allows_by_asking(
     index: u32,
 ) -> Result<bool, Memory>
     requires index { index < length search.old.theory.now.defaults.now }
-    ensures kept { IsSameTheory search.old search.new }
-    ensures exact { IfOk result (λ b. (items : List plain.Item) → IsSearchOf items search.old
-        → (d : plain.Default) → IsDefaultAt items index d
-        → IsTrue b ↔ IsAllowedBy (generated items set) d) }
+    ensures { AnswersSearch search.old search.new result (λ b items.
+        (d : plain.Default) → IsDefaultAt items index d → IsTrue b ↔ IsAllowedBy (generated
+        items set) d) }
 {
     if is_allowed(&search.findings.upper, set, index) {
         return Ok(true);
@@ -306,10 +294,9 @@ pub(crate) fn allows(
     index: u32,
 ) -> Result<bool, Memory>
     requires index { index < length search.old.theory.now.defaults.now }
-    ensures kept { IsSameTheory search.old search.new }
-    ensures exact { IfOk result (λ b. (items : List plain.Item) → IsSearchOf items search.old
-        → (d : plain.Default) → IsDefaultAt items index d
-        → IsTrue b ↔ IsAllowedBy (generated items set) d) }
+    ensures { AnswersSearch search.old search.new result (λ b items.
+        (d : plain.Default) → IsDefaultAt items index d → IsTrue b ↔ IsAllowedBy (generated
+        items set) d) }
 {
     if is_allowed(&search.findings.upper, set, index) {
         return Ok(true);

@@ -4,3 +4,4 @@ pub mod Programs
 pub mod Supports
 pub mod Laws
 pub mod Pushing
+pub mod Added

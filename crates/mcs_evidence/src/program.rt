@@ -2,12 +2,14 @@
 //! set does not undo a model, and that the state is another one.
 
 ghost use Rattle.std.specs.Prelude.{◌≡◌, ◌≤◌, ◌++◌, List, [], ◌∷◌, None, Some, cond, length, map};
-ghost use Rattle.std.specs.Prelude.{filter, IfOk, OnErr};
+ghost use Rattle.std.specs.Prelude.{filter, IfOk, OnErr, OnOk};
 ghost use Rattle.mcs_system.specs.Logic.{reduct};
 ghost use Rattle.mcs_system.specs.Plain as plain;
 ghost use Rattle.mcs_system.specs.Seen.{rule_of};
 ghost use Rattle.mcs_trace.specs.Clauses.{ClauseList};
 ghost use Rattle.mcs_cnf.specs.ClauseLists.{with_formulas, clause_list};
+ghost use Rattle.mcs_evidence.specs.Added.{CanAdd, AddsDenial, AddsFormulas, AddsOccurrence};
+ghost use Rattle.mcs_evidence.specs.Added.{AddsToConjunction};
 ghost use Rattle.mcs_evidence.specs.Programs.{atoms_as, negated_atoms, conjunction, disjunction};
 ghost use Rattle.mcs_evidence.specs.Programs.{is_broken_by, positive_formula, smaller_formulas};
 ghost use Rattle.mcs_evidence.specs.Programs.{beside_formula, other_formula, rest_formulas};
@@ -33,11 +35,9 @@ fn push_reduct(
     rules: &[ProgRule],
     model: &[Name],
 ) -> Result<(), Memory>
-    requires over { AreOverRules atoms.now (map rule_of rules.now) }
-    requires room { length atoms.now ≤ cnf.old.vars }
-    ensures grows { IfOk result (λ _. cnf.old.vars ≤ cnf.new.vars) }
-    ensures pushed { IfOk result (λ _. cnf.new ≡ with_formulas atoms.now cnf.old
-        (map positive_formula (reduct model.now (map rule_of rules.now)))) }
+    requires { CanAdd atoms.now cnf.old (AreOverRules atoms.now (map rule_of rules.now)) }
+    ensures { OnOk result (AddsFormulas atoms.now (map positive_formula (reduct model.now (map
+        rule_of rules.now))) cnf.old cnf.new) }
 {
     for rule in rules {
         if !some_among(&rule.neg, model) {
@@ -54,11 +54,8 @@ fn push_negations(
     atoms: &[Name],
     names: &[Name],
 ) -> Result<(), Memory>
-    requires over { AreNamesOf atoms.now names.now }
-    requires room { length atoms.now ≤ cnf.old.vars }
-    ensures grows { IfOk result (λ _. cnf.old.vars ≤ cnf.new.vars) }
-    ensures pushed { IfOk result (λ _. cnf.new
-        ≡ with_formulas atoms.now cnf.old (negated_atoms names.now)) }
+    requires { CanAdd atoms.now cnf.old (AreNamesOf atoms.now names.now) }
+    ensures { OnOk result (AddsFormulas atoms.now (negated_atoms names.now) cnf.old cnf.new) }
 {
     for name in names {
         let n = push_negated(alloc, cnf, atoms, name)?;
@@ -69,12 +66,8 @@ fn push_negations(
 
 /// Adds the clauses that a whole conjunction is false. `all` is its number, if it has parts.
 fn push_not_all(alloc: Global, cnf: &mut Cnf, all: Option<u64>) -> Result<(), Memory>
-    requires part { IsVariablePart cnf.old all }
-    ensures grows { IfOk result (λ _. cnf.old.vars ≤ cnf.new.vars) }
-    ensures pushed { IfOk result (λ _. (names : List plain.Name) (start : ClauseList)
-        (fs : List plain.Formula)
-        → HasConjunction names fs start cnf.old all
-        → cnf.new ≡ with_formulas names start (plain.Not (conjunction fs) ∷ [])) }
+    requires { IsVariablePart cnf.old all }
+    ensures { OnOk result (AddsDenial cnf.old cnf.new all) }
 {
     let x = all_of(alloc, cnf, all)?;
     let n = push_not(alloc, cnf, x)?;
@@ -114,16 +107,11 @@ fn join_broken(
     names: &[Name],
     mut all: Option<u64>,
 ) -> Result<Option<u64>, Memory>
-    requires over { AreOverRules atoms.now (map rule_of rules.now) }
-    requires room { length atoms.now ≤ cnf.old.vars }
+    requires can { CanAdd atoms.now cnf.old (AreOverRules atoms.now (map rule_of rules.now)) }
     requires part { IsVariablePart cnf.old all }
-    ensures grows { IfOk result (λ _. cnf.old.vars ≤ cnf.new.vars) }
-    ensures part { IfOk result (IsVariablePart cnf.new) }
-    ensures joined { IfOk result (λ o. (start : ClauseList) (fs : List plain.Formula)
-        → HasConjunction atoms.now fs start cnf.old all
-        → HasConjunction atoms.now (fs ++ map (λ (r : plain.ProgramRule).
-        disjunction (atoms_as r.neg)) (filter (is_broken_by names.now) (map rule_of rules.now)))
-        start cnf.new o) }
+    ensures { IfOk result (AddsToConjunction atoms.now (map (λ (r : plain.ProgramRule). disjunction
+        (atoms_as r.neg)) (filter (is_broken_by names.now) (map rule_of rules.now))) cnf.old
+        cnf.new all) }
 {
     for rule in rules {
         if is_broken(names, rule) {
@@ -145,11 +133,9 @@ fn push_one_beside(
     less: Vars,
 ) -> Result<(), Memory>
     requires few { length atoms.now ≤ 64 }
-    requires rules { AreOverRules atoms.now (map rule_of rules.now) }
-    requires room { length atoms.now ≤ cnf.old.vars }
-    ensures grows { IfOk result (λ _. cnf.old.vars ≤ cnf.new.vars) }
-    ensures pushed { IfOk result (λ _. cnf.new ≡ with_formulas atoms.now cnf.old
-        (beside_formula atoms.now (map rule_of rules.now) less ∷ [])) }
+    requires can { CanAdd atoms.now cnf.old (AreOverRules atoms.now (map rule_of rules.now)) }
+    ensures { OnOk result (AddsFormulas atoms.now (beside_formula atoms.now (map rule_of rules.now)
+        less ∷ []) cnf.old cnf.new) }
 {
     let within = names_at(alloc, atoms, less)?;
     let beside = names_beside(alloc, atoms, less)?;
@@ -190,13 +176,9 @@ fn push_literal(
     belief: &Name,
     holds: bool,
 ) -> Result<u64, Memory>
-    requires over { AreNamesOf atoms.now (belief.now ∷ []) }
-    requires room { length atoms.now ≤ cnf.old.vars }
-    ensures number { IfOk result (IsListVariable cnf.new) }
-    ensures grows { IfOk result (λ _. cnf.old.vars ≤ cnf.new.vars) }
-    ensures occurs { IfOk result
-        (HasOccurrences atoms.now (cond holds (plain.Atom belief.now)
-        (plain.Not (plain.Atom belief.now))) cnf.old cnf.new) }
+    requires { CanAdd atoms.now cnf.old (AreNamesOf atoms.now (belief.now ∷ [])) }
+    ensures { IfOk result (AddsOccurrence atoms.now (cond holds (plain.Atom belief.now) (plain.Not
+        (plain.Atom belief.now))) cnf.old cnf.new) }
 {
     if holds {
         Ok(atom_of(cnf, atoms, belief))
@@ -214,11 +196,9 @@ pub(crate) fn push_other(
     state: Vars,
 ) -> Result<(), Memory>
     requires few { length beliefs.now ≤ 64 }
-    requires beliefs { AreNamesOf atoms.now (map (λ b. b.now) beliefs.now) }
-    requires room { length atoms.now ≤ cnf.old.vars }
-    ensures grows { IfOk result (λ _. cnf.old.vars ≤ cnf.new.vars) }
-    ensures pushed { IfOk result (λ _. cnf.new ≡ with_formulas atoms.now cnf.old
-        (other_formula (map plain.Atom (map (λ b. b.now) beliefs.now)) state ∷ [])) }
+    requires can { CanAdd atoms.now cnf.old (AreNamesOf atoms.now (map (λ b. b.now) beliefs.now)) }
+    ensures { OnOk result (AddsFormulas atoms.now (other_formula (map plain.Atom (map (λ b. b.now)
+        beliefs.now)) state ∷ []) cnf.old cnf.new) }
 {
     let mut all = None;
     for (k, belief) in beliefs.iter().enumerate() {
@@ -238,11 +218,9 @@ fn push_besides(
     smaller: &[Vars],
 ) -> Result<(), Memory>
     requires few { length atoms.now ≤ 64 }
-    requires rules { AreOverRules atoms.now (map rule_of rules.now) }
-    requires room { length atoms.now ≤ cnf.old.vars }
-    ensures grows { IfOk result (λ _. cnf.old.vars ≤ cnf.new.vars) }
-    ensures pushed { IfOk result (λ _. cnf.new ≡ with_formulas atoms.now cnf.old
-        (map (beside_formula atoms.now (map rule_of rules.now)) smaller.now)) }
+    requires can { CanAdd atoms.now cnf.old (AreOverRules atoms.now (map rule_of rules.now)) }
+    ensures { OnOk result (AddsFormulas atoms.now (map (beside_formula atoms.now (map rule_of
+        rules.now)) smaller.now) cnf.old cnf.new) }
 {
     for less in smaller {
         push_one_beside(alloc, cnf, atoms, rules, *less)?;
@@ -259,11 +237,9 @@ fn push_others(
     states: &[Vars],
 ) -> Result<(), Memory>
     requires few { length beliefs.now ≤ 64 }
-    requires beliefs { AreNamesOf atoms.now (map (λ b. b.now) beliefs.now) }
-    requires room { length atoms.now ≤ cnf.old.vars }
-    ensures grows { IfOk result (λ _. cnf.old.vars ≤ cnf.new.vars) }
-    ensures pushed { IfOk result (λ _. cnf.new ≡ with_formulas atoms.now cnf.old
-        (map (other_formula (map plain.Atom (map (λ b. b.now) beliefs.now))) states.now)) }
+    requires can { CanAdd atoms.now cnf.old (AreNamesOf atoms.now (map (λ b. b.now) beliefs.now)) }
+    ensures { OnOk result (AddsFormulas atoms.now (map (other_formula (map plain.Atom (map (λ b.
+        b.now) beliefs.now))) states.now) cnf.old cnf.new) }
 {
     for state in states {
         push_other(alloc, cnf, atoms, beliefs, *state)?;

@@ -2,12 +2,14 @@
 //! programs. The formulas are not built.
 
 ghost use Rattle.std.specs.Prelude.{◌≡◌, ◌≤◌, ◌++◌, List, [], ◌∷◌, None, Some, length, map, IfOk};
-ghost use Rattle.std.specs.Prelude.{IsTrue};
+ghost use Rattle.std.specs.Prelude.{IsTrue, OnOk};
 ghost use Rattle.mcs_system.specs.Logic.{is_in};
 ghost use Rattle.mcs_system.specs.Plain as plain;
 ghost use Rattle.mcs_system.specs.Seen.{rule_of};
 ghost use Rattle.mcs_trace.specs.Clauses.{ClauseList};
 ghost use Rattle.mcs_cnf.specs.ClauseLists.{with_formulas, and_clauses, or_clauses};
+ghost use Rattle.mcs_evidence.specs.Added.{CanAdd, AddsFormulas, AddsOccurrence, AddsPart};
+ghost use Rattle.mcs_evidence.specs.Added.{AddsToConjunction, AddsWhole};
 ghost use Rattle.mcs_evidence.specs.Programs.{atoms_as, negated_atoms, conjunction, disjunction};
 ghost use Rattle.mcs_evidence.specs.Programs.{rule_formula, AreOverRules, IsOverRule};
 ghost use Rattle.mcs_evidence.specs.Pushing.{AreNamesOf, IsListVariable, IsVariablePart};
@@ -27,9 +29,7 @@ use std::alloc::Global;
 pub(crate) fn join(alloc: Global, cnf: &mut Cnf, all: Option<u64>, x: u64) -> Result<u64, Memory>
     requires part { IsVariablePart cnf.old all }
     requires next { IsListVariable cnf.old x }
-    ensures number { IfOk result (IsListVariable cnf.new) }
-    ensures grows { IfOk result (λ _. cnf.old.vars ≤ cnf.new.vars) }
-    ensures joined { IfOk result (IsJoinedPart and_clauses cnf.old cnf.new all x) }
+    ensures { IfOk result (AddsPart and_clauses cnf.old cnf.new all x) }
 {
     match all {
         None => Ok(x),
@@ -46,9 +46,7 @@ pub(crate) fn join_either(
 ) -> Result<u64, Memory>
     requires part { IsVariablePart cnf.old any }
     requires next { IsListVariable cnf.old x }
-    ensures number { IfOk result (IsListVariable cnf.new) }
-    ensures grows { IfOk result (λ _. cnf.old.vars ≤ cnf.new.vars) }
-    ensures joined { IfOk result (IsJoinedPart or_clauses cnf.old cnf.new any x) }
+    ensures { IfOk result (AddsPart or_clauses cnf.old cnf.new any x) }
 {
     match any {
         None => Ok(x),
@@ -57,12 +55,9 @@ pub(crate) fn join_either(
 }
 
 /// The number of an atom. It has to be one of the names.
-#[tactic(auto, using(mcs_cnf::proofs::NumberLemmas::atom_positive, mcs_cnf::proofs::NumberLemmas::atom_within))]
 pub(crate) fn atom_of(cnf: &Cnf, atoms: &[Name], name: &Name) -> u64
-    requires over { IsTrue (is_in name.now atoms.now) }
-    requires room { length atoms.now ≤ cnf.now.vars }
-    ensures number { IsListVariable cnf.now result }
-    ensures occurs { HasOccurrences atoms.now (plain.Atom name.now) cnf.now cnf.now result }
+    requires { CanAdd atoms.now cnf.now (IsTrue (is_in name.now atoms.now)) }
+    ensures { AddsOccurrence atoms.now (plain.Atom name.now) cnf.now cnf.now result }
 {
     atom_number(atoms, name)
 }
@@ -75,12 +70,9 @@ pub(crate) fn push_negated(
     atoms: &[Name],
     name: &Name,
 ) -> Result<u64, Memory>
-    requires over { IsTrue (is_in name.now atoms.now) }
-    requires room { length atoms.now ≤ cnf.old.vars }
-    ensures number { IfOk result (IsListVariable cnf.new) }
-    ensures grows { IfOk result (λ _. cnf.old.vars ≤ cnf.new.vars) }
-    ensures occurs { IfOk result
-        (HasOccurrences atoms.now (plain.Not (plain.Atom name.now)) cnf.old cnf.new) }
+    requires { CanAdd atoms.now cnf.old (IsTrue (is_in name.now atoms.now)) }
+    ensures { IfOk result (AddsOccurrence atoms.now (plain.Not (plain.Atom name.now)) cnf.old
+        cnf.new) }
 {
     let x = atom_of(cnf, atoms, name);
     push_not(alloc, cnf, x)
@@ -95,14 +87,9 @@ pub(crate) fn join_atoms(
     names: &[Name],
     mut all: Option<u64>,
 ) -> Result<Option<u64>, Memory>
-    requires over { AreNamesOf atoms.now names.now }
-    requires room { length atoms.now ≤ cnf.old.vars }
+    requires can { CanAdd atoms.now cnf.old (AreNamesOf atoms.now names.now) }
     requires part { IsVariablePart cnf.old all }
-    ensures grows { IfOk result (λ _. cnf.old.vars ≤ cnf.new.vars) }
-    ensures part { IfOk result (IsVariablePart cnf.new) }
-    ensures joined { IfOk result (λ o. (start : ClauseList) (fs : List plain.Formula)
-        → HasConjunction atoms.now fs start cnf.old all
-        → HasConjunction atoms.now (fs ++ atoms_as names.now) start cnf.new o) }
+    ensures { IfOk result (AddsToConjunction atoms.now (atoms_as names.now) cnf.old cnf.new all) }
 {
     for name in names {
         let x = atom_of(cnf, atoms, name);
@@ -120,14 +107,10 @@ pub(crate) fn join_negated(
     names: &[Name],
     mut all: Option<u64>,
 ) -> Result<Option<u64>, Memory>
-    requires over { AreNamesOf atoms.now names.now }
-    requires room { length atoms.now ≤ cnf.old.vars }
+    requires can { CanAdd atoms.now cnf.old (AreNamesOf atoms.now names.now) }
     requires part { IsVariablePart cnf.old all }
-    ensures grows { IfOk result (λ _. cnf.old.vars ≤ cnf.new.vars) }
-    ensures part { IfOk result (IsVariablePart cnf.new) }
-    ensures joined { IfOk result (λ o. (start : ClauseList) (fs : List plain.Formula)
-        → HasConjunction atoms.now fs start cnf.old all
-        → HasConjunction atoms.now (fs ++ negated_atoms names.now) start cnf.new o) }
+    ensures { IfOk result (AddsToConjunction atoms.now (negated_atoms names.now) cnf.old cnf.new
+        all) }
 {
     for name in names {
         let x = push_negated(alloc, cnf, atoms, name)?;
@@ -139,13 +122,8 @@ pub(crate) fn join_negated(
 
 /// The number of a whole conjunction; one without parts is true.
 pub(crate) fn all_of(alloc: Global, cnf: &mut Cnf, all: Option<u64>) -> Result<u64, Memory>
-    requires part { IsVariablePart cnf.old all }
-    ensures number { IfOk result (IsListVariable cnf.new) }
-    ensures grows { IfOk result (λ _. cnf.old.vars ≤ cnf.new.vars) }
-    ensures whole { IfOk result (λ n. (names : List plain.Name) (start : ClauseList)
-        (fs : List plain.Formula)
-        → HasConjunction names fs start cnf.old all
-        → HasOccurrences names (conjunction fs) start cnf.new n) }
+    requires { IsVariablePart cnf.old all }
+    ensures { IfOk result (AddsWhole HasConjunction conjunction cnf.old cnf.new all) }
 {
     match all {
         None => push_truth(alloc, cnf),
@@ -155,13 +133,8 @@ pub(crate) fn all_of(alloc: Global, cnf: &mut Cnf, all: Option<u64>) -> Result<u
 
 /// The number of a whole disjunction; one without parts is false.
 pub(crate) fn any_of(alloc: Global, cnf: &mut Cnf, any: Option<u64>) -> Result<u64, Memory>
-    requires part { IsVariablePart cnf.old any }
-    ensures number { IfOk result (IsListVariable cnf.new) }
-    ensures grows { IfOk result (λ _. cnf.old.vars ≤ cnf.new.vars) }
-    ensures whole { IfOk result (λ n. (names : List plain.Name) (start : ClauseList)
-        (fs : List plain.Formula)
-        → HasDisjunction names fs start cnf.old any
-        → HasOccurrences names (disjunction fs) start cnf.new n) }
+    requires { IsVariablePart cnf.old any }
+    ensures { IfOk result (AddsWhole HasDisjunction disjunction cnf.old cnf.new any) }
 {
     match any {
         None => push_falsity(alloc, cnf),
@@ -176,12 +149,9 @@ pub(crate) fn push_either(
     atoms: &[Name],
     names: &[Name],
 ) -> Result<u64, Memory>
-    requires over { AreNamesOf atoms.now names.now }
-    requires room { length atoms.now ≤ cnf.old.vars }
-    ensures number { IfOk result (IsListVariable cnf.new) }
-    ensures grows { IfOk result (λ _. cnf.old.vars ≤ cnf.new.vars) }
-    ensures occurs { IfOk result (HasOccurrences atoms.now
-        (disjunction (atoms_as names.now)) cnf.old cnf.new) }
+    requires { CanAdd atoms.now cnf.old (AreNamesOf atoms.now names.now) }
+    ensures { IfOk result (AddsOccurrence atoms.now (disjunction (atoms_as names.now)) cnf.old
+        cnf.new) }
 {
     let mut any = None;
     for name in names {
@@ -201,15 +171,13 @@ pub(crate) fn push_rule(
     pos: &[Name],
     neg: &[Name],
 ) -> Result<(), Memory>
-    requires over { IsOverRule atoms.now (record {
+    requires { CanAdd atoms.now cnf.old (IsOverRule atoms.now (record { head = head.now; pos = pos.now; neg = neg.now })) }
+    ensures { OnOk result (AddsFormulas atoms.now (rule_formula (record {
       head = head.now;
-      pos = pos.now;
+      pos =
+          pos.now;
       neg = neg.now;
-    }) }
-    requires room { length atoms.now ≤ cnf.old.vars }
-    ensures grows { IfOk result (λ _. cnf.old.vars ≤ cnf.new.vars) }
-    ensures pushed { IfOk result (λ _. cnf.new ≡ with_formulas atoms.now cnf.old
-        (rule_formula (record { head = head.now; pos = pos.now; neg = neg.now }) ∷ [])) }
+    }) ∷ []) cnf.old cnf.new) }
 {
     let body = join_atoms(alloc, cnf, atoms, pos, None)?;
     let body = join_negated(alloc, cnf, atoms, neg, body)?;
@@ -226,11 +194,9 @@ pub(crate) fn push_rules(
     atoms: &[Name],
     rules: &[ProgRule],
 ) -> Result<(), Memory>
-    requires over { AreOverRules atoms.now (map rule_of rules.now) }
-    requires room { length atoms.now ≤ cnf.old.vars }
-    ensures grows { IfOk result (λ _. cnf.old.vars ≤ cnf.new.vars) }
-    ensures pushed { IfOk result (λ _. cnf.new
-        ≡ with_formulas atoms.now cnf.old (map rule_formula (map rule_of rules.now))) }
+    requires { CanAdd atoms.now cnf.old (AreOverRules atoms.now (map rule_of rules.now)) }
+    ensures { OnOk result (AddsFormulas atoms.now (map rule_formula (map rule_of rules.now))
+        cnf.old cnf.new) }
 {
     for rule in rules {
         push_rule(alloc, cnf, atoms, &rule.head, &rule.pos, &rule.neg)?;

@@ -1,9 +1,10 @@
 //! The clauses of loop formulas: if one of a set of atoms is true, the set has external support.
 
-ghost use Rattle.std.specs.Prelude.{◌≡◌, ◌≤◌, [], ◌∷◌, length, map, filter, IfOk, OnErr};
+ghost use Rattle.std.specs.Prelude.{◌≡◌, ◌≤◌, [], ◌∷◌, length, map, filter, IfOk, OnErr, OnOk};
 ghost use Rattle.mcs_system.specs.Plain as plain;
 ghost use Rattle.mcs_system.specs.Seen.{rule_of};
 ghost use Rattle.mcs_cnf.specs.ClauseLists.{with_formulas};
+ghost use Rattle.mcs_evidence.specs.Added.{CanAdd, AddsFormulas, AddsOccurrence};
 ghost use Rattle.mcs_evidence.specs.Programs.{disjunction, AreOverRules, IsOverRule};
 ghost use Rattle.mcs_evidence.specs.Pushing.{AreNamesOf, IsListVariable, HasOccurrences};
 ghost use Rattle.mcs_evidence.specs.Supports.{may_support, outside_formula, support_formula};
@@ -32,12 +33,9 @@ fn push_outside(
     rule: &ProgRule,
     set: &[Name],
 ) -> Result<u64, Memory>
-    requires over { IsOverRule atoms.now (rule_of rule.now) }
-    requires room { length atoms.now ≤ cnf.old.vars }
-    ensures number { IfOk result (IsListVariable cnf.new) }
-    ensures grows { IfOk result (λ _. cnf.old.vars ≤ cnf.new.vars) }
-    ensures occurs { IfOk result (HasOccurrences atoms.now
-        (outside_formula set.now (rule_of rule.now)) cnf.old cnf.new) }
+    requires { CanAdd atoms.now cnf.old (IsOverRule atoms.now (rule_of rule.now)) }
+    ensures { IfOk result (AddsOccurrence atoms.now (outside_formula set.now (rule_of rule.now))
+        cnf.old cnf.new) }
 {
     let beside = names_apart(alloc, &rule.head, set)?;
     let body = join_atoms(alloc, cnf, atoms, &rule.pos, None)?;
@@ -54,12 +52,8 @@ fn push_supports(
     rules: &[ProgRule],
     set: &[Name],
 ) -> Result<u64, Memory>
-    requires over { AreOverRules atoms.now (map rule_of rules.now) }
-    requires room { length atoms.now ≤ cnf.old.vars }
-    ensures number { IfOk result (IsListVariable cnf.new) }
-    ensures grows { IfOk result (λ _. cnf.old.vars ≤ cnf.new.vars) }
-    ensures occurs { IfOk result (HasOccurrences atoms.now
-        (disjunction (map (outside_formula set.now)
+    requires { CanAdd atoms.now cnf.old (AreOverRules atoms.now (map rule_of rules.now)) }
+    ensures { IfOk result (AddsOccurrence atoms.now (disjunction (map (outside_formula set.now)
         (filter (may_support set.now) (map rule_of rules.now)))) cnf.old cnf.new) }
 {
     let mut any = None;
@@ -82,12 +76,10 @@ fn push_one_support(
     rules: &[ProgRule],
     set: &[Name],
 ) -> Result<(), Memory>
-    requires rules { AreOverRules atoms.now (map rule_of rules.now) }
-    requires over { AreNamesOf atoms.now set.now }
-    requires room { length atoms.now ≤ cnf.old.vars }
-    ensures grows { IfOk result (λ _. cnf.old.vars ≤ cnf.new.vars) }
-    ensures pushed { IfOk result (λ _. cnf.new
-        ≡ with_formulas atoms.now cnf.old (support_formula (map rule_of rules.now) set.now ∷ [])) }
+    requires { CanAdd atoms.now cnf.old (AreOverRules atoms.now (map rule_of rules.now)
+        × AreNamesOf atoms.now set.now) }
+    ensures { OnOk result (AddsFormulas atoms.now (support_formula (map rule_of rules.now) set.now
+        ∷ []) cnf.old cnf.new) }
 {
     let x = push_either(alloc, cnf, atoms, set)?;
     let y = push_supports(alloc, cnf, atoms, rules, set)?;

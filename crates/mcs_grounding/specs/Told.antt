@@ -6,10 +6,17 @@ use Rattle.mcs_system.specs.Plain.{Name, Formula, Default, Item}
 use Rattle.mcs_cnf.specs.Entailments.{entailment_of}
 use Rattle.mcs_evidence.specs.Defaults.{defaults_of, defaults_at, IsEntailmentShown, AreDenied, AreGrounded}
 use Rattle.mcs_grounding.specs.Theories.{consequents}
+use Rattle.mcs_trace.specs.declared.certificate.Entail.{Entail}
+use Rattle.mcs_grounding.specs.declared.grounding.Order as ordered
 use Rattle.mcs_grounding.specs.declared.grounding.Next as next
 use Rattle.mcs_grounding.specs.declared.grounding.Next.TheVariants as next_variants
 use Rattle.mcs_grounding.specs.declared.grounding.Grounding as grounding
 use Rattle.mcs_grounding.specs.declared.grounding.Grounding.TheVariants as grounding_variants
+
+-- the order has these numbers and what shows the prerequisites
+pub record IsOrder (ns : List ℕ) (es : List Entail) (o : ordered.Order) : Type 0 where
+  pub numbers : o.numbers.items ≡ ns
+  pub pres : o.pres.items ≡ es
 
 -- the prerequisites of the defaults of the set
 abbrev pub prerequisites : List Default → ℕ → List Formula

@@ -7,7 +7,8 @@ ghost use Rattle.mcs_grounding.specs.Asked.{theory_names, theory_defaults};
 ghost use Rattle.mcs_grounding.specs.Theories.{AreClausesOf};
 ghost use Rattle.mcs_cnf.specs.Growing.{HasMoreFormulas};
 ghost use Rattle.mcs_evidence.specs.Theories.{all_of};
-ghost use Rattle.mcs_grounding.specs.Told.{IsToldNext, IsNextInRange, IsToldOfOrder};
+ghost use Rattle.mcs_grounding.specs.Told.{IsOrder, IsToldNext, IsNextInRange};
+ghost use Rattle.mcs_grounding.specs.Told.{IsToldOfOrder};
 
 use crate::asked::Theory;
 use mcs_base::{Memory, Vars};
@@ -44,8 +45,7 @@ struct Order {
 
 impl Order {
     fn none(alloc: Global) -> Order
-        ensures numbers { result.numbers.items ≡ [] }
-        ensures pres { result.pres.items ≡ [] }
+        ensures { IsOrder [] [] result }
     {
         Order {
             numbers: Vec::new(alloc),
@@ -54,9 +54,8 @@ impl Order {
     }
 
     fn push(&mut self, number: u32, pre: Entail) -> Result<(), Memory>
-        ensures numbers { OnOk result (self.new.numbers.items
-            ≡ self.old.numbers.items ++ number ∷ []) }
-        ensures pres { OnOk result (self.new.pres.items ≡ self.old.pres.items ++ pre ∷ []) }
+        ensures { OnOk result (IsOrder (self.old.numbers.items ++ number ∷ [])
+            (self.old.pres.items ++ pre ∷ []) self.new) }
     {
         self.pres.push(pre)?;
         self.numbers.push(number)?;

@@ -2,6 +2,8 @@
 //! by it.
 #![tactic(auto)]
 
+mod asked;
 mod minimal;
 
+pub use asked::LogicProgram;
 pub use minimal::smaller_model;

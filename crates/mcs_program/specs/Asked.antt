@@ -11,7 +11,7 @@ use Rattle.mcs_evidence.specs.Programs.{rest_formulas}
 use Rattle.mcs_evidence.specs.Supports.{IsBased}
 use Rattle.mcs_program.specs.Listings.{left_of, models_left, IsPartListing}
 use Rattle.mcs_program.specs.Searches.{sets_left, IsExhausted, IsProgramSearch}
-use Rattle.mcs_program.specs.declared.asked.LogicProgram as asked
+use Rattle.mcs_minimal.specs.declared.asked.LogicProgram as asked
 use Rattle.mcs_program.specs.declared.listing.Listing.{Listing}
 use Rattle.mcs_program.specs.declared.search.Search.{Search}
 

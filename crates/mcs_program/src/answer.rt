@@ -6,9 +6,9 @@ ghost use Rattle.mcs_program.specs.Asked.{program_names};
 ghost use Rattle.mcs_meant.specs.Meanings.{AreMeantBy};
 ghost use Rattle.mcs_program.specs.Searches.{IsFoundFor};
 
-use crate::asked::LogicProgram;
 use mcs_base::{Memory, Vars};
 use mcs_classical::true_places;
+use mcs_minimal::LogicProgram;
 use mcs_sat::ClauseBase;
 
 /// The places of the atoms that are true under an assignment that satisfies all clauses, or `None`

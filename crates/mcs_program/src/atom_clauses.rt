@@ -15,9 +15,9 @@ ghost use Rattle.mcs_program.specs.Clauses.{literal_of, literals_of_names, rule_
 ghost use Rattle.mcs_program.specs.Clauses.{other_literals};
 ghost use Rattle.mcs_program.specs.Splitting.{value_formula};
 
-use crate::asked::LogicProgram;
 use mcs_base::{Memory, Vars};
 use mcs_cnf::{atom_number, push_clause};
+use mcs_minimal::LogicProgram;
 use mcs_sat::ClauseBase;
 use mcs_system::{Name, ProgRule};
 use mcs_trace::Cnf;

@@ -2,7 +2,6 @@
 #![tactic(auto)]
 
 mod answer;
-mod asked;
 mod atom_clauses;
 mod listing;
 mod once;

@@ -15,7 +15,6 @@ ghost use Rattle.mcs_program.specs.Listings.{first_formulas, IsPartListing, IsUn
 ghost use Rattle.mcs_program.specs.Listings.{IsSupported};
 
 use crate::answer::find_model;
-use crate::asked::LogicProgram;
 use crate::atom_clauses::{add_to, clauses_of_rules};
 use crate::placed::PlacedProgram;
 use crate::placing::Placing;
@@ -25,7 +24,7 @@ use crate::tight::is_tight;
 use mcs_base::{Memory, Vars};
 use mcs_classical::Satisfied;
 use mcs_evidence::{names_at, push_support};
-use mcs_minimal::smaller_model;
+use mcs_minimal::{LogicProgram, smaller_model};
 use mcs_sat::ClauseBase;
 use mcs_system::Name;
 use mcs_trace::Cnf;
@@ -85,7 +84,7 @@ fn unfounded_in(
     ensures { IfOk result (IsUnfounded (program_names program.now)
         (program_rules program.now) model) }
 {
-    match smaller_model(alloc, program.atoms, program.rules, model)? {
+    match smaller_model(alloc, program, model)? {
         Satisfied::Model(less) => Ok(Some(model.minus(less))),
         Satisfied::Refuted(_minimal) => Ok(None),
     }

@@ -11,9 +11,9 @@ ghost use Rattle.mcs_evidence.specs.Pushing.{AreNamesOf};
 ghost use Rattle.mcs_program.specs.Asked.{program_names, program_rules};
 ghost use Rattle.mcs_program.specs.Once.{IsOnce};
 
-use crate::asked::LogicProgram;
 use crate::placing::PlacedRule;
 use mcs_base::Memory;
+use mcs_minimal::LogicProgram;
 use mcs_system::{Name, ProgRule, with_facts};
 use std::alloc::Global;
 use std::collections::BTreeSet;

@@ -16,13 +16,13 @@ ghost use Rattle.mcs_evidence.specs.Programs.{IsAcceptedProgram, IsRefutation};
 ghost use Rattle.mcs_program.specs.Asked.{program_names, program_rules, program_beliefs};
 ghost use Rattle.mcs_program.specs.Asked.{HasFoundAll, IsSearchFor};
 
-use crate::asked::LogicProgram;
 use crate::listing::list_all;
 use crate::once::once_with_facts;
 use crate::search::{Search, find_all};
 use mcs_base::{Memory, Vars};
 use mcs_classical::{Satisfied, satisfy_from};
 use mcs_evidence::rest_clauses;
+use mcs_minimal::LogicProgram;
 use mcs_system::{Name, ProgRule, with_facts};
 use mcs_trace::{ProgramCert, Trace};
 use std::alloc::Global;

@@ -5,8 +5,8 @@ ghost use Rattle.mcs_system.specs.Seen.{rule_of};
 ghost use Rattle.mcs_program.specs.Placing.{IsPlacing};
 ghost use Rattle.mcs_program.specs.PlacingProofs.{IsPlacing-prop};
 
-use crate::asked::LogicProgram;
 use crate::placing::Placing;
+use mcs_minimal::LogicProgram;
 
 /// A program that is asked, with its rules and beliefs by the places of their atoms.
 #[derive(Drop)]

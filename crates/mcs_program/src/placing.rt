@@ -11,9 +11,9 @@ ghost use Rattle.mcs_program.specs.Placing.{places_within, do_meet, placed_holds
 ghost use Rattle.mcs_program.specs.Placing.{lies_beside, IsPlaceOf, ArePlaces, IsPlacedRule};
 ghost use Rattle.mcs_program.specs.Placing.{IsPlacing};
 
-use crate::asked::LogicProgram;
 use mcs_base::{Memory, Vars};
 use mcs_cnf::atom_number;
+use mcs_minimal::LogicProgram;
 use mcs_system::{Name, ProgRule};
 use std::alloc::Global;
 

@@ -12,7 +12,6 @@ ghost use Rattle.mcs_program.specs.Searches.{IsFoundFor, IsProgramSearch, IsExcl
 ghost use Rattle.mcs_program.specs.Searches.{IsViewListed};
 
 use crate::answer::find_model;
-use crate::asked::LogicProgram;
 use crate::atom_clauses::{add_to, clauses_of_rules};
 use crate::placed::PlacedProgram;
 use crate::placing::Placing;
@@ -22,7 +21,7 @@ use crate::view::all_places;
 use mcs_base::{Memory, Vars};
 use mcs_classical::Satisfied;
 use mcs_evidence::push_beside;
-use mcs_minimal::smaller_model;
+use mcs_minimal::{LogicProgram, smaller_model};
 use mcs_sat::ClauseBase;
 use mcs_trace::{AnswerSetCert, Cnf, Trace};
 use std::alloc::Global;
@@ -135,7 +134,7 @@ impl Search {
             < search_left placed.now.program.now self.old) }
     {
         let program = placed.program;
-        match smaller_model(alloc, program.atoms, program.rules, model)? {
+        match smaller_model(alloc, program, model)? {
             Satisfied::Model(less) => self.exclude(alloc, program, less),
             Satisfied::Refuted(minimal) => self.list(alloc, placed, model, minimal),
         }

@@ -1,7 +1,10 @@
-use Rattle.std.proofs.Common.{ℕ, List, [], Option, IfSome, ◌∙◌, refl, sym, subst, map}
+use Rattle.std.proofs.Common.{◌≡◌, ◌∷◌, ℕ, List, [], Option, IfSome, ◌∙◌, refl, sym, subst, map}
+use Rattle.mcs_system.specs.Plain.{Formula}
 use Rattle.mcs_system.specs.Seen.{formula_of}
 use Rattle.mcs_trace.specs.declared.certificate.Entail.{Entail}
 use Rattle.mcs_cnf.specs.Entailments.{entailment_of, IsModelAt}
+use Rattle.mcs_cnf.specs.Classical.{IsAcceptedClassical}
+use Rattle.mcs_cnf.specs.ClauseLists.{clause_list, AreOver}
 use Rattle.mcs_cnf.proofs.EntailmentLemmas.{classical_sound}
 use Rattle.mcs_cnf.proofs.ModelLemmas.{model-kept}
 use Rattle.mcs_classical.proofs.OutputLemmas.{IsShown, shown-none, shown-more, shown-all, rest_over}
@@ -39,11 +42,13 @@ entails_beside-requires-clause-goal c =
 pub entails_beside-requires-clause-room : goal.entails_beside-requires-clause-room
 entails_beside-requires-clause-room c = rw c.loop-number.invariant.kept c.requires
 
-pub returns-clause-accepted : goal.returns-clause-accepted
-returns-clause-accepted c fs known over =
-    shown-all (λ b. formula_of b.now) c.args.given.now.asked.now.atoms.now fs c.args.given.now.asked.now.beliefs.now c.loop-number.number c.loop-number.state c.loop-number.entails.items c.loop-number-test.false (c.loop-number.invariant.shown fs known over)
-
-pub returns-clause-exact : goal.returns-clause-exact
-returns-clause-exact c fs known over =
-    classical_sound c.args.given.now.asked.now.atoms.now fs (map (λ b. formula_of b.now) c.args.given.now.asked.now.beliefs.now) _ _ over c.args.given.now.asked.now.over
-    (shown-all (λ b. formula_of b.now) c.args.given.now.asked.now.atoms.now fs c.args.given.now.asked.now.beliefs.now c.loop-number.number c.loop-number.state c.loop-number.entails.items c.loop-number-test.false (c.loop-number.invariant.shown fs known over))
+pub returns : goal.returns
+returns c =
+    let names = c.args.given.now.asked.now.atoms.now in
+    let shown : (fs : List Formula) → c.args.known.now ≡ clause_list names fs → AreOver names fs → IsAcceptedClassical names fs (map (λ b. formula_of b.now) c.args.given.now.asked.now.beliefs.now) (c.loop-number.state ∷ []) (map entailment_of c.loop-number.entails.items) =
+    λ fs known over. shown-all (λ b. formula_of b.now) names fs c.args.given.now.asked.now.beliefs.now c.loop-number.number c.loop-number.state c.loop-number.entails.items c.loop-number-test.false (c.loop-number.invariant.shown fs known over) in
+    record {
+      kept = c.loop-number.invariant.kept;
+      exact = λ fs known over. classical_sound names fs (map (λ b. formula_of b.now) c.args.given.now.asked.now.beliefs.now) _ _ over c.args.given.now.asked.now.over (shown fs known over);
+      accepted = shown;
+    }

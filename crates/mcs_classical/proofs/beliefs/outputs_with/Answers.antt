@@ -1,4 +1,5 @@
 use Rattle.std.proofs.Common.{◌≤◌, ◌∙◌, ℕ, length, map, take, sym, subst, arith}
+use Rattle.std.proofs.lemmas.Grind.{common_steps}
 use Rattle.std.proofs.lemmas.Result.{IfOk-weaker}
 use Rattle.std.specs.List.{AllByRecursion}
 use Rattle.mcs_system.specs.Seen.{formula_of}
@@ -28,14 +29,13 @@ cut-requires-clause-within c =
     (subst (λ (n : ℕ). AllByRecursion (IsWithin n) (take (length c.args.known.now.clauses) c.outputs_in-shown.new.known.clauses)) (sym c.vars-vars.ensures.value)
     (grown_within c.args.given.now.asked.now.atoms.now c.args.known.now c.outputs_in-shown.new.known (heads, pushed) c.vars-vars.ensures.kept))
 
-pub returns-clause-exact : goal.returns-clause-exact
-returns-clause-exact c =
+pub returns : goal.returns
+returns c =
     let heads = map (λ f. formula_of f.now) c.args.added.now in
-    IfOk-weaker c.outputs_in-shown.result _ _ (λ r h. λ fs is over. h _ (grown_clauses c.args.given.now.asked.now.atoms.now c.args.known.now c.add_formulas.new.known (heads, c.in_ok-add_formulas.ensures.ok) fs is) (all_append (IsOver c.args.given.now.asked.now.atoms.now) fs heads over c.requires.added))
-    c.outputs_in-shown.ensures.exact
-
-pub returns-clause-accepted : goal.returns-clause-accepted
-returns-clause-accepted c =
-    let heads = map (λ f. formula_of f.now) c.args.added.now in
-    IfOk-weaker c.outputs_in-shown.result _ _ (λ r h. λ fs is over. h _ (grown_clauses c.args.given.now.asked.now.atoms.now c.args.known.now c.add_formulas.new.known (heads, c.in_ok-add_formulas.ensures.ok) fs is) (all_append (IsOver c.args.given.now.asked.now.atoms.now) fs heads over c.requires.added))
-    c.outputs_in-shown.ensures.accepted
+    let names = c.args.given.now.asked.now.atoms.now in
+    let grown = grown_clauses names c.args.known.now c.add_formulas.new.known (heads, c.in_ok-add_formulas.ensures.ok) in
+    record {
+      kept = grind (arith, common_steps);
+      exact = IfOk-weaker c.outputs_in-shown.result _ _ (λ r h. λ fs is over. h _ (grown fs is) (all_append (IsOver names) fs heads over c.requires.added)) c.outputs_in-shown.ensures.exact;
+      accepted = IfOk-weaker c.outputs_in-shown.result _ _ (λ r h. λ fs is over. h _ (grown fs is) (all_append (IsOver names) fs heads over c.requires.added)) c.outputs_in-shown.ensures.accepted;
+    }

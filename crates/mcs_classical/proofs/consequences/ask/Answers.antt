@@ -37,12 +37,16 @@ returns-in_ok-push-in-Some-clause-answer c fs meant =
     let refuted : IsRefuted c.args.given.now.asked.now.atoms.now fs g c.in-Some.values = subst (IsCounterexample c.args.given.now.asked.now.atoms.now fs g) c.in-Some.is (c.in_ok-counterexample_in.ensures.exact fs meant) in
     model_answer c.args.given.now.asked.now.atoms.now fs (map (λ x. formula_of x.now) c.args.given.now.asked.now.beliefs.now) c.args.place c.in-Some.values c.goals_holding-possible.result g at refuted (counted c.args.given.now.asked.now.atoms.now c.args.given.now.asked.now.beliefs.now c.in-Some.values c.goals_holding-possible.result c.goals_holding-possible.ensures)
 
-pub returns-in_ok-push-in-Some-clause-right : goal.returns-in_ok-push-in-Some-clause-right
-returns-in_ok-push-in-Some-clause-right c fs set meant all =
+pub returns-in_ok-push-in-Some-clause-search : goal.returns-in_ok-push-in-Some-clause-search
+returns-in_ok-push-in-Some-clause-search c =
     let xs = c.args.given.now.assumptions.now in
     let gs = map (λ x. formula_of x.now) c.args.given.now.asked.now.beliefs.now in
     let g = formula_of c.index-goals-place.result.now in
+    let names = c.args.given.now.asked.now.atoms.now in
     let u : Upper = record { assumed = c.holding-assumed.result; possible = c.goals_holding-possible.result } in
-    let refuted : IsRefuted c.args.given.now.asked.now.atoms.now (with_assumed fs xs set) g c.in-Some.values = subst (IsCounterexample c.args.given.now.asked.now.atoms.now (with_assumed fs xs set) g) c.in-Some.is (c.in_ok-counterexample_in.ensures.exact (with_assumed fs xs set) meant) in
-    subst (λ (us : List Upper). AllByRecursion (IsUpperConsequence fs xs gs) us) (sym c.in_ok-push-in-Some.ensures.items)
-    (all_push (IsUpperConsequence fs xs gs) c.args.upper.now.items u all (model_upper c.args.given.now.asked.now.atoms.now fs xs gs set c.in-Some.values g u refuted c.holding-assumed.ensures.each (counted c.args.given.now.asked.now.atoms.now c.args.given.now.asked.now.beliefs.now c.in-Some.values c.goals_holding-possible.result c.goals_holding-possible.ensures)))
+    record {
+      kept = c.counterexample_in.ensures.kept;
+      right = λ fs set meant all. (let refuted : IsRefuted names (with_assumed fs xs set) g c.in-Some.values = subst (IsCounterexample names (with_assumed fs xs set) g) c.in-Some.is (c.in_ok-counterexample_in.ensures.exact (with_assumed fs xs set) meant) in
+          subst (λ (us : List Upper). AllByRecursion (IsUpperConsequence fs xs gs) us) (sym c.in_ok-push-in-Some.ensures.items)
+          (all_push (IsUpperConsequence fs xs gs) c.args.upper.now.items u all (model_upper names fs xs gs set c.in-Some.values g u refuted c.holding-assumed.ensures.each (counted names c.args.given.now.asked.now.beliefs.now c.in-Some.values c.goals_holding-possible.result c.goals_holding-possible.ensures))));
+    }

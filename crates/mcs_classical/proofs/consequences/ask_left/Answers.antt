@@ -16,8 +16,8 @@ loop-place-preserved c =
     let before = c.loop-place.invariant in
     elim c.if-has.branch [
       | then-has+in_ok-answer w ↦ record {
-        kept = w.known-is ∙ w.in_ok-answer.ensures.kept ∙ before.kept;
-        right = λ fs set meant all. rw w.upper-is (w.in_ok-answer.ensures.right fs set (subst (AreMeantBy c.args.given.now.asked.now.atoms.now (with_assumed fs c.args.given.now.assumptions.now set)) (sym before.kept) meant) (before.right fs set meant all));
+        kept = w.known-is ∙ w.in_ok-answer.ensures.search.kept ∙ before.kept;
+        right = λ fs set meant all. rw w.upper-is (w.in_ok-answer.ensures.search.right fs set (subst (AreMeantBy c.args.given.now.asked.now.atoms.now (with_assumed fs c.args.given.now.assumptions.now set)) (sym before.kept) meant) (before.right fs set meant all));
         told = λ fs meant told. rw w.told-is (w.with_answer-told.ensures fs gs (w.in_ok-answer.ensures.answer fs (subst (AreMeantBy c.args.given.now.asked.now.atoms.now fs) (sym before.kept) meant)) (before.told fs meant told));
       }
       | else-has w ↦ record {
@@ -33,7 +33,9 @@ returns-clause-exact c = λ fs meant told.
     let past : length gs ≤ c.loop-place.place = omega (arith, length-map c.args.given.now.asked.now.beliefs.now (λ g. formula_of g.now), c.loop-place-test.false) in
     told_all fs gs c.loop-place.place c.loop-place.told past (c.loop-place.invariant.told fs meant told)
 
-pub returns-in_err-answer-clause-right : goal.returns-in_err-answer-clause-right
-returns-in_err-answer-clause-right c = λ fs set meant all.
-    let before = c.loop-place.invariant in
-    c.in_err-answer.ensures.right fs set (subst (AreMeantBy c.args.given.now.asked.now.atoms.now (with_assumed fs c.args.given.now.assumptions.now set)) (sym before.kept) meant) (before.right fs set meant all)
+pub returns-in_err-answer-clause-search : goal.returns-in_err-answer-clause-search
+returns-in_err-answer-clause-search c =
+    let before = c.loop-place.invariant in record {
+      kept = c.in_err-answer.ensures.search.kept ∙ before.kept;
+      right = λ fs set meant all. c.in_err-answer.ensures.search.right fs set (subst (AreMeantBy c.args.given.now.asked.now.atoms.now (with_assumed fs c.args.given.now.assumptions.now set)) (sym before.kept) meant) (before.right fs set meant all);
+    }

@@ -11,11 +11,13 @@ use Rattle.mcs_default.proofs.asking.ask_justs.Goals as goal
 pub refutes_from-requires-clause-over : goal.refutes_from-requires-clause-over
 refutes_from-requires-clause-over c = image_each_read (IsOver c.args.theory.now.asked.now.atoms.now) formula_of c.args.justs.now c.loop-index.index c.index-justs-index.result c.loop-index-test.true c.index-justs-index.is c.requires.over
 
-pub returns-then-says_yes-clause-told : goal.returns-then-says_yes-clause-told
-returns-then-says_yes-clause-told c fs is =
-    let said : says_yes (entailment_of c.in_ok-entail.entail) ≡ true = sym c.says_yes.ensures ∙ c.if-says_yes.true in
-    blocked_at c.args.theory.now.asked.now.atoms.now fs c.args.justs.now c.loop-index.index c.in_ok-number.number c.index-justs-index.result c.in_ok-entail.entail c.loop-index-test.true c.index-justs-index.is c.in_ok-number.ensures.number
-    (c.in_ok-entail.ensures.accepted fs (rw c.loop-index.invariant.kept is)) said
+pub returns-then-says_yes : goal.returns-then-says_yes
+returns-then-says_yes c = record {
+  kept = c.refutes_from.ensures.kept ∙ c.loop-index.invariant.kept;
+  told = λ fs is. (let said : says_yes (entailment_of c.in_ok-entail.entail) ≡ true = sym c.says_yes.ensures ∙ c.if-says_yes.true in
+      blocked_at c.args.theory.now.asked.now.atoms.now fs c.args.justs.now c.loop-index.index c.in_ok-number.number c.index-justs-index.result c.in_ok-entail.entail c.loop-index-test.true c.index-justs-index.is c.in_ok-number.ensures.number
+      (c.in_ok-entail.ensures.accepted fs (rw c.loop-index.invariant.kept is)) said);
+}
 
 pub loop-index-preserved : goal.loop-index-preserved
 loop-index-preserved c =

@@ -19,15 +19,17 @@ ask_justs-requires-clause-over c =
     subst (λ (js : List Formula). AreOver c.args.theory.now.asked.now.atoms.now (map formula_of js)) (sym c.deref.ensures.value)
     (image_each_read (IsOverDefault c.args.theory.now.asked.now.atoms.now) (λ d. default_of d.now) c.args.theory.now.defaults.now c.loop-index.index c.index-defaults-index.result c.loop-index-test.true c.index-defaults-index.is c.args.theory.now.over).1
 
-pub returns-in-Blocked-clause-told : goal.returns-in-Blocked-clause-told
-returns-in-Blocked-clause-told c fs is =
-    let names = c.args.theory.now.asked.now.atoms.now in
-    let i = c.loop-index.index in
-    let x = c.index-defaults-index.result in
-    let member : has c.args.set i ≡ true = sym c.has.ensures.value ∙ c.if-has.true in
-    let now : AreClausesOf names fs c.loop-index.known = rw c.loop-index.invariant.kept is in
-    let told = subst (IsToldOfJusts names fs (map formula_of x.now.justs.items)) c.in-Blocked.is (justs_told names fs c.deref.result.now x.now.justs.items c.in_ok-justs.field-0 c.deref.ensures.value (c.in_ok-justs.ensures.told fs now)) in
-    (i, default_of x.now, member, slice_get-map_read (λ d. default_of d.now) c.args.theory.now.defaults.now i x c.loop-index-test.true c.index-defaults-index.is, (refl, told))
+pub returns-in-Blocked : goal.returns-in-Blocked
+returns-in-Blocked c = record {
+  kept = c.ask_justs.ensures.kept ∙ c.loop-index.invariant.kept;
+  told = λ fs is. (let names = c.args.theory.now.asked.now.atoms.now in
+      let i = c.loop-index.index in
+      let x = c.index-defaults-index.result in
+      let member : has c.args.set i ≡ true = sym c.has.ensures.value ∙ c.if-has.true in
+      let now : AreClausesOf names fs c.loop-index.known = rw c.loop-index.invariant.kept is in
+      let told = subst (IsToldOfJusts names fs (map formula_of x.now.justs.items)) c.in-Blocked.is (justs_told names fs c.deref.result.now x.now.justs.items c.in_ok-justs.field-0 c.deref.ensures.value (c.in_ok-justs.ensures.told fs now)) in
+      (i, default_of x.now, member, slice_get-map_read (λ d. default_of d.now) c.args.theory.now.defaults.now i x c.loop-index-test.true c.index-defaults-index.is, (refl, told)));
+}
 
 pub loop-index-preserved : goal.loop-index-preserved
 loop-index-preserved c =

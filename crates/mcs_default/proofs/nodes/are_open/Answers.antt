@@ -1,5 +1,5 @@
 use borrow.Author.Count.{below_more}
-use Rattle.std.proofs.Common.{◌∙◌, sym, arith}
+use Rattle.std.proofs.Common.{rules, ◌∙◌, sym, arith}
 use Rattle.mcs_system.specs.Seen.{default_of}
 use Rattle.mcs_default.specs.Searches.{IsOpenAt}
 use Rattle.std.proofs.lemmas.Bool.{iff_false}
@@ -27,16 +27,23 @@ loop-index-preserved c =
       })
     ]
 
-pub returns-then-has_below-clause-exact : goal.returns-then-has_below-clause-exact
-returns-then-has_below-clause-exact c items parts =
-    let found = c.has_below.ensures c.if-has_below.true in
-    let there = there_is items (λ x. default_of x.now) c.args.search.now.theory.now.defaults.now found.0 found.1 parts.0 in
-    false_tells (λ stays. c.known_closed.ensures items (c.requires.taken items parts) (c.requires.all items parts) found.0 found.2 there.0 there.1 (stays found.0 found.1))
+pub returns-then-has_below : goal.returns-then-has_below
+returns-then-has_below c = record {
+  kept = search rules;
+  exact = λ items parts. (let found = c.has_below.ensures c.if-has_below.true in
+      let there = there_is items (λ x. default_of x.now) c.args.search.now.theory.now.defaults.now found.0 found.1 parts.0 in
+      false_tells (λ stays. c.known_closed.ensures items (c.requires.taken items parts) (c.requires.all items parts) found.0 found.2 there.0 there.1 (stays found.0 found.1)));
+}
 
-pub returns-then-not-branch-clause-exact : goal.returns-then-not-branch-clause-exact
-returns-then-not-branch-clause-exact c items parts =
-    let now = same_items items c.loop-index.invariant.kept parts in
-    false_tells (λ stays. iff_false (c.in_ok-is_open.ensures.exact items now) c.if-not-branch.true (stays c.loop-index.index c.loop-index-test.true))
+pub returns-then-not-branch : goal.returns-then-not-branch
+returns-then-not-branch c = record {
+  kept = search rules;
+  exact = λ items parts. (let now = same_items items c.loop-index.invariant.kept parts in
+      false_tells (λ stays. iff_false (c.in_ok-is_open.ensures.exact items now) c.if-not-branch.true (stays c.loop-index.index c.loop-index-test.true)));
+}
 
-pub returns-clause-exact : goal.returns-clause-exact
-returns-clause-exact c items parts = true_tells (λ k less. c.loop-index.invariant.each_open items parts k (omega arith))
+pub returns : goal.returns
+returns c = record {
+  kept = search rules;
+  exact = λ items parts. (true_tells (λ k less. c.loop-index.invariant.each_open items parts k (omega arith)));
+}

@@ -1,4 +1,4 @@
-use Rattle.std.proofs.Common.{◌≡◌, ◌∙◌, ◌<◌, ℕ, true, length, refl, sym, ap, subst, IsTrue, IfSome, Option}
+use Rattle.std.proofs.Common.{rules, ◌≡◌, ◌∙◌, ◌<◌, ℕ, true, length, refl, sym, ap, subst, IsTrue, IfSome, Option}
 use Rattle.mcs_base.proofs.Results.{none_where_never}
 use Rattle.mcs_sets.specs.Sets.{has, minus, size, Within}
 use Rattle.mcs_sets.proofs.Lattice.{none_within, with_within, in_minus}
@@ -40,11 +40,13 @@ loop-index-preserved c =
           subst (λ (s : ℕ). IsDerivedPart items set s) (sym c.with-part.ensures) (derived_next items set part k there.0 there.1 member (supported there.0 there.1) (before.derived items parts)));
     }
 
-pub returns-clause-exact : goal.returns-clause-exact
-returns-clause-exact c items parts =
-    let set = c.args.set in
-    let part = c.loop-index.part in
-    let now = same_items items c.loop-index.invariant.kept parts in
-    let stuck = subst (IsNextOf items part c.minus.result) (none_where_never c.in_ok-index.field-0 c.in_default.not-Some) (c.in_ok-index.ensures.exact items now) in
-    grounded_exactly items set part c.within.result c.loop-index.invariant.part (c.loop-index.invariant.derived items parts)
-    (λ k left. stuck k (ap (λ (s : ℕ). has s k) c.minus.ensures ∙ left)) c.within.ensures
+pub returns : goal.returns
+returns c = record {
+  kept = search rules;
+  exact = λ items parts. (let set = c.args.set in
+      let part = c.loop-index.part in
+      let now = same_items items c.loop-index.invariant.kept parts in
+      let stuck = subst (IsNextOf items part c.minus.result) (none_where_never c.in_ok-index.field-0 c.in_default.not-Some) (c.in_ok-index.ensures.exact items now) in
+      grounded_exactly items set part c.within.result c.loop-index.invariant.part (c.loop-index.invariant.derived items parts)
+      (λ k left. stuck k (ap (λ (s : ℕ). has s k) c.minus.ensures ∙ left)) c.within.ensures);
+}

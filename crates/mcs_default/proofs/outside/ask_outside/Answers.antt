@@ -26,15 +26,17 @@ pub ask_default-requires-clause-over : goal.ask_default-requires-clause-over
 ask_default-requires-clause-over c =
     image_each_read (IsOverDefault c.args.theory.now.asked.now.atoms.now) (λ d. default_of d.now) c.args.theory.now.defaults.now c.loop-index.index c.index-defaults-index.result c.loop-index-test.true c.index-defaults-index.is c.args.theory.now.over
 
-pub returns-in-Applies-clause-told : goal.returns-in-Applies-clause-told
-returns-in-Applies-clause-told c fs is =
-    let names = c.args.theory.now.asked.now.atoms.now in
-    let i = c.loop-index.index in
-    let x = c.index-defaults-index.result in
-    let out : has c.args.set i ≡ false = sym c.has.ensures.value ∙ c.if-not-has.true in
-    let now : AreClausesOf names fs c.loop-index.known = rw c.loop-index.invariant.kept is in
-    let told = subst (IsToldOfDefault names fs (default_of x.now) (i + 1)) c.in-Applies.is (c.in_ok-absence.ensures.told fs now) in
-    (i, default_of x.now, refl, out, slice_get-map_read (λ d. default_of d.now) c.args.theory.now.defaults.now i x c.loop-index-test.true c.index-defaults-index.is, told)
+pub returns-in-Applies : goal.returns-in-Applies
+returns-in-Applies c = record {
+  kept = c.ask_default.ensures.kept ∙ c.loop-index.invariant.kept;
+  told = λ fs is. (let names = c.args.theory.now.asked.now.atoms.now in
+      let i = c.loop-index.index in
+      let x = c.index-defaults-index.result in
+      let out : has c.args.set i ≡ false = sym c.has.ensures.value ∙ c.if-not-has.true in
+      let now : AreClausesOf names fs c.loop-index.known = rw c.loop-index.invariant.kept is in
+      let told = subst (IsToldOfDefault names fs (default_of x.now) (i + 1)) c.in-Applies.is (c.in_ok-absence.ensures.told fs now) in
+      (i, default_of x.now, refl, out, slice_get-map_read (λ d. default_of d.now) c.args.theory.now.defaults.now i x c.loop-index-test.true c.index-defaults-index.is, told));
+}
 
 pub loop-index-preserved : goal.loop-index-preserved
 loop-index-preserved c =
@@ -62,8 +64,10 @@ loop-index-preserved c =
           })
     ]
 
-pub returns-clause-told : goal.returns-clause-told
-returns-clause-told c fs is =
-    let ds : List Default = map (λ d. default_of d.now) c.args.theory.now.defaults.now in
-    let all : c.loop-index.index ≡ length ds = omega (arith, length-map c.args.theory.now.defaults.now (λ d. default_of d.now), c.loop-index-test.false, c.loop-index.invariant.bound) in
-    absent_all c.args.theory.now.asked.now.atoms.now fs ds c.args.set c.loop-index.index (map absence_of c.loop-index.absent.items) all (c.loop-index.invariant.absent fs is)
+pub returns : goal.returns
+returns c = record {
+  kept = c.loop-index.invariant.kept;
+  told = λ fs is. (let ds : List Default = map (λ d. default_of d.now) c.args.theory.now.defaults.now in
+      let all : c.loop-index.index ≡ length ds = omega (arith, length-map c.args.theory.now.defaults.now (λ d. default_of d.now), c.loop-index-test.false, c.loop-index.invariant.bound) in
+      absent_all c.args.theory.now.asked.now.atoms.now fs ds c.args.set c.loop-index.index (map absence_of c.loop-index.absent.items) all (c.loop-index.invariant.absent fs is));
+}

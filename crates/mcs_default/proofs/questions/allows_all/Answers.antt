@@ -1,4 +1,4 @@
-use Rattle.std.proofs.Common.{◌∙◌, ◌++◌, ◌∷◌, [], List, map, sym, ap, subst, take}
+use Rattle.std.proofs.Common.{rules, ◌∙◌, ◌++◌, ◌∷◌, [], List, map, sym, ap, subst, take}
 use Rattle.std.specs.List.{AllByRecursion}
 use Rattle.std.proofs.lemmas.List.{take_all, map_more}
 use Rattle.mcs_base.proofs.Each.{all_push}
@@ -21,11 +21,13 @@ refutes-requires c = record {
       (image_each_read (IsOver c.args.search.now.theory.now.asked.now.atoms.now) formula_of c.args.justs.now c.loop-just.just-index c.just-item.result c.loop-just-test.true c.just-item.is c.requires.over));
 }
 
-pub returns-then-branch-clause-exact : goal.returns-then-branch-clause-exact
-returns-then-branch-clause-exact c items parts =
-    let now = same_items items c.loop-just.invariant.kept parts in
-    false_tells (not_allowed (generated items c.args.set) (map formula_of c.args.justs.now) c.loop-just.just-index (formula_of c.just-item.result)
-    (slice_get-map_read formula_of c.args.justs.now c.loop-just.just-index c.just-item.result c.loop-just-test.true c.just-item.is) ((c.in_ok-refutes.ensures.exact items now).0 c.if-branch.true))
+pub returns-then-branch : goal.returns-then-branch
+returns-then-branch c = record {
+  kept = search rules;
+  exact = λ items parts. (let now = same_items items c.loop-just.invariant.kept parts in
+      false_tells (not_allowed (generated items c.args.set) (map formula_of c.args.justs.now) c.loop-just.just-index (formula_of c.just-item.result)
+      (slice_get-map_read formula_of c.args.justs.now c.loop-just.just-index c.just-item.result c.loop-just-test.true c.just-item.is) ((c.in_ok-refutes.ensures.exact items now).0 c.if-branch.true)));
+}
 
 pub loop-just-preserved : goal.loop-just-preserved
 loop-just-preserved c =
@@ -40,6 +42,8 @@ loop-just-preserved c =
           (all_push (λ j. ¬ Entails (generated items c.args.set) (Not j)) (map formula_of (take i c.args.justs.now)) (formula_of f) (c.loop-just.invariant.allowed items parts) (iff_false (c.in_ok-refutes.ensures.exact items now) c.if-branch.false)));
     }
 
-pub returns-clause-exact : goal.returns-clause-exact
-returns-clause-exact c items parts =
-    true_tells (subst (λ (fs : List code.Formula). AllByRecursion (λ j. ¬ Entails (generated items c.args.set) (Not j)) (map formula_of fs)) (take_all c.loop-just.just-index c.args.justs.now c.loop-just-test.false) (c.loop-just.invariant.allowed items parts))
+pub returns : goal.returns
+returns c = record {
+  kept = search rules;
+  exact = λ items parts. (true_tells (subst (λ (fs : List code.Formula). AllByRecursion (λ j. ¬ Entails (generated items c.args.set) (Not j)) (map formula_of fs)) (take_all c.loop-just.just-index c.args.justs.now c.loop-just-test.false) (c.loop-just.invariant.allowed items parts)));
+}

@@ -1,6 +1,6 @@
-use Rattle.std.proofs.Common.{is_ok, ◌≡◌, List, map, refl, subst, IsTrue, ◌↔◌, Bool}
+use Rattle.std.proofs.Common.{rules, is_ok, ◌≡◌, List, map, refl, subst, IsTrue, ◌↔◌, Bool}
 use Rattle.std.specs.List.{AllByRecursion}
-use Rattle.mcs_base.proofs.Booleans.{true_tells}
+use Rattle.mcs_base.proofs.Booleans.{true_tells, false_tells}
 use Rattle.mcs_base.proofs.Mapped.{image_each_at}
 use Rattle.mcs_system.specs.Plain.{Formula, Not}
 use Rattle.mcs_system.specs.declared.formula.Formula as code
@@ -23,19 +23,25 @@ asked fs js js' b same is = subst (λ (xs : List code.Formula). IsTrue b ↔ All
 pub allows_all-requires : goal.allows_all-requires
 allows_all-requires c = record { over = (rw c.deref-3.ensures.value ((image_each_at (IsOverDefault c.args.search.now.theory.now.asked.now.atoms.now) (λ d. default_of d.now) c.args.search.now.theory.now.defaults.now c.args.index c.index-defaults-index.result c.requires.index c.args.search.now.theory.now.over).1)) }
 
-pub returns-in_ok-push-clause-exact : goal.returns-in_ok-push-clause-exact
-returns-in_ok-push-clause-exact c items parts d at =
-    default_there (λ x. default_of x.now) c.args.search.now.theory.now.defaults.now items c.args.index c.index-defaults-index.result c.requires.index parts.0 d at (λ d. IsTrue c.in_ok-is_allowed.is_allowed ↔ IsAllowedBy (generated items c.args.set) d)
-    (asked (generated items c.args.set) _ _ c.in_ok-is_allowed.is_allowed c.deref-3.ensures.value (c.in_ok-is_allowed.ensures.exact items parts))
+pub returns-in_ok-push : goal.returns-in_ok-push
+returns-in_ok-push c = record {
+  kept = search rules;
+  exact = λ items parts d at. (default_there (λ x. default_of x.now) c.args.search.now.theory.now.defaults.now items c.args.index c.index-defaults-index.result c.requires.index parts.0 d at (λ d. IsTrue c.in_ok-is_allowed.is_allowed ↔ IsAllowedBy (generated items c.args.set) d)
+      (asked (generated items c.args.set) _ _ c.in_ok-is_allowed.is_allowed c.deref-3.ensures.value (c.in_ok-is_allowed.ensures.exact items parts)));
+}
 
-pub returns-else-not-is_allowed-clause-exact : goal.returns-else-not-is_allowed-clause-exact
-returns-else-not-is_allowed-clause-exact c items parts d at =
-    default_there (λ x. default_of x.now) c.args.search.now.theory.now.defaults.now items c.args.index c.index-defaults-index.result c.requires.index parts.0 d at (λ d. IsTrue c.in_ok-is_allowed.is_allowed ↔ IsAllowedBy (generated items c.args.set) d)
-    (asked (generated items c.args.set) _ _ c.in_ok-is_allowed.is_allowed c.deref-3.ensures.value (c.in_ok-is_allowed.ensures.exact items parts))
+pub returns-else-not-is_allowed : goal.returns-else-not-is_allowed
+returns-else-not-is_allowed c = record {
+  kept = search rules;
+  exact = λ items parts d at. (default_there (λ x. default_of x.now) c.args.search.now.theory.now.defaults.now items c.args.index c.index-defaults-index.result c.requires.index parts.0 d at (λ d. IsTrue c.in_ok-is_allowed.is_allowed ↔ IsAllowedBy (generated items c.args.set) d)
+      (asked (generated items c.args.set) _ _ c.in_ok-is_allowed.is_allowed c.deref-3.ensures.value (c.in_ok-is_allowed.ensures.exact items parts)));
+}
 
-pub returns-then-is_allowed-clause-exact : goal.returns-then-is_allowed-clause-exact
-returns-then-is_allowed-clause-exact c items parts d at =
-    true_tells (c.is_allowed.ensures c.args.search.now.theory.now.asked.now.atoms.now items (rw c.deref.ensures.value ((c.args.search.now.ready.right items parts).1)) c.if-is_allowed.true d at)
+pub returns-then-is_allowed : goal.returns-then-is_allowed
+returns-then-is_allowed c = record {
+  kept = search rules;
+  exact = λ items parts d at. (true_tells (c.is_allowed.ensures c.args.search.now.theory.now.asked.now.atoms.now items (rw c.deref.ensures.value ((c.args.search.now.ready.right items parts).1)) c.if-is_allowed.true d at));
+}
 
 pub invariant_of-search : goal.invariant_of-search
 invariant_of-search c =
@@ -49,3 +55,9 @@ invariant_of-search c =
           (default_there (λ x. default_of x.now) c.args.search.now.theory.now.defaults.now items c.args.index c.index-defaults-index.result c.requires.index before.0 d at (λ d. ¬ IsAllowedBy (generated items c.args.set) d)
           (iff_false (asked (generated items c.args.set) _ _ c.in_ok-is_allowed.is_allowed c.deref-3.ensures.value (c.in_ok-is_allowed.ensures.exact items before)) c.if-not-is_allowed.true)))));
     }
+
+pub returns-then-is_blocked : goal.returns-then-is_blocked
+returns-then-is_blocked c = record {
+  kept = (refl, refl);
+  exact = λ items parts d at. false_tells (c.is_blocked.ensures items (rw c.deref-2.ensures.value ((c.args.search.now.ready.right items parts).0)) c.if-is_blocked.true d at);
+}

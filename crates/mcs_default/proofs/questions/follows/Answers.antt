@@ -1,4 +1,4 @@
-use Rattle.std.proofs.Common.{is_ok, ℕ, Some, Option, List, ◌++◌, length, map, refl, sym, subst}
+use Rattle.std.proofs.Common.{rules, is_ok, ℕ, Some, Option, List, ◌++◌, length, map, refl, sym, subst}
 use Rattle.std.proofs.lemmas.List.{length-map}
 use Rattle.mcs_base.proofs.Booleans.{true_tells, false_tells}
 use Rattle.mcs_system.specs.Plain.{Formula}
@@ -9,21 +9,25 @@ use Rattle.mcs_grounding.specs.Theories.{AreClausesOf, consequents}
 use Rattle.mcs_default.proofs.FindingLemmas.{none_follows, some_denies, ready_upper, refuted_upper}
 use Rattle.mcs_default.proofs.questions.follows.Goals as goal
 
-pub returns-in-None-clause-exact : goal.returns-in-None-clause-exact
-returns-in-None-clause-exact c items parts =
-    let names = c.args.search.now.theory.now.asked.now.atoms.now in
-    let ds = map (λ d. default_of d.now) c.args.search.now.theory.now.defaults.now in
-    let g : Formula = formula_of c.args.goal.now in
-    true_tells (none_follows names items ds c.args.search.now.findings.facts c.args.set g parts
-    (subst (λ (o : Option ℕ). (fs : List Formula) → AreClausesOf names fs c.args.search.now.findings.facts → IsCounterexample names (fs ++ consequents ds c.args.set) g o) c.in-None.is c.in_ok-counterexample.ensures.exact))
+pub returns-in-None : goal.returns-in-None
+returns-in-None c = record {
+  kept = search rules;
+  exact = λ items parts. (let names = c.args.search.now.theory.now.asked.now.atoms.now in
+      let ds = map (λ d. default_of d.now) c.args.search.now.theory.now.defaults.now in
+      let g : Formula = formula_of c.args.goal.now in
+      true_tells (none_follows names items ds c.args.search.now.findings.facts c.args.set g parts
+      (subst (λ (o : Option ℕ). (fs : List Formula) → AreClausesOf names fs c.args.search.now.findings.facts → IsCounterexample names (fs ++ consequents ds c.args.set) g o) c.in-None.is c.in_ok-counterexample.ensures.exact)));
+}
 
-pub returns-in_ok-push-in-Some-clause-exact : goal.returns-in_ok-push-in-Some-clause-exact
-returns-in_ok-push-in-Some-clause-exact c items parts =
-    let names = c.args.search.now.theory.now.asked.now.atoms.now in
-    let ds = map (λ d. default_of d.now) c.args.search.now.theory.now.defaults.now in
-    let g : Formula = formula_of c.args.goal.now in
-    false_tells (some_denies names items ds c.args.search.now.findings.facts c.args.set c.in-Some.values g parts
-    (subst (λ (o : Option ℕ). (fs : List Formula) → AreClausesOf names fs c.args.search.now.findings.facts → IsCounterexample names (fs ++ consequents ds c.args.set) g o) c.in-Some.is c.in_ok-counterexample.ensures.exact))
+pub returns-in_ok-push-in-Some : goal.returns-in_ok-push-in-Some
+returns-in_ok-push-in-Some c = record {
+  kept = search rules;
+  exact = λ items parts. (let names = c.args.search.now.theory.now.asked.now.atoms.now in
+      let ds = map (λ d. default_of d.now) c.args.search.now.theory.now.defaults.now in
+      let g : Formula = formula_of c.args.goal.now in
+      false_tells (some_denies names items ds c.args.search.now.findings.facts c.args.set c.in-Some.values g parts
+      (subst (λ (o : Option ℕ). (fs : List Formula) → AreClausesOf names fs c.args.search.now.findings.facts → IsCounterexample names (fs ++ consequents ds c.args.set) g o) c.in-Some.is c.in_ok-counterexample.ensures.exact)));
+}
 
 pub invariant_of-search-in-Some : goal.invariant_of-search-in-Some
 invariant_of-search-in-Some c =

@@ -7,5 +7,5 @@ without_needless-requires-clause-conflict c items parts = c.loop-index.invariant
 pub loop-index-preserved : goal.loop-index-preserved
 loop-index-preserved c = record {
   kept = same_on c.in_ok-least.ensures.kept c.loop-index.invariant.kept;
-  conflict = λ items parts. c.in_ok-least.ensures.conflict items (same_items items c.loop-index.invariant.kept parts);
+  conflict = λ items parts. c.in_ok-least.ensures.exact items (same_items items c.loop-index.invariant.kept parts);
 }

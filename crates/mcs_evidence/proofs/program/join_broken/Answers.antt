@@ -10,12 +10,15 @@ use Rattle.mcs_evidence.proofs.ProgramClauses.{IsBreaking, broken_more, broken_s
 use Rattle.mcs_evidence.proofs.program.join_broken.Goals as goal
 use Rattle.mcs_evidence.proofs.program.join_broken.Goals.{then-is_broken+in_ok-x+in_ok-n, else-is_broken}
 
-pub push_either-requires-clause-over : goal.push_either-requires-clause-over
-push_either-requires-clause-over c =
+pub push_either-requires : goal.push_either-requires
+push_either-requires c =
     let names = c.args.atoms.now in
     let i = c.loop-rule.rule-index in
-    subst (AreNamesOf names) (sym c.deref.ensures.value)
-    ((subst (AreOverRules names) (map-drop_more rule_of c.args.rules.now i c.rule-item.result c.loop-rule-test.true c.rule-item.is) c.loop-rule.invariant.over).0.2)
+    record {
+      over = subst (AreNamesOf names) (sym c.deref.ensures.value)
+          ((subst (AreOverRules names) (map-drop_more rule_of c.args.rules.now i c.rule-item.result c.loop-rule-test.true c.rule-item.is) c.loop-rule.invariant.over).0.2);
+      room = omega (arith, c.requires.can.room, c.loop-rule.invariant.grows);
+    }
 
 pub loop-rule-preserved : goal.loop-rule-preserved
 loop-rule-preserved c =

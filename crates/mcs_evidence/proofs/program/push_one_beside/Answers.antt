@@ -1,4 +1,4 @@
-use Rattle.std.proofs.Common.{◌∙◌, ap, refl, map, filter, [], ◌∷◌, ◌++◌}
+use Rattle.std.proofs.Common.{arith, ◌∙◌, ap, refl, map, filter, [], ◌∷◌, ◌++◌}
 use Rattle.std.proofs.lemmas.Result.{IfOk-weaker}
 use Rattle.mcs_system.specs.Plain.{Formula, ProgramRule}
 use Rattle.mcs_system.specs.Seen.{rule_of}
@@ -9,14 +9,14 @@ use Rattle.mcs_evidence.proofs.PushingLemmas.{conjunction_more}
 use Rattle.mcs_evidence.proofs.ProgramClauses.{within_names, beside_names, beside_is}
 use Rattle.mcs_evidence.proofs.program.push_one_beside.Goals as goal
 
-pub join_atoms-requires-clause-over : goal.join_atoms-requires-clause-over
-join_atoms-requires-clause-over c = within_names c.args.atoms.now c.deref.result.now c.args.less (c.deref.ensures.value ∙ c.in_ok-within.ensures)
+pub join_atoms-requires-clause-can : goal.join_atoms-requires-clause-can
+join_atoms-requires-clause-can c = record { over = within_names c.args.atoms.now c.deref.result.now c.args.less (c.deref.ensures.value ∙ c.in_ok-within.ensures); room = c.requires.can.room }
 
-pub push_either-requires-clause-over : goal.push_either-requires-clause-over
-push_either-requires-clause-over c = beside_names c.args.atoms.now c.deref-2.result.now c.args.less (c.deref-2.ensures.value ∙ c.in_ok-beside.ensures)
+pub push_either-requires : goal.push_either-requires
+push_either-requires c = record { over = beside_names c.args.atoms.now c.deref-2.result.now c.args.less (c.deref-2.ensures.value ∙ c.in_ok-beside.ensures); room = omega (arith, c.requires.can.room, c.in_ok-all.ensures.grows) }
 
-pub returns-clause-pushed : goal.returns-clause-pushed
-returns-clause-pushed c =
+pub returns : goal.returns
+returns c =
     let names = c.args.atoms.now in
     let start = c.args.cnf.now in
     let rules = map rule_of c.args.rules.now in
@@ -26,7 +26,9 @@ returns-clause-pushed c =
     let first : HasConjunction names (atoms_as w) start c.join_atoms.new.cnf c.in_ok-all.all = c.in_ok-all.ensures.joined start [] (refl, refl) in
     let second = conjunction_more names (atoms_as w) d start c.join_atoms.new.cnf c.push_either.new.cnf c.join.new.cnf c.in_ok-all.all c.in_ok-x.x c.in_ok-all-2.all first c.in_ok-x.ensures.occurs c.in_ok-all-2.ensures.joined in
     let third = c.in_ok-all-3.ensures.joined start (atoms_as w ++ d ∷ []) second in
-    IfOk-weaker c.push_not_all.result _ _ (λ _ pushed.
-    pushed names start ((atoms_as w ++ d ∷ []) ++ map (λ (r : ProgramRule). disjunction (atoms_as r.neg)) (filter (is_broken_by c.deref-3.result.now) rules)) third
-    ∙ ap (λ (f : Formula). with_formulas names start (f ∷ [])) (beside_is names w b c.deref-3.result.now rules c.args.less (c.deref.ensures.value ∙ c.in_ok-within.ensures) (c.deref-2.ensures.value ∙ c.in_ok-beside.ensures) (c.deref-3.ensures.value ∙ c.in_ok-within.ensures)))
-    c.push_not_all.ensures.pushed
+    IfOk-weaker c.push_not_all.result _ _ (λ _ denial. record {
+      grows = omega (arith, c.in_ok-all.ensures.grows, c.in_ok-x.ensures.grows, c.in_ok-all-2.ensures.grows, c.in_ok-all-3.ensures.grows, denial.grows);
+      pushed = denial.pushed names start ((atoms_as w ++ d ∷ []) ++ map (λ (r : ProgramRule). disjunction (atoms_as r.neg)) (filter (is_broken_by c.deref-3.result.now) rules)) third
+          ∙ ap (λ (f : Formula). with_formulas names start (f ∷ [])) (beside_is names w b c.deref-3.result.now rules c.args.less (c.deref.ensures.value ∙ c.in_ok-within.ensures) (c.deref-2.ensures.value ∙ c.in_ok-beside.ensures) (c.deref-3.ensures.value ∙ c.in_ok-within.ensures));
+    })
+    c.push_not_all.ensures

@@ -1,4 +1,4 @@
-use Rattle.std.proofs.Common.{◌∙◌, ap, refl, map, List, [], ◌∷◌, ◌++◌}
+use Rattle.std.proofs.Common.{arith, ◌∙◌, ap, refl, map, List, [], ◌∷◌, ◌++◌}
 use Rattle.mcs_system.specs.Plain.{Name, Not}
 use Rattle.mcs_system.specs.Logic.{reduct, true_names}
 use Rattle.mcs_system.specs.Seen.{rule_of}
@@ -8,11 +8,11 @@ use Rattle.mcs_evidence.specs.Programs.{positive_formula, negated_atoms, atoms_a
 use Rattle.mcs_evidence.proofs.ProgramClauses.{three, within_names, beside_names}
 use Rattle.mcs_evidence.proofs.program.smaller_clauses.Goals as goal
 
-pub push_negations-requires-clause-over : goal.push_negations-requires-clause-over
-push_negations-requires-clause-over c = beside_names c.args.atoms.now c.deref-2.result.now c.args.model (c.deref-2.ensures.value ∙ c.in_ok-beside.ensures)
+pub push_negations-requires : goal.push_negations-requires
+push_negations-requires c = record { over = beside_names c.args.atoms.now c.deref-2.result.now c.args.model (c.deref-2.ensures.value ∙ c.in_ok-beside.ensures); room = omega (arith, ap (λ (k : ClauseList). k.vars) c.new-cnf.ensures, c.in_ok-push_reduct.ensures.grows) }
 
-pub join_atoms-requires-clause-over : goal.join_atoms-requires-clause-over
-join_atoms-requires-clause-over c = within_names c.args.atoms.now c.deref-3.result.now c.args.model (c.deref-3.ensures.value ∙ c.in_ok-within.ensures)
+pub join_atoms-requires-clause-can : goal.join_atoms-requires-clause-can
+join_atoms-requires-clause-can c = record { over = within_names c.args.atoms.now c.deref-3.result.now c.args.model (c.deref-3.ensures.value ∙ c.in_ok-within.ensures); room = omega (arith, ap (λ (k : ClauseList). k.vars) c.new-cnf.ensures, c.in_ok-push_reduct.ensures.grows, c.in_ok-push_negations.ensures.grows) }
 
 pub returns : goal.returns
 returns c =

@@ -10,9 +10,12 @@ use Rattle.mcs_evidence.proofs.SupportClauses.{IsSupporting, outsides, outsides_
 use Rattle.mcs_evidence.proofs.support.push_supports.Goals as goal
 use Rattle.mcs_evidence.proofs.support.push_supports.Goals.{then-may_support+in_ok-x+in_ok-n, else-may_support}
 
-pub push_outside-requires-clause-over : goal.push_outside-requires-clause-over
-push_outside-requires-clause-over c =
-    (subst (AreOverRules c.args.atoms.now) (map-drop_more rule_of c.args.rules.now c.loop-rule.rule-index c.rule-item.result c.loop-rule-test.true c.rule-item.is) c.loop-rule.invariant.over).0
+pub push_outside-requires : goal.push_outside-requires
+push_outside-requires c =
+    record {
+      over = (subst (AreOverRules c.args.atoms.now) (map-drop_more rule_of c.args.rules.now c.loop-rule.rule-index c.rule-item.result c.loop-rule-test.true c.rule-item.is) c.loop-rule.invariant.over).0;
+      room = omega (arith, c.requires.room, c.loop-rule.invariant.grows);
+    }
 
 pub loop-rule-preserved : goal.loop-rule-preserved
 loop-rule-preserved c =

@@ -30,11 +30,11 @@ ask_left-found-requires c = grown_room c.args.given.now.asked.now.atoms.now c.ar
 
 pub cut-requires-clause-fewer : goal.cut-requires-clause-fewer
 cut-requires-clause-fewer c =
-    cut_fewer c.args.given.now.asked.now.atoms.now c.args.known.now c.add_assumed.new.known (assumed c.common-assumed.result c.args.given.now.assumptions.now, c.in_ok-add_assumed.ensures.ok) c.ask_left-found.new.known c.vars-vars.result c.vars-vars.ensures.value c.ask_left-found.ensures.kept
+    cut_fewer c.args.given.now.asked.now.atoms.now c.args.known.now c.add_assumed.new.known (assumed c.common-assumed.result c.args.given.now.assumptions.now, c.in_ok-add_assumed.ensures.ok) c.ask_left-found.new.known c.vars-vars.result c.vars-vars.ensures.value c.ask_left-found.ensures.search.kept
 
 pub cut-requires-clause-within : goal.cut-requires-clause-within
 cut-requires-clause-within c =
-    let pushed = c.ask_left-found.ensures.kept ∙ c.in_ok-add_assumed.ensures.ok in
+    let pushed = c.ask_left-found.ensures.search.kept ∙ c.in_ok-add_assumed.ensures.ok in
     subst (λ (k : ℕ). AllByRecursion (IsWithin c.vars-vars.result) (take k c.ask_left-found.new.known.clauses)) (sym c.count-count.ensures)
     (subst (λ (n : ℕ). AllByRecursion (IsWithin n) (take (length c.args.known.now.clauses) c.ask_left-found.new.known.clauses)) (sym c.vars-vars.ensures.value)
     (grown_within c.args.given.now.asked.now.atoms.now c.args.known.now c.ask_left-found.new.known (assumed c.common-assumed.result c.args.given.now.assumptions.now, pushed) c.vars-vars.ensures.kept))
@@ -45,7 +45,7 @@ returns-in_err-entailed-clause-right c = λ fs meant all.
     let set = c.common-assumed.result in
     record {
       lower = all.lower;
-      upper = c.ask_left-found.ensures.right fs set (adds_formulas c.args.given.now.asked.now.atoms.now (assumed set xs) c.args.known.now c.add_assumed.new.known c.vars-vars.ensures.kept (assumed_over c.args.given.now.asked.now.atoms.now set xs c.args.given.now.over) c.in_ok-add_assumed.ensures.ok fs meant) all.upper;
+      upper = c.ask_left-found.ensures.search.right fs set (adds_formulas c.args.given.now.asked.now.atoms.now (assumed set xs) c.args.known.now c.add_assumed.new.known c.vars-vars.ensures.kept (assumed_over c.args.given.now.asked.now.atoms.now set xs c.args.given.now.over) c.in_ok-add_assumed.ensures.ok fs meant) all.upper;
     }
 
 pub returns-in_err-push-clause-right : goal.returns-in_err-push-clause-right
@@ -55,7 +55,7 @@ returns-in_err-push-clause-right c = λ fs meant all.
     let set = c.common-assumed.result in
     record {
       lower = subst (λ (ls : List Lower). AllByRecursion (IsLowerConsequence fs xs gs) ls) (sym c.in_err-push.ensures.items) all.lower;
-      upper = c.ask_left-found.ensures.right fs set (adds_formulas c.args.given.now.asked.now.atoms.now (assumed set xs) c.args.known.now c.add_assumed.new.known c.vars-vars.ensures.kept (assumed_over c.args.given.now.asked.now.atoms.now set xs c.args.given.now.over) c.in_ok-add_assumed.ensures.ok fs meant) all.upper;
+      upper = c.ask_left-found.ensures.search.right fs set (adds_formulas c.args.given.now.asked.now.atoms.now (assumed set xs) c.args.known.now c.add_assumed.new.known c.vars-vars.ensures.kept (assumed_over c.args.given.now.asked.now.atoms.now set xs c.args.given.now.over) c.in_ok-add_assumed.ensures.ok fs meant) all.upper;
     }
 
 pub returns-clause-right : goal.returns-clause-right
@@ -64,7 +64,7 @@ returns-clause-right c = λ fs meant all.
     let gs = map (λ g. formula_of g.now) c.args.given.now.asked.now.beliefs.now in
     let set = c.common-assumed.result in
     let told = adds_formulas c.args.given.now.asked.now.atoms.now (assumed set xs) c.args.known.now c.add_assumed.new.known c.vars-vars.ensures.kept (assumed_over c.args.given.now.asked.now.atoms.now set xs c.args.given.now.over) c.in_ok-add_assumed.ensures.ok fs meant in
-    let upper = c.ask_left-found.ensures.right fs set told all.upper in
+    let upper = c.ask_left-found.ensures.search.right fs set told all.upper in
     let shows : Shows (Theory (with_assumed fs xs set)) gs c.in_ok-entailed.entailed =
     c.in_ok-entailed.ensures.exact (with_assumed fs xs set) told (c.told-told.ensures fs xs all) in
     let l : Lower = record { assumed = set; entailed = c.in_ok-entailed.entailed } in

@@ -12,10 +12,10 @@ use mcs_system::{Name, ProgRule};
 /// The rules of a disjunctive program, the atoms that they are over, each once and at most 64, and
 /// the beliefs that it is asked for, at most 64.
 #[derive(Clone, Copy)]
-pub(crate) struct LogicProgram<'a> {
-    pub(crate) atoms: &'a [Name],
-    pub(crate) rules: &'a [ProgRule],
-    pub(crate) beliefs: &'a [&'a Name],
+pub struct LogicProgram<'a> {
+    pub atoms: &'a [Name],
+    pub rules: &'a [ProgRule],
+    pub beliefs: &'a [&'a Name],
     ghost few: { length atoms.now ≤ 64 },
     ghost different: { has_twins atoms.now ≡ false },
     ghost few_beliefs: { length beliefs.now ≤ 64 },
