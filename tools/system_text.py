@@ -1,7 +1,7 @@
 """Reads the texts of mcs, as docs/LANGUAGE.md has them, for the tools of this folder.
 
-`read` answers the contexts and bridge rules of a text, or raises the first `Fault` of its form (F1) or of its names
-(F2, F3, F4). Limits are the program's matter: a text above one is read all the same.
+`read` answers the contexts and bridge rules of a text, with or without `version 2.`, or raises the first `Fault` of its
+form (F1) or of its names (F2, F3, F4). Limits are the program's matter: a text above one is read all the same.
 
 A formula is a tuple: ("true",), ("false",), ("atom", NAME), ("not", F), or (SIGN, F, G) with a sign of `SIGNS`.
 """
@@ -9,11 +9,12 @@ import re
 import sys
 from collections import namedtuple
 
-RESERVED = set("context bridge classical default program not if true false".split())
-UNUSED = set("version keep closed weight autoepistemic know".split())
+RESERVED = set("context bridge classical default program not if true false version keep closed weight".split())
+MARKS = ("keep", "closed", "weight")
+UNUSED = set("autoepistemic know".split())
 SIGNS = {"&": "and", "|": "or", "->": "implies", "<->": "iff"}
 TOKEN = re.compile(rb"(?P<space>[ \t\r\n]+|#[^\n]*)|(?P<word>[A-Za-z_][A-Za-z0-9_]*)"
-                   rb"|(?P<sign><->|->|:-|[{}.,:/|&~()])|(?P<stray>.)", re.DOTALL)
+                   rb"|(?P<number>[0-9]+)|(?P<sign><->|->|:-|[{}.,:/|&~()])|(?P<stray>.)", re.DOTALL)
 
 sys.setrecursionlimit(10000)
 
@@ -22,7 +23,8 @@ Context = namedtuple("Context", "name kind items")
 Default = namedtuple("Default", "before unless_denied then")
 Rule = namedtuple("Rule", "heads reads denied")
 Read = namedtuple("Read", "context belief")
-Bridge = namedtuple("Bridge", "name context head reads denied")
+# A rule that is kept may not be dropped, one that is closed may not be forced; the weight is what a change of it costs.
+Bridge = namedtuple("Bridge", "name context head reads denied keep closed weight", defaults=(False, False, 1))
 System = namedtuple("System", "contexts bridges")
 
 
@@ -71,6 +73,7 @@ class Reader:
     def __init__(self, data):
         self.tokens, self.at = tokens_of(data), 0
         self.kinds, self.names = {}, set()
+        self.has_version = False
 
     @property
     def next(self):
@@ -81,7 +84,7 @@ class Reader:
         return self.tokens[self.at - 1]
 
     def sees(self, *texts):
-        return self.next.kind in ("word", "sign") and self.next.text in texts
+        return self.next.kind in ("word", "number", "sign") and self.next.text in texts
 
     def takes(self, text):
         """Takes the next token where it is this one."""
@@ -106,18 +109,29 @@ class Reader:
             self.out_of_place(wanted or f"`{text}`")
 
     def name(self, wanted="a name"):
+        if self.sees(*MARKS):
+            self.fault(1, f"`{self.next.text}` is reserved: {wanted} is wanted")
         if self.next.kind != "word" or self.next.text in RESERVED | UNUSED:
             self.out_of_place(wanted)
         return self.take().text
 
+    def version(self):
+        self.has_version = self.takes("version")
+        if self.has_version:
+            self.sign("2")
+            self.sign(".")
+
     def system(self):
         contexts, bridges = [], []
+        self.version()
         while self.takes("context"):
             contexts.append(self.context())
         while self.takes("bridge"):
             bridges.append(self.bridge())
         if self.sees("context"):
             self.fault(1, "`context` can't stand here: contexts come before the bridge rules")
+        if self.sees("version"):
+            self.fault(1, "`version` can't stand here: it comes before everything else")
         if self.next.kind != "end":
             self.out_of_place("`bridge`" if bridges else "`context` or `bridge`")
         return System(contexts, bridges)
@@ -178,7 +192,7 @@ class Reader:
             self.fault(3, "an earlier bridge rule has this name")
         name = self.name("the name of a bridge rule")
         self.names.add(name)
-        self.sign(":")
+        marks = self.marks()
         target, head = self.place()
         reads, denied = [], []
         if self.takes("if"):
@@ -187,7 +201,26 @@ class Reader:
                 if not self.takes(","):
                     break
         self.sign(".", "`,` or `.`" if reads or denied else "`if` or `.`")
-        return Bridge(name, target, head, reads, denied)
+        return Bridge(name, target, head, reads, denied, *marks)
+
+    def marks(self):
+        """What a rule says of itself before the colon: whether it is kept, whether it is closed, and its weight."""
+        if not self.has_version:
+            if self.sees(*MARKS):
+                self.fault(1, f"only a text that begins with `version 2.` says `{self.next.text}` of a rule: `:` is wanted")
+            self.sign(":")
+            return False, False, 1
+        keep, closed = self.takes("keep"), self.takes("closed")
+        weight = self.weight() if self.takes("weight") else None
+        may_follow = MARKS[3 if weight is not None else 2 if closed else 1 if keep else 0:]
+        self.sign(":", ", ".join(f"`{word}`" for word in may_follow) + " or `:`" if may_follow else None)
+        return keep, closed, 1 if weight is None else weight
+
+    def weight(self):
+        if self.next.kind != "number" or self.next.text.startswith("0"):
+            self.out_of_place("a number from 1 on, without a `0` before it,")
+        # One of so many digits is above the limit, whatever they are.
+        return int(self.take().text[:20])
 
     def place(self):
         at = self.next
@@ -282,9 +315,14 @@ def belief(formula):
     return f"({belief(formula[1])} {sign} {belief(formula[2])})"
 
 
+def marks_of(bridge):
+    """What a rule says of itself, as its text has it: a weight of 1 is not said."""
+    return ["keep"] * bridge.keep + ["closed"] * bridge.closed + [f"weight {bridge.weight}"] * (bridge.weight != 1)
+
+
 def bridge_text(bridge):
     """A bridge rule as one line of a text."""
     places = [f"{read.context}:{belief(read.belief)}" for read in bridge.reads]
     places += [f"not {read.context}:{belief(read.belief)}" for read in bridge.denied]
-    line = f"bridge {bridge.name}: {bridge.context}:{belief(bridge.head)}"
+    line = " ".join([f"bridge {bridge.name}", *marks_of(bridge)]) + f": {bridge.context}:{belief(bridge.head)}"
     return line + (" if " + ", ".join(places) if places else "") + "."

@@ -52,6 +52,25 @@ class Draw(Ground):
         self.assertIn("shape=circle", self.line(graph, '"rule s" ['))
         self.line(graph, '"rule s" -> "context c" [label="s"')
 
+    def test_what_rules_say_of_themselves(self):
+        graph = self.text("version 2. context c program { a. } context d program {} bridge k keep: d:p if c:a.\n"
+                          "bridge l closed: d:q if c:a. bridge m weight 30: d:r if c:a. bridge n weight 1: d:s if c:a.\n"
+                          "bridge o keep closed weight 2: d:t if c:a, not d:q.")
+        kept = self.line(graph, '"context c" -> "context d" [label="k\\nkeep"')
+        self.assertIn('color="black:invis:black"', kept)
+        self.assertNotIn("arrowhead", kept)
+        self.assertIn('tooltip="bridge k keep: d:p if c:a."', kept)
+        closed = self.line(graph, '"context c" -> "context d" [label="l\\nclosed"')
+        self.assertIn("arrowhead=onormal", closed)
+        self.assertIn('color="black"', closed)
+        self.assertIn('color="black"', self.line(graph, '"context c" -> "context d" [label="m\\nweight 30"'))
+        plain = self.line(graph, '"context c" -> "context d" [label="n", ')
+        self.assertIn('tooltip="bridge n: d:s if c:a."', plain)
+        both = self.line(graph, '"rule o" -> "context d"')
+        self.assertIn('label="o\\nkeep closed weight 2", color="black:invis:black"', both)
+        self.assertIn("arrowhead=onormal", both)
+        self.assertIn('color="black"', self.line(graph, '"rule o" ['))
+
     def test_all_kinds_formulas_comments_and_line_ends(self):
         graph = self.text("# \u00fc \"x\"\r\ncontext a classical {p<->~q&(r|true)->false. }\t# {\r\n"
                           "context b default { p : q, ~r / s. p. }\ncontext node program { x | y :- z, not w. :- . }\n"

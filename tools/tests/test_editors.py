@@ -15,6 +15,7 @@ bridge admit: ward:admitted if clinic:patient,
   not clinic : (a <-> ~b).
 bridge open: ward:x if
 bridge next: ward:y. ? know
+version 2. bridge safe keep closed weight 30: ward:z.
 """
 
 # The line of the text, the word there, and what it is to be taken for.
@@ -28,6 +29,8 @@ TAKEN = [
     (7, "not", "mcsLogic"), (7, "clinic", "mcsPlace"), (7, "<->", "mcsOperator"), (7, "b", "mcsName"),
     (8, "open", "mcsRuleName"), (9, "bridge", "mcsDeclare"), (9, "next", "mcsRuleName"), (9, "ward", "mcsPlace"),
     (9, "?", "mcsStray"), (9, "know", "mcsReserved"),
+    (10, "version", "mcsVersion"), (10, "2", "mcsNumber"), (10, "safe", "mcsRuleName"), (10, "keep", "mcsMark"),
+    (10, "closed", "mcsMark"), (10, "weight", "mcsMark"), (10, "30", "mcsNumber"), (10, "z", "mcsName"),
 ]
 
 ASK = """\

@@ -73,6 +73,20 @@ class Where(Ground):
             text = "context d classical {}\n" + text
             place, _, _ = self.told(text, f"mcs: refused: F1 at {23 + text[23:].index(word)}")
             self.assertEqual(place.split(": ", 1)[1], "F1: " + sentence)
+        for text, offset, sentence in [
+            ("version 3.", 8, "`3` can't stand here: `2` is wanted"),
+            ("version 2. context c program {} bridge r weight 0: c:a.", 48,
+             "`0` can't stand here: a number from 1 on, without a `0` before it, is wanted"),
+            ("version 2. context c program {} bridge r closed keep: c:a.", 48,
+             "`keep` can't stand here: `weight` or `:` is wanted"),
+            ("context c program {} bridge r keep: c:a.", 30,
+             "only a text that begins with `version 2.` says `keep` of a rule: `:` is wanted"),
+            ("context c program {} version 2.", 21, "`version` can't stand here: it comes before everything else"),
+            ("context c program { weight. }", 20, "`weight` is reserved: a rule or `}` is wanted"),
+            ("context c program { 7. }", 20, "`7` can't stand here: a rule or `}` is wanted"),
+        ]:
+            place, _, _ = self.told(text, f"mcs: refused: F1 at {offset}")
+            self.assertEqual(place, f"1:{offset + 1}: F1: {sentence}")
         text = "bridge r: c:p.\ncontext c classical {}\n"
         self.assertEqual(self.told(text, "mcs: refused: F2 at 10")[0],
                          "1:11: F2: the context of this name comes too late: contexts come before the bridge rules")

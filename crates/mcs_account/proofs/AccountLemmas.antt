@@ -1,5 +1,5 @@
 -- What the code of the account does to what it holds.
-use Rattle.std.proofs.Common.{◌≡◌, ℕ, zero, suc, ◌+◌, ◌-◌, ◌<◌, Bool, true, false, drop, List, [], ◌∷◌, ◌++◌, map, reverse, length, get_or, set, refl, sym, ap, subst, ◌∙◌, arith, append_assoc, append-nil, true≢false}
+use Rattle.std.proofs.Common.{◌≡◌, ℕ, zero, suc, ◌+◌, ◌-◌, ◌<◌, Bool, true, false, drop, List, [], ◌∷◌, ◌++◌, map, reverse, length, get_or, set, refl, sym, ap, ◌∙◌, arith, append_assoc, append-nil, true≢false}
 use Rattle.std.specs.Prelude.{min}
 use Rattle.std.specs.List.{position_or_len, remove}
 use Rattle.std.specs.Str.{bytes_eq}
@@ -37,9 +37,6 @@ module _ {A B : Type 0} (g : A → B) (f : B → B) where
 
   pub last-image : (xs : List A) (n : ℕ) (x y : A) → n ≡ length xs → 0 < n → x ≡ get_or xs (n - 1) x → g y ≡ f (g x) → map g (set xs (n - 1) y) ≡ in_last f (map g xs)
   last-image xs n x y many some is h = last-at xs (n - 1) x y (omega arith) is h
-
-  pub last-none : (xs : List A) → length xs ≡ 0 → map g xs ≡ in_last f (map g xs)
-  last-none xs e = subst (λ (l : List A). map g l ≡ in_last f (map g l)) (sym (nil_from_length xs e)) refl
 
 -- ---- items
 abbrev default_of : plain.Formula → List plain.Formula → plain.Formula → plain.Item

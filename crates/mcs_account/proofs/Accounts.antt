@@ -1,23 +1,24 @@
 -- What is written is accounted for: after it stands what it says.
-use Rattle.std.proofs.Common.{◌≡◌, ℕ, ◌<◌, ◌≤◌, Bool, true, false, codes, List, [], ◌∷◌, ◌++◌, map, length, Some, refl, sym, ap, ◌∙◌, inl, inr, ◌⊎◌, arith, append_assoc, append-nil}
+use Rattle.std.proofs.Common.{◌≡◌, ℕ, ◌<◌, ◌≤◌, Bool, true, false, cond, codes, Option, None, List, [], ◌∷◌, ◌++◌, map, length, Some, refl, sym, ap, ◌∙◌, inl, inr, ◌⊎◌, arith, append_assoc, append-nil}
 use Rattle.std.proofs.lemmas.List.{length-map}
 use Rattle.std.specs.List.{flat_map, position, position_or_len, AllByRecursion}
 use Rattle.std.proofs.lemmas.Bool.Decides.{nat_tests}
 use Rattle.std.proofs.lemmas.Slice.Eq.{bytes_eq-Decides}
+use Rattle.std.specs.Str.{bytes_eq}
 use Rattle.mcs_base.specs.Listings.{IsAmong}
 use Rattle.mcs_system.specs.Plain.{Name}
 use Rattle.mcs_system.specs.Plain as plain
 use Rattle.mcs_system.specs.Logic.{same_name}
-use Rattle.mcs_grammar.specs.Written.{Written, True', False', Named, Denied, Grouped, Both, Either, Leads, Equals, WrittenPlace, WrittenRead, WrittenBridge}
+use Rattle.mcs_grammar.specs.Written.{Written, True', False', Named, Denied, Grouped, Both, Either, Leads, Equals, WrittenPlace, WrittenRead, WrittenMarks, WrittenBridge}
 use Rattle.mcs_grammar.specs.Entries.{Token, formula_in}
-use Rattle.mcs_grammar.specs.Saying.{SaysPlace, SaysBridge, Each, positive_places, negative_places}
+use Rattle.mcs_grammar.specs.Saying.{weight_said, SaysPlace, SaysBridge, Each, positive_places, negative_places}
 use Rattle.mcs_productions.specs.declared.class.Class.{Class}
 use Rattle.mcs_productions.specs.declared.class.Class.TheVariants as class
 use Rattle.mcs_productions.specs.declared.production.Action.{Action}
 use Rattle.mcs_productions.specs.declared.production.Action.TheVariants as action
 use Rattle.mcs_account.specs.Mark.{Seen, Said}
-use Rattle.mcs_account.specs.Marks.{Marked, formula_marks, two_marks, belief_marks, denial_marks, read_marks, further_marks, reads_marks, bridge_marks}
-use Rattle.mcs_account.specs.Account.{Account, number_of, the_read, pushed, took, told, account_step, accounted, in_last, named_rule, with_target, with_read}
+use Rattle.mcs_account.specs.Marks.{Marked, formula_marks, two_marks, belief_marks, denial_marks, read_marks, further_marks, reads_marks, tail_marks, word_marks, weight_marks, own_marks, bridge_marks}
+use Rattle.mcs_account.specs.Account.{Account, number_of, the_read, pushed, took, told, account_step, accounted, in_last, named_rule, with_keep, with_closed, weight_of, with_weight, with_target, with_read}
 
 pub accounted-append : (a : Account) (ms ns : Marked) → accounted a (ms ++ ns) ≡ accounted (accounted a ms) ns
 accounted-append a [] ns = refl
@@ -46,8 +47,15 @@ formula-accounts (Equals f g) a = two-account class.Equates (codes "<->") action
 abbrev pub read_said : List plain.Context → WrittenPlace → plain.Read
 read_said cs p = the_read (number_of cs p.context) (formula_in p.belief)
 
+abbrev pub weight_in : Option Token → ℕ
+weight_in None = 1
+weight_in (Some digits) = weight_of digits
+
+abbrev pub the_rule : Name → ℕ → plain.Formula → (pos neg : List plain.Read) → (keep closed : Bool) → ℕ → plain.Bridge
+the_rule name target head pos neg keep closed weight = record { name = name; target = target; head = head; pos = pos; neg = neg; keep = keep; closed = closed; weight = weight }
+
 abbrev pub bridge_said : List plain.Context → WrittenBridge → plain.Bridge
-bridge_said cs b = plain.plain_rule b.name (number_of cs b.head.context) (formula_in b.head.belief) (map (read_said cs) (positive_places b.reads)) (map (read_said cs) (negative_places b.reads))
+bridge_said cs b = the_rule b.name (number_of cs b.head.context) (formula_in b.head.belief) (map (read_said cs) (positive_places b.reads)) (map (read_said cs) (negative_places b.reads)) b.marks.keep b.marks.closed (weight_in b.marks.weight)
 
 pub last-changed : {A : Type 0} (f : A → A) (xs : List A) (x : A) → in_last f (xs ++ x ∷ []) ≡ xs ++ f x ∷ []
 last-changed f [] x = refl
@@ -57,6 +65,58 @@ last-changed f (y ∷ z ∷ xs) x = ap (λ l. y ∷ l) (last-changed f (z ∷ xs
 -- the last rule so far is this one, which may still grow
 abbrev pub growing : Account → ℕ → plain.Bridge → Account
 growing a source x = record a { bridges = a.bridges ++ x ∷ []; denied = false; source = source }
+
+-- what a rule says of itself
+abbrev keep_if : Bool → plain.Bridge → plain.Bridge
+keep_if true x = with_keep x
+keep_if false x = x
+
+abbrev closed_if : Bool → plain.Bridge → plain.Bridge
+closed_if true x = with_closed x
+closed_if false x = x
+
+abbrev weight_if : Option Token → plain.Bridge → plain.Bridge
+weight_if None x = x
+weight_if (Some digits) x = with_weight (weight_of digits) x
+
+keep-account : (a : Account) (k : ℕ) (x : plain.Bridge) (b : Bool) (ms : Marked) → accounted (growing a k x) (word_marks class.Keeps (codes "keep") b ++ ms) ≡ accounted (growing a k (keep_if b x)) ms
+keep-account a k x true ms = ap (λ l. accounted (record a { bridges = l; denied = false; source = k }) ms) (last-changed with_keep a.bridges x)
+keep-account a k x false ms = refl
+
+closed-account : (a : Account) (k : ℕ) (x : plain.Bridge) (b : Bool) (ms : Marked) → accounted (growing a k x) (word_marks class.Closes (codes "closed") b ++ ms) ≡ accounted (growing a k (closed_if b x)) ms
+closed-account a k x true ms = ap (λ l. accounted (record a { bridges = l; denied = false; source = k }) ms) (last-changed with_closed a.bridges x)
+closed-account a k x false ms = refl
+
+weight-account : (a : Account) (k : ℕ) (x : plain.Bridge) (w : Option Token) (ms : Marked) → accounted (growing a k x) (weight_marks w ++ ms) ≡ accounted (growing a k (weight_if w x)) ms
+weight-account a k x None ms = refl
+weight-account a k x (Some digits) ms =
+    ap (λ (c : Account). accounted c ms) (at (bytes_eq digits (codes "2"))) ∙ ap (λ l. accounted (record a { bridges = l; denied = false; source = k }) ms) (last-changed (with_weight (weight_of digits)) a.bridges x)
+  where
+    at : (b : Bool) → took (growing a k x) (cond b class.WeighsTwo class.Weighs) digits ≡ record (growing a k x) { bridges = in_last (with_weight (weight_of digits)) (a.bridges ++ x ∷ []) }
+    at true = refl
+    at false = refl
+
+abbrev marked_rule : WrittenBridge → plain.Bridge
+marked_rule b = the_rule b.name 0 plain.Truth [] [] b.marks.keep b.marks.closed (weight_in b.marks.weight)
+
+own-account : (a : Account) (k : ℕ) (b : WrittenBridge) (ms : Marked) → accounted (growing a k (named_rule b.name)) (own_marks b.marks ms) ≡ accounted (growing a k (marked_rule b)) ms
+own-account a k b ms =
+    let x : plain.Bridge = named_rule b.name in
+    let m : WrittenMarks = b.marks in
+    keep-account a k x m.keep (word_marks class.Closes (codes "closed") m.closed ++ (weight_marks m.weight ++ ms))
+    ∙ closed-account a k (keep_if m.keep x) m.closed (weight_marks m.weight ++ ms)
+    ∙ weight-account a k (closed_if m.closed (keep_if m.keep x)) m.weight ms
+    ∙ ap (λ (r : plain.Bridge). accounted (growing a k r) ms) (at m.keep m.closed m.weight)
+  where
+    at : (k c : Bool) (w : Option Token) → weight_if w (closed_if c (keep_if k (named_rule b.name))) ≡ the_rule b.name 0 plain.Truth [] [] k c (weight_in w)
+    at true true None = refl
+    at true true (Some digits) = refl
+    at true false None = refl
+    at true false (Some digits) = refl
+    at false true None = refl
+    at false true (Some digits) = refl
+    at false false None = refl
+    at false false (Some digits) = refl
 
 -- one read more
 abbrev read_more : Account → WrittenRead → plain.Bridge → plain.Bridge
@@ -100,9 +160,9 @@ idle a source = record a { operands = []; denied = false; source = source }
 
 pub bridge-accounts : (a : Account) (k : ℕ) (b : WrittenBridge) → (source : ℕ) × (accounted (idle a k) (bridge_marks b) ≡ record (idle a source) { bridges = a.bridges ++ bridge_said a.contexts b ∷ [] })
 bridge-accounts a k b =
-    let x : plain.Bridge = with_target (number_of a.contexts b.head.context) (named_rule b.name) in
+    let x : plain.Bridge = with_target (number_of a.contexts b.head.context) (marked_rule b) in
     let q = reads-account (record a { operands = formula_in b.head.belief ∷ [] }) k x b.reads in
-    (q.0, simp (last-changed, accounted-append, formula-accounts, q.1))
+    (q.0, own-account (record a { operands = [] }) k b (tail_marks b.head b.reads) ∙ simp (last-changed, accounted-append, formula-accounts, q.1))
 
 -- ---- which is what the rule says, where its contexts are known
 found : (n : Name) (names : List Name) → IsAmong n names → position_or_len (same_name n) names < length names
@@ -132,12 +192,19 @@ said-reads : (cs : List plain.Context) (ps : List WrittenPlace) → length cs �
 said-reads cs [] few h = tt
 said-reads cs (p ∷ ps) few h = (record { number = is-number cs p.context few h.0; belief = refl }, said-reads cs ps few h.1)
 
-pub bridge-says : (cs : List plain.Context) (b : WrittenBridge) → length cs ≤ 64 → IsAmong b.head.context (names_in cs) → AllByRecursion (λ (p : WrittenPlace). IsAmong p.context (names_in cs)) (positive_places b.reads)
+-- a weight that the limit allows is as it is spelled
+pub weight-known : (w : Option Token) → weight_said w ≤ 1000000 → weight_in w ≡ weight_said w
+weight-known None light = refl
+weight-known (Some digits) light = omega (arith, light)
+
+pub bridge-says : (cs : List plain.Context) (b : WrittenBridge) → length cs ≤ 64 → weight_said b.marks.weight ≤ 1000000 → IsAmong b.head.context (names_in cs) → AllByRecursion (λ (p : WrittenPlace). IsAmong p.context (names_in cs)) (positive_places b.reads)
     → AllByRecursion (λ (p : WrittenPlace). IsAmong p.context (names_in cs)) (negative_places b.reads) → SaysBridge (names_in cs) b (bridge_said cs b)
-bridge-says cs b few h pos neg = record {
+bridge-says cs b few light h pos neg = record {
   named = refl;
   head = record { number = is-number cs b.head.context few h; belief = refl };
   pos = said-reads cs (positive_places b.reads) few pos;
   neg = said-reads cs (negative_places b.reads) few neg;
-  unmarked = refl;
+  keep = refl;
+  closed = refl;
+  weight = weight-known b.marks.weight light;
 }

@@ -1,11 +1,12 @@
 -- What the tokens of a bridge rule are there for.
-use Rattle.std.proofs.Common.{◌≡◌, Bool, true, codes, List, [], ◌∷◌, ◌++◌, refl, sym, ap, ◌∙◌, inl, inr, ◌⊎◌, subst}
+use Rattle.std.proofs.Common.{◌≡◌, Bool, true, codes, Option, Some, None, List, [], ◌∷◌, ◌++◌, refl, sym, ap, ◌∙◌, inl, inr, ◌⊎◌, subst}
 use Rattle.std.specs.List.{flat_map}
 use Rattle.mcs_base.specs.Listings.{IsAmong}
+use Rattle.mcs_base.specs.Numbers.{value_of_digits}
 use Rattle.mcs_base.proofs.Among.{among_left, among_right, among_either}
 use Rattle.mcs_system.specs.Plain.{Name}
-use Rattle.mcs_grammar.specs.Written.{WrittenPlace, WrittenRead, WrittenBridge}
-use Rattle.mcs_grammar.specs.Entries.{Use, BeginsBridge, NamesBridge, NamesTarget, NamesSource, BeginsBelief, EndsRead, Entry, entry, with_last, formula_in, whole_entries, place_entries, read_entries, further_read, reads_entries, bridge_entries, uses_of}
+use Rattle.mcs_grammar.specs.Written.{WrittenPlace, WrittenRead, WrittenMarks, WrittenBridge}
+use Rattle.mcs_grammar.specs.Entries.{Token, Use, BeginsBridge, NamesBridge, Weighs, NamesTarget, NamesSource, BeginsBelief, EndsRead, Entry, entry, with_last, formula_in, whole_entries, place_entries, read_entries, further_read, reads_entries, optional, weight_entries, mark_entries, bridge_entries, uses_of}
 use Rattle.mcs_account.proofs.EntryLists.{formula-some, uses-append, uses-first, uses-end, among-last, last-among, among-append, append-left, append-right, among-parts, parts-among}
 use Rattle.mcs_account.proofs.RuleUses.{optional-uses}
 use Rattle.mcs_account.proofs.ContextUses.{formula_uses, in_formula, formula-in}
@@ -72,6 +73,7 @@ uses-reads target (q ∷ rs) u r (inr there) h = append-right u (read_entries ta
 pub data BridgeUse (b : WrittenBridge) (u : Use) : Type 0 where
   OfBridge : (is : u ≡ BeginsBridge) → BridgeUse b u
   OfName : (is : u ≡ NamesBridge b.name) → BridgeUse b u
+  OfWeight : (digits : Token) (said : b.marks.weight ≡ Some digits) (is : u ≡ Weighs (value_of_digits digits)) → BridgeUse b u
   OfHead : (here : IsPlaceUse (NamesTarget (b.head).context) b.head u) → BridgeUse b u
   OfRead : (r : WrittenRead) (there : IsAmong r b.reads) (here : IsReadUse (b.head).context r u) → BridgeUse b u
 
@@ -81,16 +83,36 @@ head_part b = place_entries (NamesTarget (b.head).context) b.head
 abbrev pub reads_part : WrittenBridge → List Entry
 reads_part b = reads_entries (b.head).context b.reads
 
-pub bridge-all : (b : WrittenBridge) → uses_of (bridge_entries b) ≡ BeginsBridge ∷ NamesBridge b.name ∷ (uses_of (head_part b) ++ uses_of (reads_part b))
+-- the use of the number of a weight
+abbrev pub weight_uses : Option Token → List Use
+weight_uses None = []
+weight_uses (Some digits) = Weighs (value_of_digits digits) ∷ []
+
+mark-all : (m : WrittenMarks) (es : List Entry) → uses_of (mark_entries m ++ es) ≡ weight_uses m.weight ++ uses_of es
+mark-all m es = uses-append (mark_entries m) es ∙ ap (λ (us : List Use). us ++ uses_of es)
+    (optional-uses m.keep (codes "keep") (optional m.closed (codes "closed") ++ weight_entries m.weight) ∙ optional-uses m.closed (codes "closed") (weight_entries m.weight) ∙ at m.weight)
+  where
+    at : (w : Option Token) → uses_of (weight_entries w) ≡ weight_uses w
+    at None = refl
+    at (Some digits) = refl
+
+pub bridge-all : (b : WrittenBridge) → uses_of (bridge_entries b) ≡ BeginsBridge ∷ NamesBridge b.name ∷ (weight_uses b.marks.weight ++ (uses_of (head_part b) ++ uses_of (reads_part b)))
 bridge-all b = ap (λ (us : List Use). BeginsBridge ∷ NamesBridge b.name ∷ us)
-    (uses-append (head_part b) (reads_part b ++ entry (codes ".") [] ∷ []) ∙ ap (λ (us : List Use). uses_of (head_part b) ++ us) (uses-end (reads_part b) (entry (codes ".") []) refl))
+    (mark-all b.marks (entry (codes ":") [] ∷ (head_part b ++ (reads_part b ++ entry (codes ".") [] ∷ [])))
+    ∙ ap (λ (us : List Use). weight_uses b.marks.weight ++ us)
+    (uses-append (head_part b) (reads_part b ++ entry (codes ".") [] ∷ []) ∙ ap (λ (us : List Use). uses_of (head_part b) ++ us) (uses-end (reads_part b) (entry (codes ".") []) refl)))
 
 -- what comes after the name of the head's context
 abbrev pub later_uses : WrittenBridge → List Use
 later_uses b = BeginsBelief (b.head).context ∷ (formula_uses (b.head).context (b.head).belief ++ uses_of (reads_part b))
 
-pub bridge-front : (b : WrittenBridge) → uses_of (bridge_entries b) ≡ BeginsBridge ∷ NamesBridge b.name ∷ NamesTarget (b.head).context ∷ later_uses b
-bridge-front b = bridge-all b ∙ ap (λ (us : List Use). BeginsBridge ∷ NamesBridge b.name ∷ (us ++ uses_of (reads_part b))) (place-all (NamesTarget (b.head).context) b.head)
+pub bridge-front : (b : WrittenBridge) → uses_of (bridge_entries b) ≡ BeginsBridge ∷ NamesBridge b.name ∷ (weight_uses b.marks.weight ++ NamesTarget (b.head).context ∷ later_uses b)
+bridge-front b = bridge-all b ∙ ap (λ (us : List Use). BeginsBridge ∷ NamesBridge b.name ∷ (weight_uses b.marks.weight ++ (us ++ uses_of (reads_part b)))) (place-all (NamesTarget (b.head).context) b.head)
+
+weight-said : (b : WrittenBridge) (u : Use) (w : Option Token) → b.marks.weight ≡ w → IsAmong u (weight_uses w) → BridgeUse b u
+weight-said b u None is h = absurd h
+weight-said b u (Some digits) is (inl e) = OfWeight digits is e
+weight-said b u (Some digits) is (inr none) = absurd none
 
 pub bridge-uses : (b : WrittenBridge) (u : Use) → IsAmong u (uses_of (bridge_entries b)) → BridgeUse b u
 bridge-uses b u h = at (subst (IsAmong u) (bridge-all b) h)
@@ -99,19 +121,27 @@ bridge-uses b u h = at (subst (IsAmong u) (bridge-all b) h)
     rest (inl a) = OfHead (place-uses (NamesTarget (b.head).context) b.head u a)
     rest (inr c) = let (r, there, here) = reads-uses (b.head).context b.reads u c in OfRead r there here
 
-    at : (u ≡ BeginsBridge) ⊎ ((u ≡ NamesBridge b.name) ⊎ IsAmong u (uses_of (head_part b) ++ uses_of (reads_part b))) → BridgeUse b u
+    later : IsAmong u (weight_uses b.marks.weight) ⊎ IsAmong u (uses_of (head_part b) ++ uses_of (reads_part b)) → BridgeUse b u
+    later (inl a) = weight-said b u b.marks.weight refl a
+    later (inr c) = rest (among_either u (uses_of (head_part b)) (uses_of (reads_part b)) c)
+
+    at : (u ≡ BeginsBridge) ⊎ ((u ≡ NamesBridge b.name) ⊎ IsAmong u (weight_uses b.marks.weight ++ (uses_of (head_part b) ++ uses_of (reads_part b)))) → BridgeUse b u
     at (inl e) = OfBridge e
     at (inr (inl e)) = OfName e
-    at (inr (inr later)) = rest (among_either u (uses_of (head_part b)) (uses_of (reads_part b)) later)
+    at (inr (inr h)) = later (among_either u (weight_uses b.marks.weight) (uses_of (head_part b) ++ uses_of (reads_part b)) h)
 
 pub uses-bridge : (b : WrittenBridge) (u : Use) → BridgeUse b u → IsAmong u (uses_of (bridge_entries b))
 uses-bridge b u h = subst (IsAmong u) (sym (bridge-all b)) (at h)
   where
-    at : BridgeUse b u → (u ≡ BeginsBridge) ⊎ ((u ≡ NamesBridge b.name) ⊎ IsAmong u (uses_of (head_part b) ++ uses_of (reads_part b)))
+    after : IsAmong u (uses_of (head_part b) ++ uses_of (reads_part b)) → IsAmong u (weight_uses b.marks.weight ++ (uses_of (head_part b) ++ uses_of (reads_part b)))
+    after h = among_right u (weight_uses b.marks.weight) (uses_of (head_part b) ++ uses_of (reads_part b)) h
+
+    at : BridgeUse b u → (u ≡ BeginsBridge) ⊎ ((u ≡ NamesBridge b.name) ⊎ IsAmong u (weight_uses b.marks.weight ++ (uses_of (head_part b) ++ uses_of (reads_part b))))
     at (OfBridge is) = inl is
     at (OfName is) = inr (inl is)
-    at (OfHead here) = inr (inr (among_left u (uses_of (head_part b)) (uses_of (reads_part b)) (uses-place (NamesTarget (b.head).context) b.head u here)))
-    at (OfRead r there here) = inr (inr (among_right u (uses_of (head_part b)) (uses_of (reads_part b)) (uses-reads (b.head).context b.reads u r there here)))
+    at (OfWeight digits said is) = inr (inr (among_left u (weight_uses b.marks.weight) (uses_of (head_part b) ++ uses_of (reads_part b)) (subst (λ (w : Option Token). IsAmong u (weight_uses w)) (sym said) (inl is))))
+    at (OfHead here) = inr (inr (after (among_left u (uses_of (head_part b)) (uses_of (reads_part b)) (uses-place (NamesTarget (b.head).context) b.head u here))))
+    at (OfRead r there here) = inr (inr (after (among_right u (uses_of (head_part b)) (uses_of (reads_part b)) (uses-reads (b.head).context b.reads u r there here))))
 
 -- ---- of which kind they are
 abbrev pub in_place : Use → Bool
@@ -126,6 +156,7 @@ in_read u = in_place u
 abbrev pub in_bridge : Use → Bool
 in_bridge BeginsBridge = true
 in_bridge (NamesBridge b) = true
+in_bridge (Weighs w) = true
 in_bridge (NamesTarget c) = true
 in_bridge u = in_read u
 
@@ -141,6 +172,7 @@ read-more u h = h
 bridge-more : (u : Use) → in_read u ≡ true → in_bridge u ≡ true
 bridge-more BeginsBridge h = refl
 bridge-more (NamesBridge b) h = refl
+bridge-more (Weighs w) h = refl
 bridge-more (NamesTarget c) h = refl
 bridge-more u h = h
 
@@ -164,6 +196,7 @@ later-in b u (inr later) = at (among_either u (formula_uses (b.head).context (b.
 pub bridge-in : (b : WrittenBridge) (u : Use) → BridgeUse b u → in_bridge u ≡ true
 bridge-in b u (OfBridge is) = ap in_bridge is
 bridge-in b u (OfName is) = ap in_bridge is
+bridge-in b u (OfWeight digits said is) = ap in_bridge is
 bridge-in b u (OfHead (inl e)) = ap in_bridge e
 bridge-in b u (OfHead (inr h)) = bridge-more u (read-more u (place-in b.head u h))
 bridge-in b u (OfRead r there here) = bridge-more u (read-in (b.head).context r u here)

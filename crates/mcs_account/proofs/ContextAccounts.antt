@@ -9,7 +9,7 @@ use Rattle.mcs_grammar.specs.Entries.{formula_in}
 use Rattle.mcs_grammar.specs.Saying.{default_said, item_in, positive_atoms, negative_atoms, rule_in, kb_in, context_in}
 use Rattle.mcs_productions.specs.declared.class.Class.TheVariants as class
 use Rattle.mcs_account.specs.Mark.{Seen}
-use Rattle.mcs_account.specs.Marks.{Marked, formula_marks, after_marks, default_marks, item_marks, head_marks, further_head_marks, literal_denial, literal_marks, further_literal_marks, sign_marks, rule_marks, ended_marks, kb_marks, context_marks, bridge_marks, text_marks}
+use Rattle.mcs_account.specs.Marks.{Marked, formula_marks, after_marks, default_marks, item_marks, head_marks, further_head_marks, literal_denial, literal_marks, further_literal_marks, sign_marks, rule_marks, ended_marks, kb_marks, context_marks, bridge_marks, version_marks, text_marks}
 use Rattle.mcs_account.specs.Account.{Account, no_account, no_rule, pushed, in_last, with_kb, item_of, more_kb, with_item, with_literal, accounted}
 use Rattle.mcs_account.proofs.Courses.{all-of}
 use Rattle.mcs_account.proofs.Accounts.{accounted-append, formula-accounts, last-changed, bridge_said, idle, bridge-accounts}
@@ -147,10 +147,14 @@ bridges-account a k (b ∷ bs) =
           ∙ ap (λ l. record (resting a more.0) { bridges = l }) (append_assoc a.bridges (bridge_said a.contexts b ∷ []) (map (bridge_said a.contexts) bs)),
     )
 
+version-account : (v : Bool) (ms : Marked) → accounted no_account (version_marks v ++ ms) ≡ accounted no_account ms
+version-account true ms = refl
+version-account false ms = refl
+
 -- what a whole text says
 pub text-accounts : (t : WrittenText) → IsText t
     → (source : ℕ) × (accounted no_account (text_marks t) ≡ record no_account { contexts = map context_in t.contexts; bridges = map (bridge_said (map context_in t.contexts)) t.bridges; source = source })
 text-accounts t h =
     let cs : List plain.Context = map context_in t.contexts in
     let more = bridges-account (record no_account { contexts = cs }) 0 t.bridges in
-    (more.0, accounted-append no_account (flat_map context_marks t.contexts) (flat_map bridge_marks t.bridges) ∙ ap (λ (x : Account). accounted x (flat_map bridge_marks t.bridges)) (contexts-account no_account 0 t.contexts h.0) ∙ more.1)
+    (more.0, version-account t.has_version (flat_map context_marks t.contexts ++ flat_map bridge_marks t.bridges) ∙ accounted-append no_account (flat_map context_marks t.contexts) (flat_map bridge_marks t.bridges) ∙ ap (λ (x : Account). accounted x (flat_map bridge_marks t.bridges)) (contexts-account no_account 0 t.contexts h.0) ∙ more.1)

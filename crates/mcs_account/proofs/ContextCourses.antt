@@ -5,10 +5,10 @@ use Rattle.mcs_system.specs.Plain.{Name}
 use Rattle.mcs_system.specs.Plain as plain
 use Rattle.mcs_grammar.specs.Written.{Written, WrittenDefault, WrittenItem, Fact, WrittenLiteral, WrittenRule, IsRule, WrittenKb, Classical, DefaultTheory, Program, IsKb, WrittenContext, IsContext, WrittenBridge, WrittenText, IsText}
 use Rattle.mcs_grammar.specs.Written as written
-use Rattle.mcs_grammar.specs.Entries.{Use, BeginsContext, NamesContext, SaysProgram, BeginsItem, BeginsDefault, AtomOf, IsNumber, Entry, entry, with_first, size_of, formula_in, whole_entries, after_sign, item_entries, default_entries, atom_entry, further_heads, head_entries, optional, literal_entries, further_literals, body_entries, rule_entries, ended, kb_entries, context_entries, bridge_entries, text_entries}
+use Rattle.mcs_grammar.specs.Entries.{Use, BeginsContext, NamesContext, SaysProgram, BeginsItem, BeginsDefault, AtomOf, IsNumber, Entry, entry, with_first, size_of, formula_in, whole_entries, after_sign, item_entries, default_entries, atom_entry, further_heads, head_entries, optional, literal_entries, further_literals, body_entries, rule_entries, ended, kb_entries, context_entries, bridge_entries, text_entries, version_entries}
 use Rattle.mcs_productions.specs.declared.class.Class.TheVariants as class
 use Rattle.mcs_account.specs.Mark.{Seen}
-use Rattle.mcs_account.specs.Marks.{Marked, formula_marks, after_marks, default_marks, item_marks, head_marks, further_head_marks, literal_denial, literal_marks, further_literal_marks, literals_marks, sign_marks, rule_marks, ended_marks, kb_marks, context_marks, bridge_marks, text_marks}
+use Rattle.mcs_account.specs.Marks.{Marked, formula_marks, after_marks, default_marks, item_marks, head_marks, further_head_marks, literal_denial, literal_marks, further_literal_marks, literals_marks, sign_marks, rule_marks, ended_marks, kb_marks, context_marks, bridge_marks, version_marks, text_marks}
 use Rattle.mcs_account.specs.Account.{Place, Course, followed}
 use Rattle.mcs_account.proofs.Courses.{all-of, course_at, free_place, zero-add, first-append, first-none, followed-append, formula-follows, bridge-follows}
 use Rattle.mcs_account.proofs.EntryLists.{formula-some}
@@ -201,14 +201,22 @@ bridges-follow d t n es (b ∷ bs) =
           ∙ ap (course_at (free_place more.context more.target more.counted) []) (append_assoc es (bridge_entries b) (flat_map bridge_entries bs));
     }
 
+version-follows : (v : Bool) (ms : Marked) → followed (course_at (free_place [] [] 0) [] []) (version_marks v ++ ms) ≡ followed (course_at (free_place [] [] 0) [] (version_entries v)) ms
+version-follows true ms = refl
+version-follows false ms = refl
+
 -- the entries of a whole text are what its tokens are there for
 pub text-follows : (t : WrittenText) → IsText t → FollowsText (text_entries t) (followed (course_at (free_place [] [] 0) [] []) (text_marks t))
 text-follows t h =
-    let one = contexts-follow [] [] 0 [] t.contexts h.0 in
-    let more = bridges-follow one.context one.target one.counted (flat_map context_entries t.contexts) t.bridges in
+    let es : List Entry = version_entries t.has_version in
+    let cs : Marked = flat_map context_marks t.contexts in
+    let bs : Marked = flat_map bridge_marks t.bridges in
+    let one = contexts-follow [] [] 0 es t.contexts h.0 in
+    let more = bridges-follow one.context one.target one.counted (es ++ flat_map context_entries t.contexts) t.bridges in
     record {
       context = more.context;
       target = more.target;
       counted = more.counted;
-      course = followed-append (course_at (free_place [] [] 0) [] []) (flat_map context_marks t.contexts) (flat_map bridge_marks t.bridges) ∙ ap (λ (s : Course). followed s (flat_map bridge_marks t.bridges)) one.course ∙ more.course;
+      course = version-follows t.has_version (cs ++ bs) ∙ followed-append (course_at (free_place [] [] 0) [] es) cs bs ∙ ap (λ (s : Course). followed s bs) one.course ∙ more.course
+          ∙ ap (course_at (free_place more.context more.target more.counted) []) (append_assoc es (flat_map context_entries t.contexts) (flat_map bridge_entries t.bridges));
     }

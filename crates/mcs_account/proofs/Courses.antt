@@ -1,16 +1,18 @@
 -- What is written goes the course of its entries: after it stands what its tokens are there for.
-use Rattle.std.proofs.Common.{◌≡◌, ℕ, ◌+◌, ◌-◌, Bool, true, false, codes, List, [], ◌∷◌, ◌++◌, refl, sym, ap, ◌∙◌, arith, append_assoc, append-nil}
+use Rattle.std.proofs.Common.{◌≡◌, ℕ, ◌+◌, ◌-◌, Bool, true, false, cond, codes, Option, Some, None, List, [], ◌∷◌, ◌++◌, refl, sym, ap, ◌∙◌, arith, append_assoc, append-nil}
 use Rattle.std.specs.List.{flat_map, AllByRecursion}
+use Rattle.std.specs.Str.{bytes_eq}
+use Rattle.mcs_base.specs.Numbers.{value_of_digits}
 use Rattle.mcs_system.specs.Plain.{Name}
 use Rattle.mcs_system.specs.Plain as plain
-use Rattle.mcs_grammar.specs.Written.{Written, True', False', Named, Denied, Grouped, Both, Either, Leads, Equals, WrittenRead, WrittenBridge}
-use Rattle.mcs_grammar.specs.Entries.{Token, Use, BeginsBridge, NamesBridge, NamesTarget, NamesSource, BeginsBelief, EndsRead, IsNumber, Entry, entry, with_first, with_last, size_of, formula_entries, whole_entries, formula_in, place_entries, optional, read_entries, further_read, reads_entries, bridge_entries}
+use Rattle.mcs_grammar.specs.Written.{Written, True', False', Named, Denied, Grouped, Both, Either, Leads, Equals, WrittenPlace, WrittenRead, WrittenMarks, WrittenBridge}
+use Rattle.mcs_grammar.specs.Entries.{Token, Use, BeginsBridge, NamesBridge, Weighs, NamesTarget, NamesSource, BeginsBelief, EndsRead, IsNumber, Entry, entry, with_first, with_last, size_of, formula_entries, whole_entries, formula_in, place_entries, optional, read_entries, further_read, reads_entries, weight_entries, mark_entries, bridge_entries}
 use Rattle.mcs_productions.specs.declared.class.Class.{Class}
 use Rattle.mcs_productions.specs.declared.class.Class.TheVariants as class
 use Rattle.mcs_productions.specs.declared.production.Action.{Action}
 use Rattle.mcs_productions.specs.declared.production.Action.TheVariants as action
 use Rattle.mcs_account.specs.Mark.{Seen, Said}
-use Rattle.mcs_account.specs.Marks.{Marked, formula_marks, two_marks, belief_marks, denial_marks, read_marks, further_marks, reads_marks, bridge_marks}
+use Rattle.mcs_account.specs.Marks.{Marked, formula_marks, two_marks, belief_marks, denial_marks, read_marks, further_marks, reads_marks, tail_marks, word_marks, weight_marks, own_marks, bridge_marks}
 use Rattle.mcs_account.specs.Reading.{HasSome}
 use Rattle.mcs_account.specs.Account.{Place, next_counted, Course, course_step, course_told, followed}
 use Rattle.mcs_account.proofs.EntryLists.{formula-some}
@@ -117,11 +119,6 @@ formula-follows (Equals f g) s = two-follow class.Equates (codes "<->") action.T
 abbrev pub free_place : (context target : Name) → ℕ → Place
 free_place c t n = record { context = c; target = t; counted = n; opened = 0; begins = [] }
 
--- after the name of the context: its colon and the belief
-belief-follows : (c t : Name) (n : ℕ) (fs : List plain.Formula) (es : List Entry) (f : Written) (ms : Marked)
-    → followed (course_at (free_place c t n) fs es) (belief_marks f ++ ms) ≡ followed (course_at (free_place c t (size_of f)) (formula_in f ∷ fs) ((es ++ entry (codes ":") [] ∷ []) ++ with_first (BeginsBelief c ∷ []) (whole_entries c f))) ms
-belief-follows c t n fs es f ms = simp (followed-append, formula-follows, zero-add)
-
 source_entries : Name → Name → Written → List Entry
 source_entries t c f = with_last (EndsRead t c (formula_in f) ∷ []) (place_entries (NamesSource c) (record { context = c; belief = f }))
 
@@ -179,9 +176,60 @@ reads-follow d t n fs es (r ∷ rs) =
           ∙ ap (course_at (free_place more.context t more.counted) fs) (append_assoc (es ++ e ∷ []) (read_entries t r) (flat_map (further_read t) rs) ∙ append_assoc es (e ∷ []) (read_entries t r ++ flat_map (further_read t) rs));
     }
 
-pub bridge-follows : (d t : Name) (n : ℕ) (es : List Entry) (b : WrittenBridge) → FollowsReads b.head.context [] (es ++ bridge_entries b) (followed (course_at (free_place d t n) [] es) (bridge_marks b))
-bridge-follows d t n es b =
-    let c : Name = b.head.context in
-    let f : Written = b.head.belief in
-    let more = reads-follow c c (size_of f) (formula_in f ∷ []) (es ++ entry (codes "bridge") (BeginsBridge ∷ []) ∷ entry b.name (NamesBridge b.name ∷ []) ∷ entry (codes ":") [] ∷ entry c (NamesTarget c ∷ []) ∷ entry (codes ":") [] ∷ with_first (BeginsBelief c ∷ []) (whole_entries c f)) b.reads in
+-- after what the rule says of itself
+tail_entries : WrittenPlace → List WrittenRead → List Entry
+tail_entries head reads = entry (codes ":") [] ∷ (place_entries (NamesTarget head.context) head ++ (reads_entries head.context reads ++ entry (codes ".") [] ∷ []))
+
+tail-follows : (d t : Name) (n : ℕ) (es : List Entry) (head : WrittenPlace) (reads : List WrittenRead) → FollowsReads head.context [] (es ++ tail_entries head reads) (followed (course_at (free_place d t n) [] es) (tail_marks head reads))
+unfolding tail_entries
+tail-follows d t n es head reads =
+    let c : Name = head.context in
+    let f : Written = head.belief in
+    let more = reads-follow c c (size_of f) (formula_in f ∷ []) (es ++ entry (codes ":") [] ∷ entry c (NamesTarget c ∷ []) ∷ entry (codes ":") [] ∷ with_first (BeginsBelief c ∷ []) (whole_entries c f)) reads in
     record { context = more.context; counted = more.counted; course = simp (followed-append, formula-follows, zero-add, append_assoc, simp append_assoc at more.course) }
+
+-- ---- what a rule says of itself
+module _ (d t : Name) (n : ℕ) where
+  abbrev in_rule : List Entry → Course
+  in_rule es = course_at (free_place d t n) [] es
+
+  word-follows : (c : Class) (word : Token) → ((es : List Entry) → course_step (in_rule es) (Seen c word) ≡ in_rule (es ++ entry word [] ∷ [])) → (es : List Entry) (b : Bool) (ms : Marked)
+      → followed (in_rule es) (word_marks c word b ++ ms) ≡ followed (in_rule (es ++ optional b word)) ms
+  word-follows c word steps es true ms = ap (λ (s : Course). followed s ms) (steps es)
+  word-follows c word steps es false ms = ap (λ (l : List Entry). followed (in_rule l) ms) (sym (append-nil es))
+
+  weight-follows : (es : List Entry) (w : Option Token) (ms : Marked) → followed (in_rule es) (weight_marks w ++ ms) ≡ followed (in_rule (es ++ weight_entries w)) ms
+  weight-follows es None ms = ap (λ (l : List Entry). followed (in_rule l) ms) (sym (append-nil es))
+  weight-follows es (Some digits) ms =
+      ap (λ (s : Course). followed s ms) (at (bytes_eq digits (codes "2")))
+      ∙ ap (λ (l : List Entry). followed (in_rule l) ms) (append_assoc es (entry (codes "weight") [] ∷ []) (entry digits (Weighs (value_of_digits digits) ∷ []) ∷ []))
+    where
+      at : (b : Bool) → course_step (in_rule (es ++ entry (codes "weight") [] ∷ [])) (Seen (cond b class.WeighsTwo class.Weighs) digits) ≡ in_rule ((es ++ entry (codes "weight") [] ∷ []) ++ entry digits (Weighs (value_of_digits digits) ∷ []) ∷ [])
+      at true = refl
+      at false = refl
+
+  own-follows : (es : List Entry) (m : WrittenMarks) (ms : Marked) → followed (in_rule es) (own_marks m ms) ≡ followed (in_rule (es ++ mark_entries m)) ms
+  own-follows es m ms =
+      let ks : List Entry = optional m.keep (codes "keep") in
+      let cs : List Entry = optional m.closed (codes "closed") in
+      let ws : List Entry = weight_entries m.weight in
+      word-follows class.Keeps (codes "keep") (λ l. refl) es m.keep (word_marks class.Closes (codes "closed") m.closed ++ (weight_marks m.weight ++ ms))
+      ∙ word-follows class.Closes (codes "closed") (λ l. refl) (es ++ ks) m.closed (weight_marks m.weight ++ ms)
+      ∙ weight-follows ((es ++ ks) ++ cs) m.weight ms
+      ∙ ap (λ (l : List Entry). followed (in_rule l) ms) (append_assoc (es ++ ks) cs ws ∙ append_assoc es ks (cs ++ ws))
+
+pub bridge-follows : (d t : Name) (n : ℕ) (es : List Entry) (b : WrittenBridge) → FollowsReads b.head.context [] (es ++ bridge_entries b) (followed (course_at (free_place d t n) [] es) (bridge_marks b))
+unfolding tail_entries
+bridge-follows d t n es b =
+    let x : Entry = entry (codes "bridge") (BeginsBridge ∷ []) in
+    let y : Entry = entry b.name (NamesBridge b.name ∷ []) in
+    let before : List Entry = (es ++ x ∷ []) ++ y ∷ [] in
+    let ms : List Entry = mark_entries b.marks in
+    let after : List Entry = tail_entries b.head b.reads in
+    let more = tail-follows d t n (before ++ ms) b.head b.reads in
+    record {
+      context = more.context;
+      counted = more.counted;
+      course = own-follows d t n before b.marks (tail_marks b.head b.reads) ∙ more.course
+          ∙ ap (course_at (free_place more.context b.head.context more.counted) []) (append_assoc before ms after ∙ append_assoc (es ++ x ∷ []) (y ∷ []) (ms ++ after) ∙ append_assoc es (x ∷ []) (y ∷ (ms ++ after)));
+    }

@@ -1,5 +1,5 @@
 -- The uses of entries that stand one after another, and how often a use is among them.
-use Rattle.std.proofs.Common.{◌≡◌, ℕ, List, [], ◌∷◌, ◌++◌, refl, sym, ap, ◌∙◌, inl, inr, ◌⊎◌, subst, append_assoc, append-nil}
+use Rattle.std.proofs.Common.{◌≡◌, ℕ, List, [], ◌∷◌, ◌++◌, sym, ap, ◌∙◌, inl, inr, ◌⊎◌, subst, append_assoc, append-nil}
 use Rattle.std.specs.List.{flat_map}
 use Rattle.std.proofs.lemmas.Grind.{flat_map-append}
 use Rattle.mcs_base.specs.Listings.{IsAmong}
@@ -14,18 +14,6 @@ use Rattle.mcs_account.specs.Reading.{HasSome}
 pub some-append : {A : Type 0} (xs ys : List A) → HasSome xs → HasSome (xs ++ ys)
 some-append [] ys h = absurd h
 some-append (x ∷ xs) ys h = tt
-
-pub some-after : {A : Type 0} (xs ys : List A) → HasSome ys → HasSome (xs ++ ys)
-some-after [] ys h = h
-some-after (x ∷ xs) ys h = tt
-
-pub some-push : {A : Type 0} (xs : List A) (x : A) → HasSome (xs ++ x ∷ [])
-some-push [] x = tt
-some-push (y ∷ xs) x = tt
-
-pub some-first : {A : Type 0} (xs : List A) → HasSome xs → (x : A) × ((ys : List A) × (xs ≡ x ∷ ys))
-some-first [] h = absurd h
-some-first (x ∷ xs) h = (x, (xs, refl))
 
 pub formula-some : (c : Name) (n o : ℕ) (w : Written) → HasSome (formula_entries c n o w)
 formula-some c n o True' = tt

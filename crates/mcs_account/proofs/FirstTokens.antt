@@ -10,7 +10,7 @@ use Rattle.mcs_base.proofs.Among.{among_left, among_right, get_among, among_flat
 use Rattle.mcs_system.specs.Plain.{Name}
 use Rattle.mcs_system.specs.Faults.{is_atom}
 use Rattle.mcs_grammar.specs.Written.{Written, True', False', Named, Denied, Grouped, Both, Either, Leads, Equals, level, IsNameWord, WrittenPlace, IsPlace, WrittenRead, WrittenBridge, WrittenText}
-use Rattle.mcs_grammar.specs.Entries.{Use, BeginsBelief, NamesTarget, NamesSource, Entry, entry, with_first, with_last, formula_in, whole_entries, optional, place_entries, read_entries, further_read, reads_entries, context_entries, bridge_entries, text_entries, uses_of}
+use Rattle.mcs_grammar.specs.Entries.{Use, BeginsBelief, NamesTarget, NamesSource, Entry, entry, with_first, with_last, formula_in, whole_entries, optional, place_entries, read_entries, further_read, reads_entries, context_entries, mark_entries, bridge_entries, version_entries, text_entries, uses_of}
 use Rattle.mcs_account.proofs.UsesParts.{IsPlaceOf, OfHead, OfRead}
 use Rattle.mcs_account.proofs.EntryLists.{uses-append}
 use Rattle.mcs_account.proofs.BridgeUses.{read_end}
@@ -72,14 +72,11 @@ of-reads target (q ∷ qs) r (inr h) p =
     let (m, there, first) = of-read target r p in
     (m, inr (among_right m (read_entries target q) (flat_map (further_read target) qs) (among_flat_map (further_read target) r m qs h (inr there))), first)
 
-abbrev later_entries : WrittenBridge → List Entry
-later_entries b = place_entries (NamesTarget (b.head).context) b.head ++ (reads_entries (b.head).context b.reads ++ entry (codes ".") [] ∷ [])
-
 in-head : (b : WrittenBridge) (m : Entry) → IsAmong m (place_entries (NamesTarget (b.head).context) b.head) → IsAmong m (bridge_entries b)
-in-head b m h = inr (inr (inr (among_left m (place_entries (NamesTarget (b.head).context) b.head) (reads_entries (b.head).context b.reads ++ entry (codes ".") [] ∷ []) h)))
+in-head b m h = inr (inr (among_right m (mark_entries b.marks) _ (inr (among_left m (place_entries (NamesTarget (b.head).context) b.head) (reads_entries (b.head).context b.reads ++ entry (codes ".") [] ∷ []) h))))
 
 in-reads : (b : WrittenBridge) (m : Entry) → IsAmong m (reads_entries (b.head).context b.reads) → IsAmong m (bridge_entries b)
-in-reads b m h = inr (inr (inr (among_right m (place_entries (NamesTarget (b.head).context) b.head) (reads_entries (b.head).context b.reads ++ entry (codes ".") [] ∷ []) (among_left m (reads_entries (b.head).context b.reads) (entry (codes ".") [] ∷ []) h))))
+in-reads b m h = inr (inr (among_right m (mark_entries b.marks) _ (inr (among_right m (place_entries (NamesTarget (b.head).context) b.head) (reads_entries (b.head).context b.reads ++ entry (codes ".") [] ∷ []) (among_left m (reads_entries (b.head).context b.reads) (entry (codes ".") [] ∷ []) h)))))
 
 pub first-there : (t : WrittenText) (p : WrittenPlace) → IsPlaceOf t p → IsPlace p → (m : Entry) × IsAmong m (flat_map bridge_entries t.bridges) × IsFirstOf p m
 first-there t p (OfHead b there is) h =
@@ -99,10 +96,13 @@ pub entry-at : (t : WrittenText) (m : Entry) → IsAmong m (flat_map bridge_entr
 entry-at t m h =
     let cs : List Entry = flat_map context_entries t.contexts in
     let bs : List Entry = flat_map bridge_entries t.bridges in
+    let es : List Entry = version_entries t.has_version in
     let (j, at) = get_among m bs h in (
-      length cs + j,
+      length es + (length cs + j),
       record {
-        there = slice_get-append_right cs bs j ∙ at;
-        before = λ u here. subst (λ (ms : List Entry). IsAmong u (uses_of ms)) (sym (take-append-add cs bs j)) (subst (IsAmong u) (sym (uses-append cs (take j bs))) (among_left u (uses_of cs) (uses_of (take j bs)) here));
+        there = slice_get-append_right es (cs ++ bs) (length cs + j) ∙ slice_get-append_right cs bs j ∙ at;
+        before = λ u here. subst (λ (ms : List Entry). IsAmong u (uses_of ms)) (sym (take-append-add es (cs ++ bs) (length cs + j) ∙ ap (λ (ms : List Entry). es ++ ms) (take-append-add cs bs j)))
+            (subst (IsAmong u) (sym (uses-append es (cs ++ take j bs) ∙ ap (λ (us : List Use). uses_of es ++ us) (uses-append cs (take j bs))))
+            (among_right u (uses_of es) (uses_of cs ++ uses_of (take j bs)) (among_left u (uses_of cs) (uses_of (take j bs)) here)));
       },
     )

@@ -1,13 +1,15 @@
 -- What is written is a text of the grammar.
-use Rattle.std.proofs.Common.{◌≡◌, ◌≤◌, Bool, true, false, codes, List, [], ◌∷◌, ◌++◌, refl, sym, subst, arith, append_assoc}
+use Rattle.std.proofs.Common.{◌≡◌, ◌≤◌, Bool, true, false, cond, codes, Option, Some, None, List, [], ◌∷◌, ◌++◌, refl, sym, subst, arith, append_assoc}
 use Rattle.std.proofs.lemmas.List.{append-nil, map-append}
 use Rattle.std.specs.List.{flat_map, AllByRecursion}
+use Rattle.std.specs.Str.{bytes_eq}
+use Rattle.mcs_base.proofs.Each.{all_both}
 use Rattle.mcs_syntax.specs.Grammar.{Expr, Take, Say, Rule, Then, Or, Maybe, Many, Means, takes, says, by_rule, both, left, right, without, with_it, no_more, one_more}
 use Rattle.mcs_syntax.specs.declared.part.Event.{Event}
 use Rattle.mcs_syntax.specs.declared.part.Event.TheVariants.{Took}
 use Rattle.mcs_account.specs.Mark.{Seen, Said, event_of, events_of}
 use Rattle.mcs_grammar.specs.Entries.{Token}
-use Rattle.mcs_grammar.specs.Written.{Written, True', False', Named, Denied, Grouped, Both, Either, Leads, Equals, level, IsGrouped, WrittenPlace, WrittenRead, WrittenBridge, IsPlace, IsWrittenBridge, IsFormula, WrittenItem, Fact, IsItem, WrittenLiteral, WrittenRule, IsRule, WrittenKb, Classical, DefaultTheory, Program, IsKb, WrittenContext, IsContext, WrittenText, IsText, IsNameWord}
+use Rattle.mcs_grammar.specs.Written.{Written, True', False', Named, Denied, Grouped, Both, Either, Leads, Equals, level, IsGrouped, WrittenPlace, WrittenRead, WrittenMarks, WrittenBridge, no_marks, IsPlace, IsWrittenBridge, IsFormula, WrittenItem, Fact, IsItem, WrittenLiteral, WrittenRule, IsRule, WrittenKb, Classical, DefaultTheory, Program, IsKb, WrittenContext, IsContext, WrittenText, IsText, IsNameWord}
 use Rattle.mcs_productions.specs.Productions.{rules}
 use Rattle.mcs_productions.specs.declared.class.Class.{Class}
 use Rattle.mcs_productions.specs.declared.class.Class.TheVariants as class
@@ -15,7 +17,7 @@ use Rattle.mcs_productions.specs.declared.production.Action.{Action}
 use Rattle.mcs_productions.specs.declared.production.Action.TheVariants as action
 use Rattle.mcs_productions.specs.declared.production.Production.{Production}
 use Rattle.mcs_productions.specs.declared.production.Production.TheVariants as name
-use Rattle.mcs_account.specs.Marks.{Marked, formula_marks, belief_marks, denial_marks, read_marks, further_marks, reads_marks, tail_marks, bridge_marks, after_marks, item_marks, further_head_marks, literal_denial, literal_marks, further_literal_marks, literals_marks, sign_marks, rule_marks, ended_marks, items_marks, kb_marks, context_marks, text_marks}
+use Rattle.mcs_account.specs.Marks.{Marked, formula_marks, belief_marks, denial_marks, read_marks, further_marks, reads_marks, tail_marks, word_marks, weight_class, weight_marks, own_marks, bridge_marks, version_marks, after_marks, item_marks, further_head_marks, literal_denial, literal_marks, further_literal_marks, literals_marks, sign_marks, rule_marks, ended_marks, items_marks, kb_marks, context_marks, text_marks}
 use Rattle.mcs_system.specs.Plain.{Name}
 use Rattle.mcs_grammar.specs.Written as written
 
@@ -169,9 +171,37 @@ tail-of head rs h hs =
     by_rule name.BridgeTail _ (first-of class.EndsBridgeName (codes ":") _ (Seen class.NamesTarget head.context ∷ (belief_marks head.belief ++ (reads_marks rs ++ end))) (first-of class.NamesTarget head.context _ (belief_marks head.belief ++ (reads_marks rs ++ end))
     (pair-of (Rule name.Place) _ (belief_marks head.belief) (reads_marks rs ++ end) (belief-of head h) (pair-of _ (Take class.EndsBridge) (reads_marks rs) end (reads-of rs hs) (takes class.EndsBridge)))))
 
-pub bridge-of : (b : WrittenBridge) → IsWrittenBridge b → Of (Rule name.Bridge) (bridge_marks b)
-bridge-of b h =
-    by_rule name.Bridge _ (first-of class.BeginsBridge (codes "bridge") _ (Seen class.NamesBridge b.name ∷ tail_marks b.head b.reads) (first-of class.NamesBridge b.name _ (tail_marks b.head b.reads) (tail-of b.head b.reads h.1 h.2)))
+abbrev IsUnmarked : WrittenBridge → Type 0
+IsUnmarked b = IsWrittenBridge b × (b.marks ≡ no_marks)
+
+bridge-of : (b : WrittenBridge) → IsUnmarked b → Of (Rule name.Bridge) (bridge_marks b)
+bridge-of b h = subst (λ (m : WrittenMarks). Of (Rule name.Bridge) (Seen class.BeginsBridge (codes "bridge") ∷ Seen class.NamesBridge b.name ∷ own_marks m (tail_marks b.head b.reads))) (sym h.1)
+    (by_rule name.Bridge _ (first-of class.BeginsBridge (codes "bridge") _ (Seen class.NamesBridge b.name ∷ tail_marks b.head b.reads) (first-of class.NamesBridge b.name _ (tail_marks b.head b.reads) (tail-of b.head b.reads h.0.1 h.0.2))))
+
+word-of : (c : Class) (word : Token) (b : Bool) → Of (Maybe (Take c)) (word_marks c word b)
+word-of c word true = with_it _ _ (takes c)
+word-of c word false = without _
+
+abbrev weight_part : Part
+weight_part = Then (Take class.BeginsWeight) (Or (Take class.Weighs) (Take class.WeighsTwo))
+
+weight-of : (w : Option Token) → Of (Maybe weight_part) (weight_marks w)
+weight-of None = without _
+weight-of (Some digits) = with_it _ _ (first-of class.BeginsWeight (codes "weight") _ (Seen (weight_class digits) digits ∷ []) (at (bytes_eq digits (codes "2"))))
+  where
+    at : (b : Bool) → Of (Or (Take class.Weighs) (Take class.WeighsTwo)) (Seen (cond b class.WeighsTwo class.Weighs) digits ∷ [])
+    at true = right _ _ _ (takes class.WeighsTwo)
+    at false = left _ _ _ (takes class.Weighs)
+
+marked-of : (b : WrittenBridge) → IsWrittenBridge b → Of (Rule name.MarkedBridge) (bridge_marks b)
+marked-of b h =
+    let tail : Marked = tail_marks b.head b.reads in
+    let weighed : Marked = weight_marks b.marks.weight ++ tail in
+    let closed : Marked = word_marks class.Closes (codes "closed") b.marks.closed ++ weighed in
+    by_rule name.MarkedBridge _ (first-of class.BeginsBridge (codes "bridge") _ (Seen class.NamesBridge b.name ∷ own_marks b.marks tail) (first-of class.NamesBridge b.name _ (own_marks b.marks tail)
+    (pair-of (Maybe (Take class.Keeps)) _ (word_marks class.Keeps (codes "keep") b.marks.keep) closed (word-of class.Keeps (codes "keep") b.marks.keep)
+    (pair-of (Maybe (Take class.Closes)) _ (word_marks class.Closes (codes "closed") b.marks.closed) weighed (word-of class.Closes (codes "closed") b.marks.closed)
+    (pair-of (Maybe weight_part) (Rule name.BridgeTail) (weight_marks b.marks.weight) tail (weight-of b.marks.weight) (tail-of b.head b.reads h.1 h.2))))))
 
 -- ---- items
 after-of : (c : Class) (sign : Token) (f : Written) → IsFormula f → Of (Then (Take c) (Rule name.Formula)) (after_marks c sign f)
@@ -242,6 +272,21 @@ context-of c h = by_rule name.Context _ (first-of class.BeginsContext (codes "co
 
 -- ---- the whole text
 pub text-of : (t : WrittenText) → IsText t → Of (Rule name.Text) (text_marks t)
-text-of t h =
-    by_rule name.Text _ (pair-of (Many (Rule name.Context)) (Many (Rule name.Bridge)) (flat_map context_marks t.contexts) (flat_map bridge_marks t.bridges)
-    (many-of (Rule name.Context) IsContext context_marks context-of t.contexts h.0) (many-of (Rule name.Bridge) IsWrittenBridge bridge_marks bridge-of t.bridges h.1))
+text-of t h = at t.has_version h.2
+  where
+    cs : Marked
+    cs = flat_map context_marks t.contexts
+
+    bs : Marked
+    bs = flat_map bridge_marks t.bridges
+
+    of_contexts : Of (Many (Rule name.Context)) cs
+    of_contexts = many-of (Rule name.Context) IsContext context_marks context-of t.contexts h.0
+
+    at : (v : Bool) → (v ≡ false → AllByRecursion (λ (b : WrittenBridge). b.marks ≡ no_marks) t.bridges) → Of (Rule name.Text) (version_marks v ++ (cs ++ bs))
+    at true none =
+        by_rule name.Text _ (left _ _ _ (first-of class.BeginsVersion (codes "version") _ (Seen class.NamesVersion (codes "2") ∷ Seen class.EndsVersion (codes ".") ∷ (cs ++ bs)) (first-of class.NamesVersion (codes "2") _ (Seen class.EndsVersion (codes ".") ∷ (cs ++ bs))
+        (first-of class.EndsVersion (codes ".") _ (cs ++ bs) (pair-of (Many (Rule name.Context)) (Many (Rule name.MarkedBridge)) cs bs of_contexts (many-of (Rule name.MarkedBridge) IsWrittenBridge bridge_marks marked-of t.bridges h.1))))))
+    at false none =
+        by_rule name.Text _ (right _ _ _ (pair-of (Many (Rule name.Context)) (Many (Rule name.Bridge)) cs bs of_contexts
+        (many-of (Rule name.Bridge) IsUnmarked bridge_marks bridge-of t.bridges (all_both IsWrittenBridge (λ (b : WrittenBridge). b.marks ≡ no_marks) t.bridges h.1 (none refl)))))

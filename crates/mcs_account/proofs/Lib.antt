@@ -14,6 +14,7 @@ pub mod Reading
 pub mod FaultTheory
 pub mod TokenMarks
 pub mod TextFronts
+pub mod Weighing
 pub mod AccountLemmas
 pub mod ReaderSteps
 pub mod WholeTexts

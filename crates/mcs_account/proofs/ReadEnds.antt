@@ -1,8 +1,9 @@
 -- A read ends right after the last token of its belief, where a formula is whole, and nothing is said between its end and
 -- the next token. What is said of a context comes after a name of one.
-use Rattle.std.proofs.Common.{◌≡◌, Bool, true, false, codes, List, [], ◌∷◌, ◌++◌, refl, sym, ap, ◌∙◌}
+use Rattle.std.proofs.Common.{◌≡◌, Bool, true, false, cond, codes, Option, Some, None, List, [], ◌∷◌, ◌++◌, refl, sym, ap, ◌∙◌}
 use Rattle.std.proofs.lemmas.List.{map-append}
 use Rattle.std.specs.List.{flat_map, AllByRecursion}
+use Rattle.std.specs.Str.{bytes_eq}
 use Rattle.mcs_syntax.specs.declared.part.Event.TheVariants.{Took, Told}
 use Rattle.mcs_system.specs.Plain.{Name}
 use Rattle.mcs_grammar.specs.Entries.{Token}
@@ -15,7 +16,7 @@ use Rattle.mcs_productions.specs.declared.production.Action.TheVariants as actio
 use Rattle.mcs_account.specs.Mark.{Seen, Said, event_of, events_of}
 use Rattle.mcs_account.specs.Reading.{Events}
 use Rattle.mcs_account.specs.Turns.{Depth, Phase, Turn, turn, calm, between, first_turn, at_top, ends, free_or_due, comes, phase_if, phase_after, ended, joined, phase_told, turn_took, turn_told, passed, Top, In, Free, Due, Over, Broken}
-use Rattle.mcs_account.specs.Marks.{Marked, formula_marks, two_marks, after_marks, item_marks, head_marks, further_head_marks, literal_denial, literal_marks, further_literal_marks, sign_marks, rule_marks, ended_marks, items_marks, kb_marks, context_marks, belief_marks, denial_marks, read_marks, further_marks, reads_marks, bridge_marks, text_marks}
+use Rattle.mcs_account.specs.Marks.{Marked, formula_marks, two_marks, after_marks, item_marks, head_marks, further_head_marks, literal_denial, literal_marks, further_literal_marks, sign_marks, rule_marks, ended_marks, items_marks, kb_marks, context_marks, belief_marks, denial_marks, read_marks, further_marks, reads_marks, tail_marks, word_marks, weight_marks, bridge_marks, version_marks, text_marks}
 
 pub passed-append : (s : Turn) (xs ys : Events) → passed s (xs ++ ys) ≡ passed (passed s xs) ys
 passed-append s [] ys = refl
@@ -99,12 +100,29 @@ reads-over [] h = refl
 reads-over (x ∷ xs) h =
     then-after (calm true) over (reads_marks (x ∷ xs)) period (then-after (calm true) over (read_marks x) (flat_map further_marks xs) (read-over false true x h.0) ∙ further-over xs h.1)
 
-bridge-passed : (n : Bool) (b : WrittenBridge) → IsWrittenBridge b → Leads' (between n) (between true) (bridge_marks b)
-bridge-passed n b h = then-after (between true) (calm true) (formula_marks b.head.belief) (reads_marks b.reads ++ period) (inside b.head.belief false Top false refl) ∙ reads-over b.reads h.2
-
--- ---- contexts
 both-lead : (s t u : Turn) (ms ns : Marked) → Leads' s t ms → Leads' t u ns → Leads' s u (ms ++ ns)
 both-lead s t u ms ns h k = then-after s t ms ns h ∙ k
+
+bridge-passed : (n : Bool) (b : WrittenBridge) → IsWrittenBridge b → Leads' (between n) (between true) (bridge_marks b)
+bridge-passed n b h =
+    both-lead (between n) (between n) (between true) (word_marks class.Keeps (codes "keep") b.marks.keep) _ (word-stays class.Keeps (codes "keep") refl b.marks.keep)
+    (both-lead (between n) (between n) (between true) (word_marks class.Closes (codes "closed") b.marks.closed) _ (word-stays class.Closes (codes "closed") refl b.marks.closed)
+    (both-lead (between n) (between n) (between true) (weight_marks b.marks.weight) (tail_marks b.head b.reads) (weight-stays b.marks.weight)
+    (then-after (between true) (calm true) (formula_marks b.head.belief) (reads_marks b.reads ++ period) (inside b.head.belief false Top false refl) ∙ reads-over b.reads h.2)))
+  where
+    word-stays : (c : Class) (word : Token) → Stays (between n) (Seen c word ∷ []) → (b : Bool) → Stays (between n) (word_marks c word b)
+    word-stays c word one true = one
+    word-stays c word one false = refl
+
+    weight-stays : (w : Option Token) → Stays (between n) (weight_marks w)
+    weight-stays None = refl
+    weight-stays (Some digits) = at (bytes_eq digits (codes "2"))
+      where
+        at : (b : Bool) → Stays (between n) (Seen class.BeginsWeight (codes "weight") ∷ Seen (cond b class.WeighsTwo class.Weighs) digits ∷ [])
+        at true = refl
+        at false = refl
+
+-- ---- contexts
 
 -- parts of a text
 each-between : {W : Type 0} (P : W → Type 0) (f : W → Marked) → ((n : Bool) (w : W) → P w → Leads' (between n) (between true) (f w)) → (n : Bool) (ws : List W) → AllByRecursion P ws → (m : Bool) × Leads' (between n) (between m) (flat_map f ws)
@@ -162,7 +180,12 @@ pub text-passed : (t : WrittenText) → IsText t → (after first_turn (text_mar
 text-passed t h =
     let one = each-between IsContext context_marks context-passed false t.contexts h.0 in
     let more = each-between IsWrittenBridge bridge_marks bridge-passed one.0 t.bridges h.1 in
-    ap (λ (s : Turn). s.phase) (both-lead first_turn (between one.0) (between more.0) (flat_map context_marks t.contexts) (flat_map bridge_marks t.bridges) one.1 more.1)
+    ap (λ (s : Turn). s.phase) (both-lead first_turn first_turn (between more.0) (version_marks t.has_version) _ (version-stays t.has_version)
+    (both-lead first_turn (between one.0) (between more.0) (flat_map context_marks t.contexts) (flat_map bridge_marks t.bridges) one.1 more.1))
+  where
+    version-stays : (v : Bool) → Stays first_turn (version_marks v)
+    version-stays true = refl
+    version-stays false = refl
 
 -- the class is that of the last token of a belief
 abbrev pub EndsBelief : Class → Type 0

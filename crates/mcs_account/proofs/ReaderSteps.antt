@@ -79,7 +79,7 @@ module _ (old now : TextReader) (ts : List Token) (ms : Marked) (t : Token) (tak
 
 -- ---- before the first token
 empty : WrittenText
-empty = record { contexts = []; bridges = [] }
+empty = record { has_version = false; contexts = []; bridges = [] }
 
 no-front : {X : Type 0} (xs ys : List X) → [] ≡ xs ++ ys → xs ≡ []
 no-front [] ys e = refl
@@ -88,7 +88,7 @@ no-front (x ∷ xs) ys e = absurd (cc)
 pub first-read : (r : List (Part Class Action Production) × List ℕ) (old new : Events) → are_prompt grammar r.0 (length r.0) ≡ true → Goes grammar (Rule name.Text) [] (rest r) old new → AreRead [] [] (rest r)
 unfolding empty
 first-read r old new all goes =
-    let p = goes.2.holds_all [] [] (text-of empty (tt, tt), refl) in
+    let p = goes.2.holds_all [] [] (text-of empty (tt, tt, λ e. tt), refl) in
     let none : goes.0 ≡ [] = no-front goes.0 p.0 p.1 in
     record { tokens_are = refl; filled = tt; read = subst (λ (xs : Events). HasRead grammar (Rule name.Text) [] xs (rest r)) none goes.2; stops = reader-stops r all goes.3 }
 

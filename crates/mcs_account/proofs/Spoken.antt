@@ -43,6 +43,8 @@ module _ (before : List Use) (n : Bool) (p : Place) (h : IsKnown before n p) whe
   own-spoken class.NamesContext t e = (tt, tt)
   own-spoken class.BeginsBridge t e = (tt, tt)
   own-spoken class.NamesBridge t e = (tt, tt)
+  own-spoken class.Weighs t e = (tt, tt)
+  own-spoken class.WeighsTwo t e = (tt, tt)
   own-spoken class.NamesTarget t e = (tt, tt)
   own-spoken class.NamesSource t e = (tt, tt)
   own-spoken class.Negates t e = (tt, tt)

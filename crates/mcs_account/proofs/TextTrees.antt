@@ -1,20 +1,25 @@
 -- Each text of the grammar is one that is written, production by production.
-use Rattle.std.proofs.Common.{◌≡◌, ℕ, ◌≤◌, List, [], ◌∷◌, ◌++◌, map, Option, Some, None, inl, inr, ◌⊎◌, refl, sym, ap, ◌∙◌, arith, append_assoc, true, false, codes}
+use Rattle.std.proofs.Common.{◌≡◌, ℕ, ◌≤◌, List, [], ◌∷◌, ◌++◌, map, Option, Some, None, inl, inr, ◌⊎◌, refl, sym, ap, ◌∙◌, arith, append_assoc, Bool, true, false, cond, codes}
+use Rattle.std.specs.Str.{bytes_eq}
+use Rattle.std.proofs.lemmas.Bool.{false_from_ne_true}
+use Rattle.std.proofs.lemmas.Slice.Eq.{bytes_eq-Decides}
+use Rattle.mcs_syntax.specs.Grammar.{Take, Then, Or}
+use Rattle.mcs_grammar.specs.Entries.{Token}
 use Rattle.std.proofs.lemmas.List.{append-nil}
 use Rattle.std.specs.List.{flat_map, AllByRecursion}
-use Rattle.mcs_grammar.specs.Written.{True', False', Named, Denied, Grouped, Both, Either, Leads, Equals, IsFormula, WrittenRead, IsPlace, Fact, Rule, IsItem, WrittenLiteral, IsRule, Classical, DefaultTheory, Program, IsContext, IsWrittenBridge, IsNameWord}
+use Rattle.mcs_grammar.specs.Written.{True', False', Named, Denied, Grouped, Both, Either, Leads, Equals, IsFormula, WrittenRead, IsPlace, Fact, Rule, IsItem, WrittenLiteral, IsRule, Classical, DefaultTheory, Program, IsContext, WrittenBridge, IsWrittenBridge, IsWeight, no_marks, IsNameWord}
 use Rattle.mcs_productions.specs.Productions.{rules}
 use Rattle.mcs_productions.specs.declared.production.Production.{Production}
 use Rattle.mcs_productions.specs.declared.production.Production.TheVariants as name
-use Rattle.mcs_account.specs.Marks.{Marked, Fill, bytes_for, formula_marks, belief_marks, further_marks, read_marks, Filled, after_marks, further_head_marks, further_literal_marks, literal_marks, sign_marks, item_marks, rule_marks, ended_marks, context_marks, bridge_marks}
-use Rattle.mcs_account.proofs.Trees.{Tree, flat}
+use Rattle.mcs_account.specs.Marks.{Marked, Fill, bytes_for, formula_marks, belief_marks, further_marks, read_marks, Filled, after_marks, further_head_marks, further_literal_marks, literal_marks, sign_marks, item_marks, rule_marks, ended_marks, context_marks, bridge_marks, word_marks, weight_marks, tail_marks, version_marks}
+use Rattle.mcs_account.proofs.Trees.{Tree, flat, if_some}
 use Rattle.mcs_account.proofs.Values.{UpTo, Value, value_marks, ReadValue, LiteralValue}
 use Rattle.mcs_productions.specs.declared.class.Class.TheVariants as class
 use Rattle.mcs_account.specs.Mark.{Seen, events_of}
 use Rattle.mcs_system.specs.Plain.{Name}
 use Rattle.mcs_productions.specs.declared.class.Class.{Class}
 use Rattle.mcs_account.proofs.TreeLemmas.{AreMade, tree-of}
-use Rattle.mcs_account.proofs.Forward.{Of}
+use Rattle.mcs_account.proofs.Forward.{Part, Of}
 
 -- what the parts of the production say
 abbrev pub Parts : Production → Type 0
@@ -95,7 +100,35 @@ tail-made t = at t.1.1.1.0
         ((record { context = x.0; belief = p.0 }, r.0 ∷ map (λ y. (y.1).0) reads.1.1, (x.1, p.1, p.2), (r.1, rs.0)), ap (λ (ms : Marked). Seen class.EndsBridgeName (codes ":") ∷ Seen class.NamesTarget x.0 ∷ (belief_marks p.0 ++ ((Seen class.BeginsReads (codes "if") ∷ (read_marks r.0 ++ ms)) ++ Seen class.EndsBridge (codes ".") ∷ []))) rs.1)
 
 pub bridge-made : Makes name.Bridge
-bridge-made t = let y = t.1.0 in let v = t.1.1 in ((record { name = y.0; head = v.0; reads = v.1 }, (y.1, v.2, v.3)), refl)
+bridge-made t = let y = t.1.0 in let v = t.1.1 in ((record { name = y.0; marks = no_marks; head = v.0; reads = v.1 }, (y.1, v.2, v.3, tt), refl), refl)
+
+-- a word that may stand there
+word-made : (c : Class) (word : Token) (o : Option (Unit {0})) → (b : Bool) × (word_marks c word b ≡ if_some (λ x. Seen c word ∷ []) o)
+word-made c word None = (false, refl)
+word-made c word (Some x) = (true, refl)
+
+abbrev weight_part : Part
+weight_part = Then (Take class.BeginsWeight) (Or (Take class.Weighs) (Take class.WeighsTwo))
+
+weight-made : (o : Option (Tree Fill bytes_for Value value_marks weight_part)) → (w : Option Token) × IsWeight w × (weight_marks w ≡ if_some (flat Fill bytes_for Value value_marks weight_part) o)
+weight-made None = (None, tt, refl)
+weight-made (Some (u, inl x)) =
+    let other : bytes_eq x.0 (codes "2") ≡ false = false_from_ne_true (bytes_eq x.0 (codes "2")) (λ e. x.3 ((bytes_eq-Decides x.0 (codes "2")).0 e)) in
+    (Some x.0, (x.1, x.2), ap (λ (b : Bool). Seen class.BeginsWeight (codes "weight") ∷ Seen (cond b class.WeighsTwo class.Weighs) x.0 ∷ []) other)
+weight-made (Some (u, inr x)) = (Some (codes "2"), (refl, λ e. absurd (omega (arith, e))), refl)
+
+marked-made : Makes name.MarkedBridge
+marked-made t =
+    let y = t.1.0 in
+    let k = word-made class.Keeps (codes "keep") t.1.1.0 in
+    let c = word-made class.Closes (codes "closed") t.1.1.1.0 in
+    let w = weight-made t.1.1.1.1.0 in
+    let v = t.1.1.1.1.1 in (
+      (record { name = y.0; marks = record { keep = k.0; closed = c.0; weight = w.0 }; head = v.0; reads = v.1 }, (y.1, v.2, v.3, w.1)),
+      ap (λ (ms : Marked). Seen class.BeginsBridge (codes "bridge") ∷ Seen class.NamesBridge y.0 ∷ (ms ++ (word_marks class.Closes (codes "closed") c.0 ++ (weight_marks w.0 ++ tail_marks v.0 v.1)))) k.1
+          ∙ ap (λ (ms : Marked). Seen class.BeginsBridge (codes "bridge") ∷ Seen class.NamesBridge y.0 ∷ (if_some (λ x. Seen class.Keeps (codes "keep") ∷ []) t.1.1.0 ++ (ms ++ (weight_marks w.0 ++ tail_marks v.0 v.1)))) c.1
+          ∙ ap (λ (ms : Marked). Seen class.BeginsBridge (codes "bridge") ∷ Seen class.NamesBridge y.0 ∷ (if_some (λ x. Seen class.Keeps (codes "keep") ∷ []) t.1.1.0 ++ (if_some (λ x. Seen class.Closes (codes "closed") ∷ []) t.1.1.1.0 ++ (ms ++ tail_marks v.0 v.1)))) w.2,
+    )
 
 item-made : Makes name.Item
 item-made t = at t.1
@@ -176,11 +209,28 @@ context-made t = at t.1.1
         let rs = listed IsRule (λ y. y.0) (λ r. ended_marks (rule_marks r)) k.1.1.0 in
         ((record { name = n.0; kb = Program (map (λ y. (y.0).0) k.1.1.0) }, (n.1, rs.0)), items-part n.0 class.SaysProgram _ _ (codes "program") rs.1)
 
+-- the contexts and the rules
+all-parts : {B : Type 0} (v : Marked) (xs : List (Value name.Context)) (ys : List B) (bridge : B → WrittenBridge) → flat_map context_marks (map (λ x. x.0) xs) ≡ flat_map (λ x. context_marks x.0) xs
+    → flat_map bridge_marks (map bridge ys) ≡ flat_map (λ y. bridge_marks (bridge y)) ys
+    → v ++ (flat_map context_marks (map (λ x. x.0) xs) ++ flat_map bridge_marks (map bridge ys)) ≡ v ++ (flat_map (λ x. context_marks x.0) xs ++ flat_map (λ y. bridge_marks (bridge y)) ys)
+all-parts v xs ys bridge cs bs = ap (λ (ms : Marked). v ++ (ms ++ flat_map bridge_marks (map bridge ys))) cs ∙ ap (λ (ms : Marked). v ++ (flat_map (λ x. context_marks x.0) xs ++ ms)) bs
+
 text-made : Makes name.Text
-text-made t =
+text-made (inl t) =
+    let xs = t.1.1.1.0 in
+    let ys = t.1.1.1.1 in
+    let cs = listed IsContext (λ v. v) context_marks xs in
+    let bs = listed IsWrittenBridge (λ v. v) bridge_marks ys in (
+      (record { has_version = true; contexts = map (λ v. v.0) xs; bridges = map (λ v. v.0) ys }, (cs.0, bs.0, λ e. absurd (true-is-false e))),
+      all-parts (version_marks true) xs ys (λ v. v.0) cs.1 bs.1,
+    )
+text-made (inr t) =
     let cs = listed IsContext (λ v. v) context_marks t.0 in
-    let bs = listed IsWrittenBridge (λ v. v) bridge_marks t.1 in
-    ((record { contexts = map (λ v. v.0) t.0; bridges = map (λ v. v.0) t.1 }, (cs.0, bs.0)), ap (λ (ms : Marked). ms ++ flat_map bridge_marks (map (λ v. v.0) t.1)) cs.1 ∙ ap (λ (ms : Marked). flat_map (λ v. context_marks v.0) t.0 ++ ms) bs.1)
+    let bs = listed IsWrittenBridge (λ v. (v.0, v.1)) bridge_marks t.1 in
+    let none = listed (λ (b : WrittenBridge). b.marks ≡ no_marks) (λ v. (v.0, v.2)) bridge_marks t.1 in (
+      (record { has_version = false; contexts = map (λ v. v.0) t.0; bridges = map (λ v. v.0) t.1 }, (cs.0, bs.0, λ e. none.0)),
+      all-parts [] t.0 t.1 (λ v. v.0) cs.1 bs.1,
+    )
 
 made : AreMade rules Fill bytes_for Value value_marks
 made name.Text t = text-made t
@@ -190,6 +240,7 @@ made name.ProgramRule t = rule-made t
 made name.Body t = body-made t
 made name.Literal t = literal-made t
 made name.Bridge t = bridge-made t
+made name.MarkedBridge t = marked-made t
 made name.BridgeTail t = tail-made t
 made name.Read t = read-made t
 made name.Place t = place-made t

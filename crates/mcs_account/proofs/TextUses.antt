@@ -1,16 +1,17 @@
 -- What the tokens of a whole text are there for.
-use Rattle.std.proofs.Common.{◌≡◌, Bool, true, false, refl, sym, ap, ◌∙◌, inl, inr, ◌⊎◌, ◌↔◌, subst, true≢false}
+use Rattle.std.proofs.Common.{◌≡◌, ℕ, Some, Bool, true, false, List, ◌++◌, refl, sym, ap, ◌∙◌, inl, inr, ◌⊎◌, ◌↔◌, subst, true≢false}
 use Rattle.std.specs.List.{flat_map}
 use Rattle.mcs_base.specs.Listings.{IsAmong}
+use Rattle.mcs_base.specs.Numbers.{value_of_digits}
 use Rattle.mcs_system.specs.Plain.{Name, Formula}
 use Rattle.mcs_grammar.specs.Written.{WrittenContext, WrittenRead, WrittenBridge, WrittenText}
-use Rattle.mcs_grammar.specs.Entries.{Use, BeginsContext, NamesContext, SaysProgram, NamesTarget, NamesSource, EndsRead, context_entries, bridge_entries, kb_entries, uses_of}
+use Rattle.mcs_grammar.specs.Entries.{Token, Use, BeginsContext, NamesContext, Weighs, SaysProgram, NamesTarget, NamesSource, EndsRead, Entry, context_entries, bridge_entries, version_entries, kb_entries, uses_of}
 use Rattle.mcs_grammar.specs.Faults.{NamedRead, WasReadInto}
 use Rattle.mcs_account.specs.Images.{read_in}
 use Rattle.mcs_account.proofs.UsesParts.{text_uses, IsReadOf, IsProgramKb}
 use Rattle.mcs_account.proofs.EntryLists.{among-append, append-left, append-right, among-parts, parts-among}
 use Rattle.mcs_account.proofs.ContextUses.{KbUse, OfKind, OfItem, OfDefault, WithinFormula, WithinRule, kb-uses, kind-among, in_formula, in_kb, formula-in, rule-in, kb-in}
-use Rattle.mcs_account.proofs.BridgeUses.{BridgeUse, OfBridge, OfName, OfHead, OfRead, bridge-uses, uses-bridge, in_place, in_read, in_bridge, place-in, read-in, bridge-in}
+use Rattle.mcs_account.proofs.BridgeUses.{BridgeUse, OfBridge, OfName, OfWeight, OfHead, OfRead, bridge-uses, uses-bridge, in_place, in_read, in_bridge, place-in, read-in, bridge-in}
 
 -- ---- of a context, or of a bridge rule
 pub data TextUse (t : WrittenText) (u : Use) : Type 0 where
@@ -19,8 +20,13 @@ pub data TextUse (t : WrittenText) (u : Use) : Type 0 where
   WithinKb : (x : WrittenContext) (there : IsAmong x t.contexts) (here : IsAmong u (uses_of (kb_entries x.name x.kb))) → TextUse t u
   WithinBridge : (b : WrittenBridge) (there : IsAmong b t.bridges) (here : BridgeUse b u) → TextUse t u
 
+-- the version is there for nothing more
+pub version-uses : (v : Bool) (es : List Entry) → uses_of (version_entries v ++ es) ≡ uses_of es
+version-uses true es = refl
+version-uses false es = refl
+
 pub text-use : (t : WrittenText) (u : Use) → IsAmong u (text_uses t) → TextUse t u
-text-use t u h = at (among-append u (flat_map context_entries t.contexts) (flat_map bridge_entries t.bridges) h)
+text-use t u h = at (among-append u (flat_map context_entries t.contexts) (flat_map bridge_entries t.bridges) (subst (IsAmong u) (version-uses t.has_version _) h))
   where
     within : (x : WrittenContext) → IsAmong x t.contexts → IsAmong u (uses_of (context_entries x)) → TextUse t u
     within x there (inl e) = BeginsOne e
@@ -31,14 +37,17 @@ text-use t u h = at (among-append u (flat_map context_entries t.contexts) (flat_
     at (inl a) = let (x, there, here) = among-parts u context_entries t.contexts a in within x there here
     at (inr b) = let (w, there, here) = among-parts u bridge_entries t.bridges b in WithinBridge w there (bridge-uses w u here)
 
+text-there : (t : WrittenText) (u : Use) → IsAmong u (uses_of (flat_map context_entries t.contexts ++ flat_map bridge_entries t.bridges)) → IsAmong u (text_uses t)
+text-there t u h = subst (IsAmong u) (sym (version-uses t.has_version _)) h
+
 pub context-there : (t : WrittenText) (u : Use) (x : WrittenContext) → IsAmong x t.contexts → IsAmong u (uses_of (context_entries x)) → IsAmong u (text_uses t)
-context-there t u x there here = append-left u (flat_map context_entries t.contexts) (flat_map bridge_entries t.bridges) (parts-among u context_entries t.contexts x there here)
+context-there t u x there here = text-there t u (append-left u (flat_map context_entries t.contexts) (flat_map bridge_entries t.bridges) (parts-among u context_entries t.contexts x there here))
 
 pub kb-there : (t : WrittenText) (u : Use) (x : WrittenContext) → IsAmong x t.contexts → IsAmong u (uses_of (kb_entries x.name x.kb)) → IsAmong u (text_uses t)
 kb-there t u x there here = context-there t u x there (inr (inr here))
 
 pub bridge-there : (t : WrittenText) (u : Use) (b : WrittenBridge) → IsAmong b t.bridges → BridgeUse b u → IsAmong u (text_uses t)
-bridge-there t u b there here = append-right u (flat_map context_entries t.contexts) (flat_map bridge_entries t.bridges) (parts-among u bridge_entries t.bridges b there (uses-bridge b u here))
+bridge-there t u b there here = text-there t u (append-right u (flat_map context_entries t.contexts) (flat_map bridge_entries t.bridges) (parts-among u bridge_entries t.bridges b there (uses-bridge b u here)))
 
 abbrev named_at : Name → Formula → NamedRead
 named_at c f = record { context = c; belief = f }
@@ -57,6 +66,7 @@ targets-into t c (NamesOne x there is) = cc
 targets-into t c (WithinKb x there here) = absurd (not-so in_kb (NamesTarget c) (kb-in x.name x.kb (NamesTarget c) here) refl)
 targets-into t c (WithinBridge b there (OfBridge is)) = cc
 targets-into t c (WithinBridge b there (OfName is)) = cc
+targets-into t c (WithinBridge b there (OfWeight digits said is)) = cc
 targets-into t c (WithinBridge b there (OfHead (inl is))) = (b, there, cc)
 targets-into t c (WithinBridge b there (OfHead (inr here))) = absurd (not-so in_place (NamesTarget c) (place-in b.head (NamesTarget c) here) refl)
 targets-into t c (WithinBridge b there (OfRead r in_reads here)) = absurd (not-so in_read (NamesTarget c) (read-in (b.head).context r (NamesTarget c) here) refl)
@@ -73,6 +83,7 @@ sources-read t c (NamesOne x there is) = cc
 sources-read t c (WithinKb x there here) = absurd (not-so in_kb (NamesSource c) (kb-in x.name x.kb (NamesSource c) here) refl)
 sources-read t c (WithinBridge b there (OfBridge is)) = cc
 sources-read t c (WithinBridge b there (OfName is)) = cc
+sources-read t c (WithinBridge b there (OfWeight digits said is)) = cc
 sources-read t c (WithinBridge b there (OfHead (inl is))) = cc
 sources-read t c (WithinBridge b there (OfHead (inr here))) = absurd (not-so in_place (NamesSource c) (place-in b.head (NamesSource c) here) refl)
 sources-read t c (WithinBridge b there (OfRead r in_reads (inl is))) = cc
@@ -111,6 +122,7 @@ reads-into t target r (NamesOne x there is) = cc
 reads-into t target r (WithinKb x there here) = absurd (not-so in_kb (EndsRead target r.context r.belief) (kb-in x.name x.kb (EndsRead target r.context r.belief) here) refl)
 reads-into t target r (WithinBridge b there (OfBridge is)) = cc
 reads-into t target r (WithinBridge b there (OfName is)) = cc
+reads-into t target r (WithinBridge b there (OfWeight digits said is)) = cc
 reads-into t target r (WithinBridge b there (OfHead (inl is))) = cc
 reads-into t target r (WithinBridge b there (OfHead (inr here))) = absurd (not-so in_place (EndsRead target r.context r.belief) (place-in b.head (EndsRead target r.context r.belief) here) refl)
 reads-into t target r (WithinBridge b there (OfRead q in_reads (inl is))) = record { bridge = b; is_there = there; into = cc; read = q; is_read = in_reads; says = same-named (read_in q.place) r (cc) (cc) }
@@ -124,3 +136,18 @@ reads-there t target r = (λ h. reads-into t target r (text-use t (EndsRead targ
     back h =
         bridge-there t (EndsRead target r.context r.belief) h.bridge h.is_there (OfRead h.read h.is_read (inl
         (ap (λ (x : Name). EndsRead x r.context r.belief) (sym h.into) ∙ ap (λ (x : NamedRead). EndsRead (((h.bridge).head).context) x.context x.belief) (sym h.says))))
+
+-- ---- weights
+weights-said : (t : WrittenText) (n : ℕ) → TextUse t (Weighs n) → (b : WrittenBridge) × IsAmong b t.bridges × ((digits : Token) × (b.marks.weight ≡ Some digits) × (n ≡ value_of_digits digits))
+weights-said t n (BeginsOne is) = cc
+weights-said t n (NamesOne x there is) = cc
+weights-said t n (WithinKb x there here) = absurd (not-so in_kb (Weighs n) (kb-in x.name x.kb (Weighs n) here) refl)
+weights-said t n (WithinBridge b there (OfBridge is)) = cc
+weights-said t n (WithinBridge b there (OfName is)) = cc
+weights-said t n (WithinBridge b there (OfWeight digits said is)) = (b, there, (digits, said, cc))
+weights-said t n (WithinBridge b there (OfHead (inl is))) = cc
+weights-said t n (WithinBridge b there (OfHead (inr here))) = absurd (not-so in_place (Weighs n) (place-in b.head (Weighs n) here) refl)
+weights-said t n (WithinBridge b there (OfRead r in_reads here)) = absurd (not-so in_read (Weighs n) (read-in (b.head).context r (Weighs n) here) refl)
+
+pub weights-there : (t : WrittenText) (n : ℕ) → IsAmong (Weighs n) (text_uses t) → (b : WrittenBridge) × IsAmong b t.bridges × ((digits : Token) × (b.marks.weight ≡ Some digits) × (n ≡ value_of_digits digits))
+weights-there t n h = weights-said t n (text-use t (Weighs n) h)

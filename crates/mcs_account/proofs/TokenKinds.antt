@@ -1,6 +1,6 @@
 -- What a token may be there for is told by its kind, and its kind by its bytes.
 use Rattle.std.proofs.Common.{◌≡◌, Bool, true, false, not, codes, List, [], ◌∷◌, Some, refl, sym, ap, subst, ◌∙◌, arith, length, leb}
-use Rattle.std.specs.Prelude.{slice_get, IsTrue}
+use Rattle.std.specs.Prelude.{slice_get, slice_index, IsTrue}
 use Rattle.std.proofs.lemmas.Bool.Decides.{nat_tests}
 use Rattle.std.proofs.lemmas.Bool.{and_parts, and_from, not-true, false_from_ne_true}
 use Rattle.std.proofs.lemmas.Option.{same_Some}
@@ -26,7 +26,7 @@ terminals : List Terminal
 terminals = terminal.Keyword word.Context ∷ terminal.Keyword word.Bridge ∷ terminal.Keyword word.Classical ∷ terminal.Keyword word.Default ∷ terminal.Keyword word.Program ∷ terminal.Keyword word.Not ∷ terminal.Keyword word.If
     ∷ terminal.Keyword word.True ∷ terminal.Keyword word.False ∷ terminal.Keyword word.Version ∷ terminal.Keyword word.Keep ∷ terminal.Keyword word.Closed ∷ terminal.Keyword word.Weight ∷ terminal.Keyword word.Autoepistemic ∷ terminal.Keyword word.Know
     ∷ terminal.Sign sign.OpenBrace ∷ terminal.Sign sign.CloseBrace ∷ terminal.Sign sign.Period ∷ terminal.Sign sign.Comma ∷ terminal.Sign sign.Colon ∷ terminal.Sign sign.If ∷ terminal.Sign sign.Slash ∷ terminal.Sign sign.Bar
-    ∷ terminal.Sign sign.Ampersand ∷ terminal.Sign sign.Tilde ∷ terminal.Sign sign.Arrow ∷ terminal.Sign sign.DoubleArrow ∷ terminal.Sign sign.OpenParenthesis ∷ terminal.Sign sign.CloseParenthesis ∷ terminal.Name ∷ terminal.Stray ∷ []
+    ∷ terminal.Sign sign.Ampersand ∷ terminal.Sign sign.Tilde ∷ terminal.Sign sign.Arrow ∷ terminal.Sign sign.DoubleArrow ∷ terminal.Sign sign.OpenParenthesis ∷ terminal.Sign sign.CloseParenthesis ∷ terminal.Name ∷ terminal.Two ∷ terminal.Number ∷ terminal.ZeroNumber ∷ terminal.Stray ∷ []
 
 numbered : (d : Terminal) → slice_get terminals (number d) ≡ Some d
 unfolding terminals
@@ -38,9 +38,10 @@ pub one-terminal : (d e : Terminal) → number d ≡ number e → d ≡ e
 one-terminal d e same = same_Some d e (sym (numbered d) ∙ ap (slice_get terminals) same ∙ numbered e)
 
 -- ---- tokens that may be there for what they are there for
--- no class wants a token of no kind
+-- no class wants a token of no kind, nor a number that begins with `0`
 abbrev is_stray : Terminal → Bool
 is_stray terminal.Stray = true
+is_stray terminal.ZeroNumber = true
 is_stray d = false
 
 never-stray : (c : Class) → is_stray (wanted c) ≡ false
@@ -58,6 +59,9 @@ content (kinds.Keyword k) d t h e s = subst (λ (d' : Terminal). (x : Content d'
 content kinds.Name d t h e s = subst (λ (d' : Terminal). (x : Content d') × (spelled d' x ≡ t)) e ((t, short-name t h), refl)
 content kinds.LongName d t h e s = subst (λ (d' : Terminal). (x : Content d') × (spelled d' x ≡ t)) e ((t, long-name t h.0 h.1), refl)
 content (kinds.Sign k) d t h e s = subst (λ (d' : Terminal). (x : Content d') × (spelled d' x ≡ t)) e (tt, sym h)
+content kinds.Two d t h e s = subst (λ (d' : Terminal). (x : Content d') × (spelled d' x ≡ t)) e (tt, sym h)
+content kinds.Number d t h e s = subst (λ (d' : Terminal). (x : Content d') × (spelled d' x ≡ t)) e ((t, h.0, h.1, h.2), refl)
+content kinds.ZeroNumber d t h e s = absurd (cc (ap is_stray e))
 content kinds.Stray d t h e s = absurd (cc (ap is_stray e))
 
 -- a token of a kind that the class wants
@@ -79,6 +83,9 @@ pub kind-for : (d : Terminal) (x : Content d) → (k : TokenKind) × IsKind k (s
 kind-for terminal.Name x = name-kind x.0 x.1
 kind-for (terminal.Keyword k) x = (kinds.Keyword k, refl, refl)
 kind-for (terminal.Sign s) x = (kinds.Sign s, refl, refl)
+kind-for terminal.Two x = (kinds.Two, refl, refl)
+kind-for terminal.Number x = (kinds.Number, (x.1, x.2, x.3), refl)
+kind-for terminal.ZeroNumber x = absurd x
 kind-for terminal.Stray x = absurd x
 
 -- the token tells what it may be there for
@@ -96,6 +103,9 @@ unfolding reserved_words
 sample terminal.Name s = (codes "a", refl)
 sample (terminal.Keyword k) s = tt
 sample (terminal.Sign k) s = tt
+sample terminal.Two s = tt
+sample terminal.Number s = (codes "1", refl, λ e. absurd (omega (arith, e)), λ e. absurd (omega (arith, ap (λ (t : Token). slice_index t 0) e)))
+sample terminal.ZeroNumber s = absurd (cc)
 sample terminal.Stray s = absurd (cc)
 
 pub some-fill : (c : Class) → Fill c

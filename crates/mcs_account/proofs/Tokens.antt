@@ -1,9 +1,11 @@
 -- The tokens of what is written, and that each may be there for what it is there for.
-use Rattle.std.proofs.Common.{◌≡◌, Bool, true, false, codes, List, [], ◌∷◌, ◌++◌, refl, sym, ap, ◌∙◌, append_assoc, append-nil}
+use Rattle.std.proofs.Common.{◌≡◌, Bool, true, false, cond, codes, Option, Some, None, List, [], ◌∷◌, ◌++◌, refl, sym, ap, ◌∙◌, append_assoc, append-nil, true≢false}
+use Rattle.std.specs.Str.{bytes_eq}
+use Rattle.std.proofs.lemmas.Slice.Eq.{bytes_eq-Decides}
 use Rattle.std.proofs.lemmas.List.{map-append}
 use Rattle.std.specs.List.{flat_map, AllByRecursion}
 use Rattle.mcs_system.specs.Plain as plain
-use Rattle.mcs_grammar.specs.Written.{Written, True', False', Named, Denied, Grouped, Both, Either, Leads, Equals, HasNames, IsFormula, WrittenItem, Fact, IsItem, WrittenLiteral, WrittenRule, IsRule, WrittenKb, Classical, DefaultTheory, Program, IsKb, WrittenContext, IsContext, WrittenRead, IsPlace, WrittenBridge, IsWrittenBridge, WrittenText, IsText, IsNameWord}
+use Rattle.mcs_grammar.specs.Written.{Written, True', False', Named, Denied, Grouped, Both, Either, Leads, Equals, HasNames, IsFormula, WrittenItem, Fact, IsItem, WrittenLiteral, WrittenRule, IsRule, WrittenKb, Classical, DefaultTheory, Program, IsKb, WrittenContext, IsContext, WrittenRead, IsPlace, WrittenBridge, IsWrittenBridge, IsWeight, WrittenText, IsText, IsNameWord}
 use Rattle.mcs_grammar.specs.Written as written
 use Rattle.mcs_grammar.specs.Entries.{Token, Use, EndsRead, Entry, with_last, text_entries, tokens_of}
 use Rattle.mcs_system.specs.Plain.{Name}
@@ -12,7 +14,7 @@ use Rattle.mcs_productions.specs.declared.class.Class.TheVariants as class
 use Rattle.mcs_productions.specs.declared.production.Action.{Action}
 use Rattle.mcs_productions.specs.declared.production.Action.TheVariants as action
 use Rattle.mcs_account.specs.Mark.{Mark, Seen, Said, IsFilled, tokens_in}
-use Rattle.mcs_account.specs.Marks.{Marked, Filled, Fill, bytes_for, formula_marks, two_marks, after_marks, item_marks, head_marks, further_head_marks, literal_denial, literal_marks, further_literal_marks, sign_marks, rule_marks, ended_marks, kb_marks, context_marks, denial_marks, read_marks, further_marks, reads_marks, bridge_marks, text_marks}
+use Rattle.mcs_account.specs.Marks.{Marked, Filled, Fill, bytes_for, formula_marks, two_marks, after_marks, item_marks, head_marks, further_head_marks, literal_denial, literal_marks, further_literal_marks, sign_marks, rule_marks, ended_marks, kb_marks, context_marks, denial_marks, read_marks, further_marks, reads_marks, tail_marks, word_marks, weight_marks, bridge_marks, version_marks, text_marks}
 use Rattle.mcs_account.specs.Account.{Course, course_step, course_told, read_ends, followed}
 use Rattle.mcs_account.proofs.Courses.{course_at, free_place}
 use Rattle.mcs_account.proofs.ContextCourses.{text-follows}
@@ -119,24 +121,47 @@ reads-filled : (rs : List WrittenRead) → AllByRecursion (λ (r : WrittenRead).
 reads-filled [] h = tt
 reads-filled (r ∷ rs) h = ((tt, refl), join-filled (read_marks r) _ (read-filled r h.0) (all-filled (λ (q : WrittenRead). IsPlace q.place) further_marks (λ q p. ((tt, refl), read-filled q p)) rs h.1))
 
+word-filled : (c : Class) (word : Token) → IsOne (Seen c word) → (b : Bool) → Filled (word_marks c word b)
+word-filled c word one true = (one, tt)
+word-filled c word one false = tt
+
+weight-filled : (w : Option Token) → IsWeight w → Filled (weight_marks w)
+weight-filled None h = tt
+weight-filled (Some digits) h = ((tt, refl), (at (bytes_eq digits (codes "2")) refl, tt))
+  where
+    at : (b : Bool) → bytes_eq digits (codes "2") ≡ b → IsOne (Seen (cond b class.WeighsTwo class.Weighs) digits)
+    at true e = (tt, sym ((bytes_eq-Decides digits (codes "2")).0 e))
+    at false e = ((digits, h.0, h.1, λ two. true≢false (sym ((bytes_eq-Decides digits (codes "2")).1 two) ∙ e)), refl)
+
+tail-filled : (b : WrittenBridge) → IsWrittenBridge b → Filled (tail_marks b.head b.reads)
+tail-filled b h = (
+  (tt, refl),
+  (
+    ((b.head.context, h.1.0), refl),
+    (
+      (tt, refl),
+      join-filled (formula_marks b.head.belief) _ (formula-filled b.head.belief h.1.1.1)
+          (join-filled (reads_marks b.reads) _ (reads-filled b.reads h.2) ((tt, refl), tt)),
+    ),
+  ),
+)
+
 bridge-filled : (b : WrittenBridge) → IsWrittenBridge b → Filled (bridge_marks b)
 bridge-filled b h = (
   (tt, refl),
   (
     ((b.name, h.0), refl),
-    (
-      (tt, refl),
-      (
-        ((b.head.context, h.1.0), refl),
-        (
-          (tt, refl),
-          join-filled (formula_marks b.head.belief) _ (formula-filled b.head.belief h.1.1.1)
-              (join-filled (reads_marks b.reads) _ (reads-filled b.reads h.2) ((tt, refl), tt)),
-        ),
-      ),
-    ),
+    join-filled (word_marks class.Keeps (codes "keep") b.marks.keep) _ (word-filled class.Keeps (codes "keep") (tt, refl) b.marks.keep)
+        (join-filled (word_marks class.Closes (codes "closed") b.marks.closed) _ (word-filled class.Closes (codes "closed") (tt, refl) b.marks.closed)
+        (join-filled (weight_marks b.marks.weight) _ (weight-filled b.marks.weight h.3) (tail-filled b h))),
   ),
 )
 
+version-filled : (v : Bool) → Filled (version_marks v)
+version-filled true = ((tt, refl), ((tt, refl), ((tt, refl), tt)))
+version-filled false = tt
+
 pub text-filled : (t : WrittenText) → IsText t → Filled (text_marks t)
-text-filled t h = join-filled (flat_map context_marks t.contexts) _ (all-filled IsContext context_marks context-filled t.contexts h.0) (all-filled IsWrittenBridge bridge_marks bridge-filled t.bridges h.1)
+text-filled t h =
+    join-filled (version_marks t.has_version) _ (version-filled t.has_version)
+    (join-filled (flat_map context_marks t.contexts) _ (all-filled IsContext context_marks context-filled t.contexts h.0) (all-filled IsWrittenBridge bridge_marks bridge-filled t.bridges h.1))

@@ -2,11 +2,12 @@
 use Rattle.std.proofs.Common.{◌≡◌, ℕ, ◌<◌, Bool, true, false, List, [], ◌∷◌, map, refl, sym, ap, ◌∙◌, subst, inl, inr, ◌⊎◌, arith, true≢false}
 use Rattle.std.specs.Prelude.{min}
 use Rattle.mcs_base.specs.Listings.{IsAmong}
+use Rattle.mcs_base.specs.Numbers.{value_of_digits}
 use Rattle.mcs_base.proofs.Among.{among_left, among_right, among_either}
 use Rattle.mcs_account.specs.declared.place.Role as code_role
 use Rattle.mcs_account.specs.declared.place.Role.TheVariants as roles
 use Rattle.mcs_account.specs.declared.place.Uses as code_uses
-use Rattle.mcs_grammar.specs.Entries.{Token, Use, BeginsContext, BeginsBridge, NamesContext, NamesBridge, SaysProgram, BeginsItem, BeginsDefault, NamesTarget, NamesSource, BeginsBelief, EndsRead, AtomOf, IsNumber, OpensWithin}
+use Rattle.mcs_grammar.specs.Entries.{Token, Use, BeginsContext, BeginsBridge, NamesContext, NamesBridge, Weighs, SaysProgram, BeginsItem, BeginsDefault, NamesTarget, NamesSource, BeginsBelief, EndsRead, AtomOf, IsNumber, OpensWithin}
 use Rattle.mcs_account.specs.Account.{when}
 use Rattle.mcs_account.specs.Images.{About, capped, role_uses, uses_in}
 
@@ -20,6 +21,7 @@ IsIn a t uses BeginsContext = uses.role ≡ roles.BeginsContext
 IsIn a t uses BeginsBridge = uses.role ≡ roles.BeginsBridge
 IsIn a t uses (NamesContext c) = (uses.role ≡ roles.NamesContext) × (c ≡ t)
 IsIn a t uses (NamesBridge b) = (uses.role ≡ roles.NamesBridge) × (b ≡ t)
+IsIn a t uses (Weighs w) = (uses.role ≡ roles.Weighs) × (w ≡ value_of_digits t)
 IsIn a t uses (SaysProgram c) = (uses.role ≡ roles.SaysProgram) × (c ≡ a.subject.context)
 IsIn a t uses (BeginsItem c) = (uses.begins_item ≡ true) × (c ≡ a.subject.context)
 IsIn a t uses (BeginsDefault c) = (uses.role ≡ roles.BeginsDefault) × (c ≡ a.subject.context)
@@ -47,6 +49,7 @@ module _ (a : About) (t : Token) (uses : code_uses.Uses) where
   role-in u roles.BeginsBridge e (inl is) = subst (IsIn a t uses) (sym is) e
   role-in u roles.NamesContext e (inl is) = subst (IsIn a t uses) (sym is) (e, refl)
   role-in u roles.NamesBridge e (inl is) = subst (IsIn a t uses) (sym is) (e, refl)
+  role-in u roles.Weighs e (inl is) = subst (IsIn a t uses) (sym is) (e, refl)
   role-in u roles.SaysProgram e (inl is) = subst (IsIn a t uses) (sym is) (e, refl)
   role-in u roles.BeginsDefault e (inl is) = subst (IsIn a t uses) (sym is) (e, refl)
   role-in u roles.NamesTarget e (inl is) = subst (IsIn a t uses) (sym is) (e, refl)
@@ -59,6 +62,7 @@ module _ (a : About) (t : Token) (uses : code_uses.Uses) where
   role-in u roles.BeginsBridge e (inr none) = absurd none
   role-in u roles.NamesContext e (inr none) = absurd none
   role-in u roles.NamesBridge e (inr none) = absurd none
+  role-in u roles.Weighs e (inr none) = absurd none
   role-in u roles.SaysProgram e (inr none) = absurd none
   role-in u roles.BeginsDefault e (inr none) = absurd none
   role-in u roles.NamesTarget e (inr none) = absurd none
@@ -90,6 +94,7 @@ module _ (a : About) (t : Token) (uses : code_uses.Uses) where
   in-told BeginsBridge h = by-role BeginsBridge roles.BeginsBridge h (inl refl)
   in-told (NamesContext c) h = by-role (NamesContext c) roles.NamesContext h.0 (inl (ap (λ x. NamesContext x) h.1))
   in-told (NamesBridge b) h = by-role (NamesBridge b) roles.NamesBridge h.0 (inl (ap (λ x. NamesBridge x) h.1))
+  in-told (Weighs w) h = by-role (Weighs w) roles.Weighs h.0 (inl (ap (λ x. Weighs x) h.1))
   in-told (SaysProgram c) h = by-role (SaysProgram c) roles.SaysProgram h.0 (inl (ap (λ x. SaysProgram x) h.1))
   in-told (BeginsItem c) h =
       among_right (BeginsItem c) (when uses.ends_read (EndsRead a.subject.target a.subject.context a.belief)) _
@@ -115,6 +120,7 @@ capped-back u BeginsContext other e = e
 capped-back u BeginsBridge other e = e
 capped-back u (NamesContext c) other e = e
 capped-back u (NamesBridge b) other e = e
+capped-back u (Weighs w) other e = e
 capped-back u (SaysProgram c) other e = e
 capped-back u (BeginsItem c) other e = e
 capped-back u (BeginsDefault c) other e = e
@@ -148,6 +154,7 @@ capped-number n BeginsContext less e = e
 capped-number n BeginsBridge less e = e
 capped-number n (NamesContext c) less e = e
 capped-number n (NamesBridge b) less e = e
+capped-number n (Weighs w) less e = e
 capped-number n (SaysProgram c) less e = e
 capped-number n (BeginsItem c) less e = e
 capped-number n (BeginsDefault c) less e = e

@@ -78,6 +78,7 @@ atoms-said t c a (NamesOne x there is) = cc
 atoms-said t c a (WithinKb x there here) = let said = kb-atom-use c a x.name x.kb (kb-uses x.name x.kb (AtomOf c a) here) in inl (x, there, said.0, said.1)
 atoms-said t c a (WithinBridge b there (bridges.OfBridge is)) = cc
 atoms-said t c a (WithinBridge b there (bridges.OfName is)) = cc
+atoms-said t c a (WithinBridge b there (bridges.OfWeight digits said is)) = cc
 atoms-said t c a (WithinBridge b there (bridges.OfHead (inl is))) = cc
 atoms-said t c a (WithinBridge b there (bridges.OfHead (inr (inl is)))) = cc
 atoms-said t c a (WithinBridge b there (bridges.OfHead (inr (inr here)))) = place-atom c a b.head t (OfHead b there refl) here

@@ -1,7 +1,7 @@
 -- What the productions say: the written parts, and how each is written.
 use Rattle.std.proofs.Common.{◌≡◌, ℕ, ◌≤◌, true, List}
 use Rattle.std.specs.List.{AllByRecursion}
-use Rattle.mcs_grammar.specs.Written.{Written, level, IsFormula, WrittenItem, IsItem, WrittenLiteral, WrittenRule, IsRule, WrittenContext, IsContext, WrittenPlace, WrittenRead, WrittenBridge, WrittenText, IsText, IsNameWord, IsPlace, IsWrittenBridge}
+use Rattle.mcs_grammar.specs.Written.{Written, level, IsFormula, WrittenItem, IsItem, WrittenLiteral, WrittenRule, IsRule, WrittenContext, IsContext, WrittenPlace, WrittenRead, WrittenBridge, WrittenText, IsText, no_marks, IsNameWord, IsPlace, IsWrittenBridge}
 use Rattle.mcs_productions.specs.declared.production.Production.{Production}
 use Rattle.mcs_productions.specs.declared.production.Production.TheVariants as name
 use Rattle.mcs_account.specs.Marks.{Marked, formula_marks, literal_marks, sign_marks, rule_marks, item_marks, context_marks, text_marks, belief_marks, read_marks, tail_marks, bridge_marks}
@@ -28,7 +28,8 @@ Value name.Primary = Primary
 Value name.Place = Primary
 Value name.Read = ReadValue
 Value name.BridgeTail = (head : WrittenPlace) × (reads : List WrittenRead) × IsPlace head × AllByRecursion (λ (r : WrittenRead). IsPlace r.place) reads
-Value name.Bridge = (b : WrittenBridge) × IsWrittenBridge b
+Value name.Bridge = (b : WrittenBridge) × IsWrittenBridge b × (b.marks ≡ no_marks)
+Value name.MarkedBridge = (b : WrittenBridge) × IsWrittenBridge b
 Value name.Literal = LiteralValue
 Value name.Body = (ls : List WrittenLiteral) × AllByRecursion (λ (l : WrittenLiteral). IsNameWord l.atom) ls
 Value name.ProgramRule = (r : WrittenRule) × IsRule r
@@ -46,6 +47,7 @@ value_marks name.Place v = belief_marks v.0
 value_marks name.Read v = read_marks v.0
 value_marks name.BridgeTail v = tail_marks v.0 v.1
 value_marks name.Bridge v = bridge_marks v.0
+value_marks name.MarkedBridge v = bridge_marks v.0
 value_marks name.Literal v = literal_marks v.0
 value_marks name.Body v = sign_marks true v.0
 value_marks name.ProgramRule v = rule_marks v.0

@@ -6,7 +6,7 @@ use Rattle.mcs_syntax.specs.Grammar.{Means, tokens}
 use Rattle.mcs_syntax.specs.Reads.{IsRead}
 use Rattle.mcs_system.specs.Plain as plain
 use Rattle.mcs_grammar.specs.Entries.{Token, formula_in, text_entries, tokens_of}
-use Rattle.mcs_grammar.specs.Saying.{context_in, SaysPlace, SaysBridge, Each, positive_places, negative_places}
+use Rattle.mcs_grammar.specs.Saying.{context_in, weight_said, SaysPlace, SaysBridge, Each, positive_places, negative_places}
 use Rattle.mcs_productions.specs.Productions.{rules, grammar}
 use Rattle.mcs_productions.specs.declared.class.Class.{Class}
 use Rattle.mcs_productions.specs.declared.production.Action.{Action}
@@ -16,18 +16,18 @@ use Rattle.mcs_account.specs.Marks.{Marked, marks_for, text_marks}
 use Rattle.mcs_account.specs.Account.{Account, told, no_account, accounted, number_of, the_read}
 use Rattle.mcs_account.specs.Reading.{AreRead, Events}
 use Rattle.mcs_account.proofs.Forward.{Part, text-of}
-use Rattle.mcs_account.proofs.Accounts.{accounted-append, bridge_said, read_said, names_in}
+use Rattle.mcs_account.proofs.Accounts.{accounted-append, weight_in, weight-known, the_rule, bridge_said, read_said, names_in}
 use Rattle.mcs_account.proofs.ContextAccounts.{text-accounts}
 use Rattle.mcs_account.proofs.FaultTheory.{Whole, is-whole, none-for, events-for}
 use Rattle.mcs_account.proofs.Reading.{no-late, same-kinds, same-marks}
 use Rattle.mcs_account.specs.Turns.{}
 use Rattle.mcs_account.proofs.ReadEnds.{ends_late}
 use Rattle.std.specs.Prelude.{cond, nat_lt}
-use Rattle.std.specs.List.{position, position_or_len}
+use Rattle.std.specs.List.{position, position_or_len, AllByRecursion}
 use Rattle.std.proofs.lemmas.Bool.Decides.{nat_tests}
 use Rattle.std.proofs.lemmas.List.{length-map, nil_from_length}
 use Rattle.mcs_syntax.proofs.Unique.{one-way}
-use Rattle.mcs_system.specs.Plain.{Name, plain_rule}
+use Rattle.mcs_system.specs.Plain.{Name}
 use Rattle.mcs_system.specs.Logic.{same_name}
 use Rattle.mcs_grammar.specs.Written.{WrittenPlace, WrittenBridge, WrittenText, IsText}
 use Rattle.mcs_productions.specs.Readable.{reads}
@@ -113,16 +113,26 @@ module _ (cs : List plain.Context) (few : length cs ≤ 64) where
   each-said (p ∷ ps) [] h = absurd h
   each-said (p ∷ ps) (r ∷ rs) h = ap (λ (x : plain.Read). x ∷ rs) (place-said p r h.0) ∙ ap (λ (l : List plain.Read). read_said cs p ∷ l) (each-said ps rs h.1)
 
-  bridge-said-is : (w : WrittenBridge) (b : plain.Bridge) → SaysBridge (names_in cs) w b → b ≡ bridge_said cs w
-  bridge-said-is w b h =
-      h.unmarked
-      ∙ (ap (λ (x : Name). plain_rule x b.target b.head b.pos b.neg) h.named ∙ ap (λ (x : ℕ). plain_rule w.name x b.head b.pos b.neg) (number-said w.head.context b.target h.head.number)
-      ∙ ap (λ (x : plain.Formula). plain_rule w.name (number_of cs w.head.context) x b.pos b.neg) h.head.belief
-      ∙ ap (λ (x : List plain.Read). plain_rule w.name (number_of cs w.head.context) (formula_in w.head.belief) x b.neg) (each-said (positive_places w.reads) b.pos h.pos)
-      ∙ ap (plain_rule w.name (number_of cs w.head.context) (formula_in w.head.belief) (map (read_said cs) (positive_places w.reads))) (each-said (negative_places w.reads) b.neg h.neg))
+  weight-same : (w : WrittenBridge) (b : plain.Bridge) → b.weight ≤ 1000000 → b.weight ≡ weight_said w.marks.weight → b.weight ≡ weight_in w.marks.weight
+  weight-same w b light e = e ∙ sym (weight-known w.marks.weight (subst (λ (n : ℕ). n ≤ 1000000) e light))
 
-  pub bridges-said : (ws : List WrittenBridge) (bs : List plain.Bridge) → Each (SaysBridge (names_in cs)) ws bs → bs ≡ map (bridge_said cs) ws
-  bridges-said [] [] h = refl
-  bridges-said [] (b ∷ bs) h = absurd h
-  bridges-said (w ∷ ws) [] h = absurd h
-  bridges-said (w ∷ ws) (b ∷ bs) h = ap (λ (x : plain.Bridge). x ∷ bs) (bridge-said-is w b h.0) ∙ ap (λ (l : List plain.Bridge). bridge_said cs w ∷ l) (bridges-said ws bs h.1)
+  bridge-said-is : (w : WrittenBridge) (b : plain.Bridge) → b.weight ≤ 1000000 → SaysBridge (names_in cs) w b → b ≡ bridge_said cs w
+  bridge-said-is w b light h =
+      let n : ℕ = number_of cs w.head.context in
+      let f : plain.Formula = formula_in w.head.belief in
+      let pos : List plain.Read = map (read_said cs) (positive_places w.reads) in
+      let neg : List plain.Read = map (read_said cs) (negative_places w.reads) in
+      ap (λ (x : Name). the_rule x b.target b.head b.pos b.neg b.keep b.closed b.weight) h.named
+      ∙ ap (λ (x : ℕ). the_rule w.name x b.head b.pos b.neg b.keep b.closed b.weight) (number-said w.head.context b.target h.head.number)
+      ∙ ap (λ (x : plain.Formula). the_rule w.name n x b.pos b.neg b.keep b.closed b.weight) h.head.belief
+      ∙ ap (λ (x : List plain.Read). the_rule w.name n f x b.neg b.keep b.closed b.weight) (each-said (positive_places w.reads) b.pos h.pos)
+      ∙ ap (λ (x : List plain.Read). the_rule w.name n f pos x b.keep b.closed b.weight) (each-said (negative_places w.reads) b.neg h.neg)
+      ∙ ap (λ (x : Bool). the_rule w.name n f pos neg x b.closed b.weight) h.keep
+      ∙ ap (λ (x : Bool). the_rule w.name n f pos neg w.marks.keep x b.weight) h.closed
+      ∙ ap (the_rule w.name n f pos neg w.marks.keep w.marks.closed) (weight-same w b light h.weight)
+
+  pub bridges-said : (ws : List WrittenBridge) (bs : List plain.Bridge) → AllByRecursion (λ (b : plain.Bridge). b.weight ≤ 1000000) bs → Each (SaysBridge (names_in cs)) ws bs → bs ≡ map (bridge_said cs) ws
+  bridges-said [] [] light h = refl
+  bridges-said [] (b ∷ bs) light h = absurd h
+  bridges-said (w ∷ ws) [] light h = absurd h
+  bridges-said (w ∷ ws) (b ∷ bs) light h = ap (λ (x : plain.Bridge). x ∷ bs) (bridge-said-is w b light.0 h.0) ∙ ap (λ (l : List plain.Bridge). bridge_said cs w ∷ l) (bridges-said ws bs light.1 h.1)

@@ -2,10 +2,11 @@
 -- class, and an action are one step each.
 use Rattle.std.specs.Prelude.{ℕ, ◌+◌, ◌-◌, min, Bool, true, false, List, [], ◌∷◌, ◌++◌, map}
 use Rattle.std.specs.List.{position_or_len}
+use Rattle.mcs_base.specs.Numbers.{value_of_digits}
 use Rattle.mcs_system.specs.Plain.{Name}
 use Rattle.mcs_system.specs.Plain as plain
 use Rattle.mcs_system.specs.Logic.{same_name}
-use Rattle.mcs_grammar.specs.Entries.{Token, Use, BeginsContext, BeginsBridge, NamesContext, NamesBridge, SaysProgram, BeginsItem, BeginsDefault, NamesTarget, NamesSource, BeginsBelief, EndsRead, AtomOf, IsNumber, OpensWithin, Entry, entry, with_last}
+use Rattle.mcs_grammar.specs.Entries.{Token, Use, BeginsContext, BeginsBridge, NamesContext, NamesBridge, Weighs, SaysProgram, BeginsItem, BeginsDefault, NamesTarget, NamesSource, BeginsBelief, EndsRead, AtomOf, IsNumber, OpensWithin, Entry, entry, with_last}
 use Rattle.mcs_productions.specs.declared.class.Class.{Class}
 use Rattle.mcs_productions.specs.declared.class.Class.TheVariants as class
 use Rattle.mcs_productions.specs.declared.production.Action.{Action}
@@ -38,7 +39,7 @@ in_last f [] = []
 in_last f (x ∷ []) = f x ∷ []
 in_last f (x ∷ y ∷ xs) = x ∷ in_last f (y ∷ xs)
 
--- the greatest number that a context may have in code
+-- the greatest number that a context or a weight may have in code
 abbrev pub greatest_number : ℕ
 greatest_number = 4294967295
 
@@ -75,6 +76,19 @@ with_literal false n r = record r { pos = r.pos ++ n ∷ [] }
 abbrev pub named_rule : Name → plain.Bridge
 named_rule n = plain.plain_rule n 0 plain.Truth [] []
 
+abbrev pub with_keep : plain.Bridge → plain.Bridge
+with_keep b = record b { keep = true }
+
+abbrev pub with_closed : plain.Bridge → plain.Bridge
+with_closed b = record b { closed = true }
+
+-- the number that the digits spell
+abbrev pub weight_of : Token → ℕ
+weight_of digits = min (value_of_digits digits) greatest_number
+
+abbrev pub with_weight : ℕ → plain.Bridge → plain.Bridge
+with_weight n b = record b { weight = n }
+
 abbrev pub with_target : ℕ → plain.Bridge → plain.Bridge
 with_target k b = record b { target = k }
 
@@ -102,6 +116,10 @@ took a class.IsHeadAtom t = record a { rule = record a.rule { head = a.rule.head
 took a class.DeniesLiteral t = record a { denied = true }
 took a class.IsBodyAtom t = record a { rule = with_literal a.denied t a.rule; denied = false }
 took a class.NamesBridge t = record a { bridges = a.bridges ++ named_rule t ∷ [] }
+took a class.Keeps t = record a { bridges = in_last with_keep a.bridges }
+took a class.Closes t = record a { bridges = in_last with_closed a.bridges }
+took a class.Weighs t = record a { bridges = in_last (with_weight (weight_of t)) a.bridges }
+took a class.WeighsTwo t = record a { bridges = in_last (with_weight (weight_of t)) a.bridges }
 took a class.NamesTarget t = record a { bridges = in_last (with_target (number_of a.contexts t)) a.bridges }
 took a class.DeniesRead t = record a { denied = true }
 took a class.NamesSource t = record a { source = number_of a.contexts t }
@@ -166,6 +184,8 @@ own_uses p class.IsHeadAtom t = AtomOf p.context t ∷ IsNumber (p.counted + 1) 
 own_uses p class.IsBodyAtom t = AtomOf p.context t ∷ IsNumber (p.counted + 1) ∷ []
 own_uses p class.BeginsBridge t = BeginsBridge ∷ []
 own_uses p class.NamesBridge t = NamesBridge t ∷ []
+own_uses p class.Weighs t = Weighs (value_of_digits t) ∷ []
+own_uses p class.WeighsTwo t = Weighs (value_of_digits t) ∷ []
 own_uses p class.NamesTarget t = NamesTarget t ∷ []
 own_uses p class.NamesSource t = NamesSource t ∷ []
 own_uses p class.Negates t = IsNumber (p.counted + 1) ∷ []

@@ -2,12 +2,13 @@
 use Rattle.std.specs.Prelude.{◌≡◌, ℕ, ◌≤◌, min, List, [], ◌∷◌, ◌++◌, length, map, reverse}
 use Rattle.mcs_base.specs.Listings.{IsAmong}
 use Rattle.mcs_base.specs.Words.{most_name_bytes}
+use Rattle.mcs_base.specs.Numbers.{value_of_digits}
 use Rattle.mcs_system.specs.Plain.{Name}
 use Rattle.mcs_system.specs.Plain as plain
 use Rattle.mcs_system.specs.Seen.{bridge_of, context_of, formula_of, rule_of}
 use Rattle.mcs_system.specs.declared.formula.Formula as code_formula
 use Rattle.mcs_grammar.specs.Written.{WrittenPlace}
-use Rattle.mcs_grammar.specs.Entries.{Token, formula_in, Use, BeginsContext, BeginsBridge, NamesContext, NamesBridge, SaysProgram, BeginsItem, BeginsDefault, NamesTarget, NamesSource, BeginsBelief, EndsRead, AtomOf, IsNumber, OpensWithin}
+use Rattle.mcs_grammar.specs.Entries.{Token, formula_in, Use, BeginsContext, BeginsBridge, NamesContext, NamesBridge, Weighs, SaysProgram, BeginsItem, BeginsDefault, NamesTarget, NamesSource, BeginsBelief, EndsRead, AtomOf, IsNumber, OpensWithin}
 use Rattle.mcs_grammar.specs.Faults.{NamedRead}
 use Rattle.mcs_productions.specs.declared.class.Class.{Class}
 use Rattle.mcs_productions.specs.declared.class.Class.TheVariants as class
@@ -87,6 +88,7 @@ role_uses a t roles.BeginsContext = BeginsContext ∷ []
 role_uses a t roles.BeginsBridge = BeginsBridge ∷ []
 role_uses a t roles.NamesContext = NamesContext t ∷ []
 role_uses a t roles.NamesBridge = NamesBridge t ∷ []
+role_uses a t roles.Weighs = Weighs (value_of_digits t) ∷ []
 role_uses a t roles.SaysProgram = SaysProgram a.subject.context ∷ []
 role_uses a t roles.BeginsDefault = BeginsDefault a.subject.context ∷ []
 role_uses a t roles.NamesTarget = NamesTarget t ∷ []

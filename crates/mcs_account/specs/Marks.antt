@@ -1,12 +1,15 @@
 -- What is written in a text as a text of the grammar: its tokens with what each is there for, and what is whole after them.
-use Rattle.std.specs.Prelude.{Bool, true, false, List, [], ◌∷◌, ◌++◌, codes}
+use Rattle.std.specs.Prelude.{◌≢◌, Bool, true, false, cond, IsTrue, List, [], ◌∷◌, ◌++◌, codes, Option, Some, None, slice_index}
 use Rattle.std.specs.List.{flat_map}
+use Rattle.std.specs.Str.{bytes_eq}
 use Rattle.mcs_syntax.specs.declared.part.Event.{Event}
 use Rattle.mcs_syntax.specs.declared.part.Event.TheVariants.{Took, Told}
 use Rattle.mcs_account.specs.Mark.{Mark, Seen, Said, AreFilled}
 use Rattle.mcs_base.specs.Words.{keyword_bytes}
 use Rattle.mcs_tokens.specs.Spelling.{sign_bytes}
-use Rattle.mcs_grammar.specs.Written.{Written, True', False', Named, Denied, Grouped, Both, Either, Leads, Equals, WrittenDefault, WrittenItem, Fact, Rule, WrittenLiteral, WrittenRule, WrittenKb, Classical, DefaultTheory, Program, WrittenContext, WrittenPlace, WrittenRead, WrittenBridge, WrittenText, IsNameWord}
+use Rattle.mcs_tokens.specs.Tokens.{is_number}
+use Rattle.mcs_tokens.specs.Kinds.{zero_digit}
+use Rattle.mcs_grammar.specs.Written.{Written, True', False', Named, Denied, Grouped, Both, Either, Leads, Equals, WrittenDefault, WrittenItem, Fact, Rule, WrittenLiteral, WrittenRule, WrittenKb, Classical, DefaultTheory, Program, WrittenContext, WrittenPlace, WrittenRead, WrittenMarks, WrittenBridge, WrittenText, IsNameWord}
 use Rattle.mcs_grammar.specs.Entries.{Token}
 use Rattle.mcs_system.specs.Plain.{Name}
 use Rattle.mcs_productions.specs.Productions.{wanted}
@@ -20,9 +23,11 @@ use Rattle.mcs_productions.specs.declared.production.Action.TheVariants as actio
 abbrev pub Marked : Type 0
 Marked = List (Mark Class Action Token)
 
--- ---- what a token says beside what it is there for: a name says itself, all others nothing
+-- ---- what a token says beside what it is there for: a name or a number says itself, all others nothing
 abbrev pub Content : Terminal → Type 0
 Content terminal.Name = (t : Name) × IsNameWord t
+Content terminal.Number = (t : Token) × IsTrue (is_number t) × (slice_index t 0 ≢ zero_digit) × (t ≢ codes "2")
+Content terminal.ZeroNumber = ⊥
 Content terminal.Stray = ⊥
 Content d = Unit {0}
 
@@ -30,6 +35,9 @@ abbrev pub spelled : (d : Terminal) → Content d → Token
 spelled terminal.Name x = x.0
 spelled (terminal.Keyword k) x = keyword_bytes k
 spelled (terminal.Sign s) x = sign_bytes s
+spelled terminal.Two x = codes "2"
+spelled terminal.Number x = x.0
+spelled terminal.ZeroNumber x = []
 spelled terminal.Stray x = []
 
 abbrev pub Fill : Class → Type 0
@@ -87,8 +95,25 @@ reads_marks (r ∷ rs) = Seen class.BeginsReads (codes "if") ∷ (read_marks r +
 abbrev pub tail_marks : WrittenPlace → List WrittenRead → Marked
 tail_marks head reads = Seen class.EndsBridgeName (codes ":") ∷ Seen class.NamesTarget head.context ∷ (belief_marks head.belief ++ (reads_marks reads ++ Seen class.EndsBridge (codes ".") ∷ []))
 
+-- a word that may stand there
+abbrev pub word_marks : Class → Token → Bool → Marked
+word_marks c word true = Seen c word ∷ []
+word_marks c word false = []
+
+-- the number of a weight: `2` is a terminal of its own
+abbrev pub weight_class : Token → Class
+weight_class digits = cond (bytes_eq digits (codes "2")) class.WeighsTwo class.Weighs
+
+abbrev pub weight_marks : Option Token → Marked
+weight_marks None = []
+weight_marks (Some digits) = Seen class.BeginsWeight (codes "weight") ∷ Seen (weight_class digits) digits ∷ []
+
+-- what a rule says of itself, and what comes after it
+abbrev pub own_marks : WrittenMarks → Marked → Marked
+own_marks m rest = word_marks class.Keeps (codes "keep") m.keep ++ (word_marks class.Closes (codes "closed") m.closed ++ (weight_marks m.weight ++ rest))
+
 abbrev pub bridge_marks : WrittenBridge → Marked
-bridge_marks b = Seen class.BeginsBridge (codes "bridge") ∷ Seen class.NamesBridge b.name ∷ tail_marks b.head b.reads
+bridge_marks b = Seen class.BeginsBridge (codes "bridge") ∷ Seen class.NamesBridge b.name ∷ own_marks b.marks (tail_marks b.head b.reads)
 
 -- ---- contexts
 abbrev pub after_marks : Class → Token → Written → Marked
@@ -145,5 +170,10 @@ kb_marks (Program rules) = items_marks class.SaysProgram (codes "program") (flat
 abbrev pub context_marks : WrittenContext → Marked
 context_marks c = Seen class.BeginsContext (codes "context") ∷ Seen class.NamesContext c.name ∷ kb_marks c.kb
 
+-- ---- the whole text
+abbrev pub version_marks : Bool → Marked
+version_marks true = Seen class.BeginsVersion (codes "version") ∷ Seen class.NamesVersion (codes "2") ∷ Seen class.EndsVersion (codes ".") ∷ []
+version_marks false = []
+
 abbrev pub text_marks : WrittenText → Marked
-text_marks t = flat_map context_marks t.contexts ++ flat_map bridge_marks t.bridges
+text_marks t = version_marks t.has_version ++ (flat_map context_marks t.contexts ++ flat_map bridge_marks t.bridges)

@@ -104,6 +104,14 @@ comes class.BeginsBridge n = true
 comes class.NamesBridge n = true
 comes class.EndsBridgeName n = true
 comes class.NamesTarget n = true
+comes class.BeginsVersion n = true
+comes class.NamesVersion n = true
+comes class.EndsVersion n = true
+comes class.Keeps n = true
+comes class.Closes n = true
+comes class.BeginsWeight n = true
+comes class.Weighs n = true
+comes class.WeighsTwo n = true
 comes c n = n
 
 abbrev pub phase_if : Bool → Phase → Phase

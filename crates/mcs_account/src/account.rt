@@ -10,7 +10,7 @@ ghost use Rattle.mcs_system.specs.Plain as plain;
 ghost use Rattle.mcs_system.specs.Seen.{context_of, formula_of, rule_of};
 ghost use Rattle.mcs_system.specs.Seen as seen;
 ghost use Rattle.mcs_account.specs.Account as said;
-ghost use Rattle.mcs_account.specs.Account.{IsJoining, item_of, no_account, no_rule, number_of, told, took};
+ghost use Rattle.mcs_account.specs.Account.{IsJoining, item_of, no_account, no_rule, number_of, told, took, weight_of};
 ghost use Rattle.mcs_account.specs.Images.{account_of, operands_of};
 
 use mcs_base::Memory;
@@ -79,6 +79,18 @@ fn joined(alloc: Global, action: Action, left: Formula, right: Formula) -> Resul
     })
 }
 
+/// The number that the digits spell, or the greatest one that there is if it is greater.
+pub fn weight_of(digits: &[u8]) -> u32
+    ensures { result ≡ weight_of digits.now }
+{
+    let mut weight: u32 = 0;
+    for digit in digits {
+        let value = u32::from(digit.saturating_sub(b'0'));
+        weight = weight.saturating_mul(10).saturating_add(value);
+    }
+    weight
+}
+
 /// Appends the name with these bytes.
 fn push_name(alloc: Global, names: &mut Vec<Name>, token: &[u8]) -> Result<(), Memory>
     requires { IsTrue (is_name token.now) }
@@ -129,6 +141,18 @@ impl Account {
                 Ok(())
             }
             Class::NamesBridge => self.begin_bridge(alloc, token),
+            Class::Keeps => {
+                self.set_keep();
+                Ok(())
+            }
+            Class::Closes => {
+                self.set_closed();
+                Ok(())
+            }
+            Class::Weighs | Class::WeighsTwo => {
+                self.set_weight(token);
+                Ok(())
+            }
             Class::NamesTarget => {
                 self.set_target(token);
                 Ok(())
@@ -256,6 +280,34 @@ impl Account {
             })?;
         }
         Ok(())
+    }
+
+    /// The last bridge rule may not be removed.
+    fn set_keep(&mut self)
+        ensures { account_of self.new ≡ took (account_of self.old) class.Keeps [] }
+    {
+        if let Some(bridge) = self.bridges.last_mut() {
+            bridge.keep = true;
+        }
+    }
+
+    /// The last bridge rule may not be forced.
+    fn set_closed(&mut self)
+        ensures { account_of self.new ≡ took (account_of self.old) class.Closes [] }
+    {
+        if let Some(bridge) = self.bridges.last_mut() {
+            bridge.closed = true;
+        }
+    }
+
+    /// The last bridge rule has the weight that these digits spell.
+    fn set_weight(&mut self, digits: &[u8])
+        ensures { account_of self.new ≡ took (account_of self.old) class.Weighs digits.now }
+    {
+        let weight = weight_of(digits);
+        if let Some(bridge) = self.bridges.last_mut() {
+            bridge.weight = weight;
+        }
     }
 
     /// The last bridge rule goes into the context with this name.

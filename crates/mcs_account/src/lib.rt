@@ -5,6 +5,6 @@ mod account;
 mod place;
 mod reader;
 
-pub use account::Account;
+pub use account::{Account, weight_of};
 pub use place::{Beginning, Place, Role, Uses, is_name_word};
 pub use reader::{Heard, NamedRead, Taken, TextReader};

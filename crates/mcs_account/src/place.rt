@@ -31,6 +31,8 @@ pub enum Role {
     NamesContext,
     /// The name of a bridge rule, where it is introduced.
     NamesBridge,
+    /// The number after the word `weight`.
+    Weighs,
     /// The word `program`.
     SaysProgram,
     /// The colon after a prerequisite, which makes the item a default.
@@ -146,6 +148,7 @@ impl Place {
             Class::BeginsDefault => Role::BeginsDefault,
             Class::BeginsBridge => Role::BeginsBridge,
             Class::NamesBridge => Role::NamesBridge,
+            Class::Weighs | Class::WeighsTwo => Role::Weighs,
             Class::NamesTarget => Role::NamesTarget,
             Class::NamesSource => Role::NamesSource,
             Class::IsHeadAtom | Class::IsBodyAtom | Class::IsAtom => Role::Atom { number },

@@ -3,7 +3,7 @@ use Rattle.std.proofs.Common.{◌≡◌, ℕ, Bool, true, false, refl}
 use Rattle.mcs_system.specs.Plain.{Name, Formula}
 use Rattle.mcs_system.specs.Logic.{same_name}
 use Rattle.mcs_system.proofs.Sameness.{same_name-is}
-use Rattle.mcs_grammar.specs.Entries.{BeginsContext, BeginsBridge, NamesContext, NamesBridge, SaysProgram, BeginsItem, BeginsDefault, NamesTarget, NamesSource, BeginsBelief, EndsRead, AtomOf, IsNumber, OpensWithin}
+use Rattle.mcs_grammar.specs.Entries.{BeginsContext, BeginsBridge, NamesContext, NamesBridge, Weighs, SaysProgram, BeginsItem, BeginsDefault, NamesTarget, NamesSource, BeginsBelief, EndsRead, AtomOf, IsNumber, OpensWithin}
 use Rattle.mcs_faults.proofs.SeenLater.{IsApart}
 
 other-name : (n d : Name) → ¬ (n ≡ d) → same_name n d ≡ false
@@ -31,6 +31,9 @@ apart-names_source d n = record { program = λ e. cc; rules = refl; defaults = r
 
 pub apart-begins_belief : (d n : Name) → IsApart n (BeginsBelief d)
 apart-begins_belief d n = record { program = λ e. cc; rules = refl; defaults = refl; items = refl; atoms = λ a e. cc; reads = λ c f e. cc }
+
+pub apart-weighs : (k : ℕ) (n : Name) → IsApart n (Weighs k)
+apart-weighs k n = record { program = λ e. cc; rules = refl; defaults = refl; items = refl; atoms = λ a e. cc; reads = λ c f e. cc }
 
 pub apart-number : (k : ℕ) (n : Name) → IsApart n (IsNumber k)
 apart-number k n = record { program = λ e. cc; rules = refl; defaults = refl; items = refl; atoms = λ a e. cc; reads = λ c f e. cc }

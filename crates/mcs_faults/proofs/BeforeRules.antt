@@ -1,14 +1,14 @@
 -- The contexts stand before the rules: what is named in a rule comes after all that the contexts name and say.
-use Rattle.std.proofs.Common.{◌≡◌, ℕ, zero, suc, List, [], ◌∷◌, ◌++◌, take, Some, refl, sym, ap, subst, ◌∙◌, inl, inr, ◌⊎◌, slice_get}
+use Rattle.std.proofs.Common.{◌≡◌, ℕ, zero, suc, false, List, [], ◌∷◌, ◌++◌, take, Some, refl, sym, ap, subst, ◌∙◌, inl, inr, ◌⊎◌, slice_get}
 use Rattle.std.specs.List.{flat_map}
 use Rattle.std.proofs.lemmas.Grind.{flat_map-append}
-use Rattle.std.proofs.lemmas.List.{append-nil}
+use Rattle.std.proofs.lemmas.List.{append-nil, append_assoc}
 use Rattle.std.proofs.lemmas.Option.{same_Some}
 use Rattle.mcs_base.specs.Listings.{IsAmong}
 use Rattle.mcs_base.proofs.Among.{among_left, among_either, among_get, among_flat_map, flat_map_among}
 use Rattle.mcs_system.specs.Plain.{Name}
 use Rattle.mcs_grammar.specs.Written.{WrittenText}
-use Rattle.mcs_grammar.specs.Entries.{Use, BeginsContext, NamesContext, NamesBridge, SaysProgram, NamesTarget, NamesSource, Entry, context_entries, bridge_entries, text_entries, uses_of}
+use Rattle.mcs_grammar.specs.Entries.{Use, BeginsContext, NamesContext, NamesBridge, SaysProgram, NamesTarget, NamesSource, Entry, context_entries, bridge_entries, version_entries, text_entries, uses_of}
 use Rattle.mcs_account.specs.Known.{context_named, contexts_named}
 use Rattle.mcs_faults.specs.Watching.{bridge_named, bridges_named}
 use Rattle.mcs_faults.proofs.UsesLemmas.{text_uses, names-there, targets-there, sources-there, programs-there, IsBefore}
@@ -31,19 +31,23 @@ among-bridges-named us b h = among_flat_map bridge_named (NamesBridge b) b us h 
 
 -- ---- the contexts alone, and the rules alone
 abbrev contexts_alone : WrittenText → WrittenText
-contexts_alone t = record { contexts = t.contexts; bridges = [] }
+contexts_alone t = record { has_version = t.has_version; contexts = t.contexts; bridges = [] }
 
 abbrev rules_alone : WrittenText → WrittenText
-rules_alone t = record { contexts = []; bridges = t.bridges }
+rules_alone t = record { has_version = false; contexts = []; bridges = t.bridges }
 
+-- the version and the contexts
 abbrev context_part : WrittenText → List Entry
-context_part t = flat_map context_entries t.contexts
+context_part t = version_entries t.has_version ++ flat_map context_entries t.contexts
 
 abbrev rule_part : WrittenText → List Entry
 rule_part t = flat_map bridge_entries t.bridges
 
+parts : (t : WrittenText) → text_entries t ≡ context_part t ++ rule_part t
+parts t = sym (append_assoc (version_entries t.has_version) (flat_map context_entries t.contexts) (rule_part t))
+
 alone : (t : WrittenText) → text_uses (contexts_alone t) ≡ uses_of (context_part t)
-alone t = ap uses_of (append-nil (context_part t))
+alone t = ap (λ (es : List Entry). uses_of (version_entries t.has_version ++ es)) (append-nil (flat_map context_entries t.contexts))
 
 -- no token of a context names a target or a source
 no-target : (t : WrittenText) (c : Name) → ¬ IsAmong (NamesTarget c) (uses_of (context_part t))
@@ -75,7 +79,7 @@ which-part (x ∷ xs) ns (suc k) m is = elim (which-part xs ns k m is) [
 
 -- what is among the uses of the contexts, or of the rules
 uses-parts : (t : WrittenText) (u : Use) → IsAmong u (text_uses t) → IsAmong u (uses_of (context_part t)) ⊎ IsAmong u (uses_of (rule_part t))
-uses-parts t u h = among_either u (uses_of (context_part t)) (uses_of (rule_part t)) (subst (IsAmong u) (flat_map-append (λ (m : Entry). m.uses) (context_part t) (rule_part t)) h)
+uses-parts t u h = among_either u (uses_of (context_part t)) (uses_of (rule_part t)) (subst (IsAmong u) (ap uses_of (parts t) ∙ flat_map-append (λ (m : Entry). m.uses) (context_part t) (rule_part t)) h)
 
 -- of a entry that is there for a use that no token of a context is there for
 later-is-before : (t : WrittenText) (k : ℕ) (m : Entry) → IsLater (context_part t) (rule_part t) k m → IsBefore t (uses_of (take k (text_entries t)))
@@ -88,12 +92,12 @@ later-is-before t k m later = record {
     earlier u here =
         let first : List Entry = context_part t in
         let rest : List Entry = take later.number (rule_part t) in
-        let parts : uses_of (take k (text_entries t)) ≡ uses_of first ++ uses_of rest = ap uses_of later.before ∙ flat_map-append (λ (x : Entry). x.uses) first rest in
-        subst (IsAmong u) (sym parts) (among_left u (uses_of first) (uses_of rest) here)
+        let cut : uses_of (take k (text_entries t)) ≡ uses_of first ++ uses_of rest = ap (λ (es : List Entry). uses_of (take k es)) (parts t) ∙ ap uses_of later.before ∙ flat_map-append (λ (x : Entry). x.uses) first rest in
+        subst (IsAmong u) (sym cut) (among_left u (uses_of first) (uses_of rest) here)
 
 module _ (t : WrittenText) (k : ℕ) (m : Entry) (is : slice_get (text_entries t) k ≡ Some m) where
   in-rules : (¬ IsAmong m (context_part t)) → IsBefore t (uses_of (take k (text_entries t)))
-  in-rules other = elim (which-part (context_part t) (rule_part t) k m is) [
+  in-rules other = elim (which-part (context_part t) (rule_part t) k m (ap (λ (es : List Entry). slice_get es k) (sym (parts t)) ∙ is)) [
     | inl here ↦ absurd (other here)
     | inr later ↦ later-is-before t k m later
   ]

@@ -1,13 +1,14 @@
 -- Which tokens of a text begin a belief: the first ones of the beliefs at its places, and no others.
-use Rattle.std.proofs.Common.{◌≡◌, ℕ, length, ◌+◌, Bool, true, false, List, [], ◌∷◌, ◌++◌, refl, sym, ap, subst, ◌∙◌, inl, inr, ◌⊎◌, true≢false}
+use Rattle.std.proofs.Common.{◌≡◌, ℕ, length, ◌+◌, Bool, true, false, Option, Some, None, List, [], ◌∷◌, ◌++◌, refl, sym, ap, subst, ◌∙◌, inl, inr, ◌⊎◌, true≢false}
 use Rattle.std.specs.Prelude.{codes}
 use Rattle.std.specs.List.{flat_map, list_all}
 use Rattle.std.proofs.lemmas.Bool.{and_parts}
 use Rattle.mcs_base.specs.Listings.{IsAmong}
+use Rattle.mcs_base.specs.Numbers.{value_of_digits}
 use Rattle.mcs_base.proofs.Among.{among_either, flat_map_among}
 use Rattle.mcs_system.specs.Plain.{Name}
-use Rattle.mcs_grammar.specs.Written.{Written, True', False', Named, Denied, Grouped, Both, Either, Leads, Equals, WrittenDefault, WrittenItem, Fact, Rule, WrittenLiteral, WrittenRule, WrittenKb, Classical, DefaultTheory, Program, WrittenContext, WrittenPlace, WrittenRead, WrittenBridge, WrittenText}
-use Rattle.mcs_grammar.specs.Entries.{Token, Use, BeginsContext, BeginsBridge, NamesContext, NamesBridge, SaysProgram, BeginsItem, NamesTarget, NamesSource, BeginsBelief, EndsRead, Entry, entry, with_first, with_last, formula_in, size_of, formula_entries, whole_entries, after_sign, default_entries, item_entries, atom_entry, further_heads, head_entries, optional, literal_entries, further_literals, body_entries, rule_entries, ended, kb_entries, context_entries, place_entries, read_entries, further_read, reads_entries, bridge_entries, text_entries}
+use Rattle.mcs_grammar.specs.Written.{Written, True', False', Named, Denied, Grouped, Both, Either, Leads, Equals, WrittenDefault, WrittenItem, Fact, Rule, WrittenLiteral, WrittenRule, WrittenKb, Classical, DefaultTheory, Program, WrittenContext, WrittenPlace, WrittenRead, WrittenMarks, WrittenBridge, WrittenText}
+use Rattle.mcs_grammar.specs.Entries.{Token, Use, BeginsContext, BeginsBridge, NamesContext, NamesBridge, Weighs, SaysProgram, BeginsItem, NamesTarget, NamesSource, BeginsBelief, EndsRead, Entry, entry, with_first, with_last, formula_in, size_of, formula_entries, whole_entries, after_sign, default_entries, item_entries, atom_entry, further_heads, head_entries, optional, literal_entries, further_literals, body_entries, rule_entries, ended, kb_entries, context_entries, place_entries, read_entries, further_read, reads_entries, bridge_entries, text_entries, weight_entries, mark_entries, version_entries}
 use Rattle.mcs_faults.proofs.UsesLemmas.{IsPlaceOf, OfHead, OfRead}
 
 -- ---- entries that begin no belief
@@ -185,20 +186,42 @@ pub record BeginsAt (t : WrittenText) (c : Name) (token : Token) : Type 0 where
   pub of_text : IsPlaceOf t place
   pub is_first : IsFirstOf place c token
 
+none-weight : (w : Option Token) → BeginNone (weight_entries w)
+none-weight None = none-nil
+none-weight (Some digits) = none-cons (entry (codes "weight") []) (entry digits (Weighs (value_of_digits digits) ∷ []) ∷ []) refl (none-cons (entry digits (Weighs (value_of_digits digits) ∷ [])) [] refl none-nil)
+
+none-marks : (m : WrittenMarks) → BeginNone (mark_entries m)
+none-marks m = none-append (optional m.keep (codes "keep")) _ (none-optional m.keep (codes "keep")) (none-append (optional m.closed (codes "closed")) (weight_entries m.weight) (none-optional m.closed (codes "closed")) (none-weight m.weight))
+
+none-version : (v : Bool) → BeginNone (version_entries v)
+none-version true =
+    none-cons (entry (codes "version") []) (entry (codes "2") [] ∷ entry (codes ".") [] ∷ []) refl
+    (none-cons (entry (codes "2") []) (entry (codes ".") [] ∷ []) refl (none-cons (entry (codes ".") []) [] refl none-nil))
+none-version false = none-nil
+
 bridge-begins : (t : WrittenText) (b : WrittenBridge) → IsAmong b t.bridges → (m : Entry) → IsAmong m (bridge_entries b) → (c : Name) → IsAmong (BeginsBelief c) m.uses → BeginsAt t c m.token
 bridge-begins t b inside m (inl same) c h = absurd (not-among (BeginsBridge ∷ []) refl c (subst (λ (y : Entry). IsAmong (BeginsBelief c) y.uses) same h))
 bridge-begins t b inside m (inr (inl same)) c h = absurd (not-among (NamesBridge b.name ∷ []) refl c (subst (λ (y : Entry). IsAmong (BeginsBelief c) y.uses) same h))
-bridge-begins t b inside m (inr (inr (inl same))) c h = absurd (subst (λ (y : Entry). IsAmong (BeginsBelief c) y.uses) same h)
-bridge-begins t b inside m (inr (inr (inr there))) c h = elim (among_either m (place_entries (NamesTarget (b.head).context) b.head) _ there) [
-  | inl here ↦ record { place = b.head; of_text = OfHead b inside refl; is_first = place-begins (NamesTarget (b.head).context) b.head refl m here c h }
-  | inr later ↦ elim (among_either m (reads_entries (b.head).context b.reads) (entry (codes ".") [] ∷ []) later) [
-    | inl read ↦ let (r, among, first) = reads-begin (b.head).context b.reads m read c h in record { place = r.place; of_text = OfRead b inside r among refl; is_first = first }
-    | inr last ↦ absurd (none-cons (entry (codes ".") []) [] refl none-nil m last c h)
-  ]
-]
+bridge-begins t b inside m (inr (inr there)) c h = elim (among_either m (mark_entries b.marks) _ there) [ inl mark ↦ absurd (none-marks b.marks m mark c h) | inr later ↦ tail later ]
+  where
+    places : IsAmong m (place_entries (NamesTarget (b.head).context) b.head ++ (reads_entries (b.head).context b.reads ++ entry (codes ".") [] ∷ [])) → BeginsAt t c m.token
+    places later = elim (among_either m (place_entries (NamesTarget (b.head).context) b.head) _ later) [
+      | inl here ↦ record { place = b.head; of_text = OfHead b inside refl; is_first = place-begins (NamesTarget (b.head).context) b.head refl m here c h }
+      | inr reads ↦ elim (among_either m (reads_entries (b.head).context b.reads) (entry (codes ".") [] ∷ []) reads) [
+        | inl read ↦ let (r, among, first) = reads-begin (b.head).context b.reads m read c h in record { place = r.place; of_text = OfRead b inside r among refl; is_first = first }
+        | inr last ↦ absurd (none-cons (entry (codes ".") []) [] refl none-nil m last c h)
+      ]
+    ]
+
+    tail : IsAmong m (entry (codes ":") [] ∷ (place_entries (NamesTarget (b.head).context) b.head ++ (reads_entries (b.head).context b.reads ++ entry (codes ".") [] ∷ []))) → BeginsAt t c m.token
+    tail (inl same) = absurd (subst (λ (y : Entry). IsAmong (BeginsBelief c) y.uses) same h)
+    tail (inr later) = places later
 
 pub text-begins : (t : WrittenText) (m : Entry) → IsAmong m (text_entries t) → (c : Name) → IsAmong (BeginsBelief c) m.uses → BeginsAt t c m.token
-text-begins t m there c h = elim (among_either m (flat_map context_entries t.contexts) (flat_map bridge_entries t.bridges) there) [
-  | inl here ↦ absurd (none-contexts t.contexts m here c h)
-  | inr later ↦ let (b, inside, found) = flat_map_among bridge_entries m t.bridges later in bridge-begins t b inside m found c h
+text-begins t m there c h = elim (among_either m (version_entries t.has_version) _ there) [
+  | inl first ↦ absurd (none-version t.has_version m first c h)
+  | inr parts ↦ elim (among_either m (flat_map context_entries t.contexts) (flat_map bridge_entries t.bridges) parts) [
+    | inl here ↦ absurd (none-contexts t.contexts m here c h)
+    | inr later ↦ let (b, inside, found) = flat_map_among bridge_entries m t.bridges later in bridge-begins t b inside m found c h
+  ]
 ]

@@ -9,7 +9,7 @@ use Rattle.mcs_base.proofs.Among.{among_left, among_right, among_either}
 use Rattle.mcs_system.specs.Plain.{Name}
 use Rattle.mcs_faults.specs.declared.watch.Watch.{Watch}
 use Rattle.mcs_faults.specs.declared.watch.ContextSeen.{ContextSeen}
-use Rattle.mcs_grammar.specs.Entries.{Use, BeginsContext, BeginsBridge, NamesContext, NamesBridge, SaysProgram, BeginsItem, BeginsDefault, NamesTarget, NamesSource, BeginsBelief, EndsRead, AtomOf, IsNumber, OpensWithin}
+use Rattle.mcs_grammar.specs.Entries.{Use, BeginsContext, BeginsBridge, NamesContext, NamesBridge, Weighs, SaysProgram, BeginsItem, BeginsDefault, NamesTarget, NamesSource, BeginsBelief, EndsRead, AtomOf, IsNumber, OpensWithin}
 use Rattle.mcs_grammar.specs.Faults.{begins_context, begins_bridge, names_target, begins_default_of, begins_item_of, AreDifferent, NamedRead, WasRead, WasAtom}
 use Rattle.mcs_account.specs.Images.{named_read_of, capped}
 use Rattle.mcs_account.specs.Known.{context_named, contexts_named}
@@ -37,6 +37,7 @@ module _ (us vs : List Use) (same : IsSame us vs) where
   spoken-same BeginsBridge h = tt
   spoken-same (NamesContext c) h = tt
   spoken-same (NamesBridge b) h = tt
+  spoken-same (Weighs n) h = tt
   spoken-same (NamesTarget c) h = tt
   spoken-same (NamesSource c) h = tt
   spoken-same (IsNumber n) h = tt

@@ -8,18 +8,22 @@ use Rattle.std.proofs.lemmas.Bool.{eq-eqb, eqb-true}
 use Rattle.std.proofs.lemmas.Option.{same_Some}
 use Rattle.mcs_base.specs.Listings.{IsAmong}
 use Rattle.mcs_base.proofs.Sums.{zip_count}
-use Rattle.mcs_base.proofs.Among.{get_among, none_get}
+use Rattle.mcs_base.specs.Numbers.{value_of_digits}
+use Rattle.mcs_base.proofs.Each.{all_among}
+use Rattle.mcs_base.proofs.Among.{get_among, none_get, zip_among}
+use Rattle.mcs_grammar.proofs.Weights.{weights_in_range}
+use Rattle.mcs_account.proofs.TextUses.{weights-there}
 use Rattle.mcs_system.specs.Plain.{Name}
 use Rattle.mcs_system.specs.Plain as plain
 use Rattle.mcs_system.specs.Logic.{same_name}
 use Rattle.mcs_system.specs.Faults.{default_count, item_count, exceeds, IsValid}
-use Rattle.mcs_system.specs.declared.limit.Limit.TheVariants.{Contexts, Bridges, RulesPerContext, DefaultsPerContext, ItemsPerContext}
+use Rattle.mcs_system.specs.declared.limit.Limit.TheVariants.{Contexts, Bridges, RulesPerContext, DefaultsPerContext, ItemsPerContext, Weight}
 use Rattle.mcs_system.proofs.Sameness.{same_name-is, same_name-itself}
 use Rattle.mcs_system.proofs.ValidLemmas.{limit_kept, few_contexts, few_bridges, few_rules, few_defaults}
 use Rattle.mcs_system.proofs.NameLemmas.{position-there}
 use Rattle.mcs_grammar.specs.Written.{WrittenKb, WrittenContext, WrittenPlace, WrittenBridge, WrittenText, IsText}
-use Rattle.mcs_grammar.specs.Entries.{Use, BeginsContext, BeginsBridge, BeginsItem, BeginsDefault, NamesTarget, Entry, text_entries, uses_of}
-use Rattle.mcs_grammar.specs.Saying.{kb_in, context_in, SaysBridge, names_of, SaysSystem}
+use Rattle.mcs_grammar.specs.Entries.{Use, BeginsContext, BeginsBridge, BeginsItem, BeginsDefault, NamesTarget, Weighs, Entry, text_entries, uses_of}
+use Rattle.mcs_grammar.specs.Saying.{kb_in, context_in, weight_said, SaysBridge, names_of, SaysSystem}
 use Rattle.mcs_grammar.specs.Faults.{AreDifferent, begins_context, begins_bridge, names_target, begins_default_of, begins_item_of, ExceedsLimit}
 use Rattle.mcs_grammar.proofs.TextSplits.{IsSplit, uses-split, among-here, count-more}
 use Rattle.mcs_faults.proofs.SaidParts.{context-count-same, bridge-count-same, context-at, in-range, said-place}
@@ -126,6 +130,14 @@ module _ (t : WrittenText) (m : plain.System) (says : SaysSystem t m) (valid : I
         let all = default-count t c in
         let most = most-of-each c (λ kb. default_count (kb_in kb)) 10 most-defaults in
         omega arith
+
+    pub light-weights : ¬ ExceedsLimit Weight before here
+    light-weights (n, h, heavy) =
+        let (w, there, (digits, spelled, is)) = weights-there t n (among-here (text_uses t) before here.uses (Weighs n) split h) in
+        let (b, among, said) = zip_among (SaysBridge (names_of t.contexts)) t.bridges m.bridges says.bridges w there in
+        let range = all_among (λ (x : plain.Bridge). (1 ≤ x.weight) × (x.weight ≤ 1000000)) m.bridges b (weights_in_range m valid) among in
+        let weighs : b.weight ≡ value_of_digits digits = said.weight ∙ ap weight_said spelled in
+        omega (arith, range.1, weighs, is, heavy)
 
     pub few-items : IsText t → ¬ ExceedsLimit ItemsPerContext before here
     few-items grammar (c, h, full) =

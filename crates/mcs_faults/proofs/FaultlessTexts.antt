@@ -12,7 +12,7 @@ use Rattle.mcs_faults.proofs.Within.{NoFaults}
 use Rattle.mcs_faults.proofs.UsesLemmas.{IsShallow}
 use Rattle.mcs_faults.proofs.TextConditions.{HasShortNames, HasBareAtoms}
 use Rattle.mcs_faults.proofs.FaultlessNames.{no-context, no-twin, no-wrong-atom}
-use Rattle.mcs_faults.proofs.FaultlessCounts.{few-contexts, few-bridges, few-rules, few-defaults, few-items}
+use Rattle.mcs_faults.proofs.FaultlessCounts.{few-contexts, few-bridges, few-rules, few-defaults, few-items, light-weights}
 use Rattle.mcs_faults.proofs.FaultlessReads.{few-variables, few-inputs}
 use Rattle.mcs_faults.proofs.FaultlessAtoms.{few-atoms}
 use Rattle.mcs_faults.proofs.FaultlessSizes.{small-formulas, few-parentheses, short-names}
@@ -27,7 +27,7 @@ module _ (t : WrittenText) (m : plain.System) (grammar : IsText t) (says : SaysS
   within-limits k here is AtomsPerContext = few-atoms t m says valid k here is
   within-limits k here is DefaultsPerContext = few-defaults t m says valid k here is
   within-limits k here is ItemsPerContext = few-items t m says valid k here is grammar
-  within-limits k here is Weight = λ h. h
+  within-limits k here is Weight = light-weights t m says valid k here is
   within-limits k here is FormulaSize = small-formulas t m says valid k here is
   within-limits k here is OpenParentheses = few-parentheses t shallow k here is
   within-limits k here is NameBytes = short-names t short k here is

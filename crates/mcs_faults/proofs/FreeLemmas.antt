@@ -14,7 +14,7 @@ use Rattle.mcs_account.specs.declared.place.Role as code_role
 use Rattle.mcs_account.specs.declared.place.Role.TheVariants as roles
 use Rattle.mcs_faults.specs.declared.watch.Watch.{Watch}
 use Rattle.mcs_faults.specs.declared.watch.Said.{Said}
-use Rattle.mcs_grammar.specs.Entries.{Token, Use, BeginsContext, BeginsBridge, NamesContext, NamesBridge, SaysProgram, BeginsItem, BeginsDefault, NamesTarget, NamesSource, BeginsBelief, EndsRead, AtomOf, IsNumber, OpensWithin, Entry}
+use Rattle.mcs_grammar.specs.Entries.{Token, Use, BeginsContext, BeginsBridge, NamesContext, NamesBridge, Weighs, SaysProgram, BeginsItem, BeginsDefault, NamesTarget, NamesSource, BeginsBelief, EndsRead, AtomOf, IsNumber, OpensWithin, Entry}
 use Rattle.mcs_grammar.specs.Faults.{begins_context, begins_bridge, names_target, begins_default_of, begins_item_of, WasAtom, IsOneMore, TextFault, NoContext, Twin, Exceeds, Has}
 use Rattle.mcs_account.specs.Images.{About, role_uses, uses_in, named_read_of}
 use Rattle.mcs_grammar.specs.Written.{IsNameWord}
@@ -74,6 +74,8 @@ role-uses-are a t roles.NamesContext u (inl e) = ap is_role_use e
 role-uses-are a t roles.NamesContext u (inr none) = absurd none
 role-uses-are a t roles.NamesBridge u (inl e) = ap is_role_use e
 role-uses-are a t roles.NamesBridge u (inr none) = absurd none
+role-uses-are a t roles.Weighs u (inl e) = ap is_role_use e
+role-uses-are a t roles.Weighs u (inr none) = absurd none
 role-uses-are a t roles.SaysProgram u (inl e) = ap is_role_use e
 role-uses-are a t roles.SaysProgram u (inr none) = absurd none
 role-uses-are a t roles.BeginsDefault u (inl e) = ap is_role_use e
@@ -103,6 +105,7 @@ module _ (before : List Use) (v : Use) where
   role-later early (EndsRead d x g) e h = absurd (true≢false (sym e))
   role-later early (BeginsBelief d) e h = tt
   role-later early (SaysProgram d) e h = tt
+  role-later early (Weighs n) e h = tt
   role-later early (NamesSource d) e h = tt
   role-later early (IsNumber n) e h = tt
   role-later early (OpensWithin n) e h = tt
@@ -153,6 +156,7 @@ module _ (w : Watch) (before : List Use) (m : Entry) (a : About) (s : Said) (ask
           subst (λ (g : Formula). AreShort (atoms g)) (sym is.3) (asked.said.short is.0 r e fitting)
   allowed-use (BeginsBelief c) h = tt
   allowed-use (SaysProgram c) h = tt
+  allowed-use (Weighs n) h = tt
   allowed-use (NamesSource c) h = tt
   allowed-use (IsNumber n) h = tt
   allowed-use (OpensWithin n) h = tt

@@ -6,7 +6,7 @@ use Rattle.mcs_sets.specs.Sets.{has}
 use Rattle.mcs_base.proofs.Among.{among_push, among_left}
 use Rattle.mcs_base.proofs.Lists.{flat_map_push}
 use Rattle.mcs_system.specs.Plain.{Name, Formula}
-use Rattle.mcs_grammar.specs.Entries.{Use, BeginsContext, BeginsBridge, NamesContext, NamesBridge, SaysProgram, BeginsItem, BeginsDefault, NamesTarget, NamesSource, BeginsBelief, EndsRead, AtomOf, IsNumber, OpensWithin}
+use Rattle.mcs_grammar.specs.Entries.{Use, BeginsContext, BeginsBridge, NamesContext, NamesBridge, Weighs, SaysProgram, BeginsItem, BeginsDefault, NamesTarget, NamesSource, BeginsBelief, EndsRead, AtomOf, IsNumber, OpensWithin}
 use Rattle.mcs_grammar.specs.Faults.{NamedRead, WasRead, WasReadInto, WasAtom}
 use Rattle.mcs_account.specs.Known.{context_named, contexts_named}
 use Rattle.mcs_faults.specs.Watching.{bridge_named, bridges_named, ListsEach}
@@ -35,6 +35,7 @@ module _ (before : List Use) (u : Use) where
   spoken-later BeginsBridge h = tt
   spoken-later (NamesContext c) h = tt
   spoken-later (NamesBridge c) h = tt
+  spoken-later (Weighs n) h = tt
   spoken-later (SaysProgram c) h = earlier (NamesContext c) h
   spoken-later (BeginsItem c) h = earlier (NamesContext c) h
   spoken-later (BeginsDefault c) h = earlier (NamesContext c) h

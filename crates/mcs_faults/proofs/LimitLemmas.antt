@@ -1,15 +1,16 @@
 -- Which faults a token has, by what it is there for and by what the watch tells.
-use Rattle.std.proofs.Common.{◌≡◌, ℕ, true, false, List, refl, sym, ap, ◌∙◌, subst, inl, inr, ◌⊎◌, ◌↔◌, arith}
+use Rattle.std.proofs.Common.{◌≡◌, ℕ, ◌<◌, true, false, List, refl, sym, ap, ◌∙◌, subst, inl, inr, ◌⊎◌, ◌↔◌, arith}
 use Rattle.std.specs.Prelude.{count_by}
 use Rattle.mcs_base.specs.Listings.{IsAmong}
+use Rattle.mcs_base.specs.Numbers.{value_of_digits}
 use Rattle.mcs_base.proofs.Each.{all_among}
 use Rattle.mcs_system.specs.Plain.{Name, Formula}
-use Rattle.mcs_system.specs.declared.limit.Limit.TheVariants.{Contexts, Bridges, RulesPerContext, Variables, InputsPerContext, AtomsPerContext, DefaultsPerContext, ItemsPerContext, FormulaSize, OpenParentheses}
+use Rattle.mcs_system.specs.declared.limit.Limit.TheVariants.{Contexts, Bridges, RulesPerContext, Variables, InputsPerContext, AtomsPerContext, DefaultsPerContext, ItemsPerContext, Weight, FormulaSize, OpenParentheses}
 use Rattle.mcs_account.specs.declared.place.Role.TheVariants as roles
 use Rattle.mcs_faults.specs.declared.watch.Watch.{Watch}
 use Rattle.mcs_faults.specs.declared.watch.Said.{Said}
 use Rattle.mcs_grammar.specs.Written.{IsNameWord}
-use Rattle.mcs_grammar.specs.Entries.{Token, Use, BeginsContext, BeginsBridge, NamesContext, NamesBridge, SaysProgram, BeginsItem, BeginsDefault, NamesTarget, NamesSource, BeginsBelief, EndsRead, AtomOf, OpensWithin, Entry}
+use Rattle.mcs_grammar.specs.Entries.{Token, Use, BeginsContext, BeginsBridge, NamesContext, NamesBridge, Weighs, SaysProgram, BeginsItem, BeginsDefault, NamesTarget, NamesSource, BeginsBelief, EndsRead, AtomOf, OpensWithin, Entry}
 use Rattle.mcs_grammar.specs.Faults.{names_target, begins_default_of, begins_item_of, NamedRead, WasRead, WasReadInto, WasAtom, IsOneMore, NoContext, Twin, NoAtom, ExceedsLimit, Has}
 use Rattle.mcs_account.specs.Images.{About}
 use Rattle.mcs_faults.specs.Watching.{IsEntryAsked}
@@ -87,6 +88,12 @@ module _ (w : Watch) (before : List Use) (m : Entry) (a : About) (s : Said) (ask
     λ (d, (r, among, full)). let h = use-in (EndsRead d r.context r.belief) refl among in
         (h.0, subst (λ (q : NamedRead). IsOneMore 16 (WasReadInto before a.subject.target) q) (same-read r d h) (subst (λ (x : Name). IsOneMore 16 (WasReadInto before x) r) h.1 full)),
     λ h. (a.subject.target, (read_said a, in-use (EndsRead a.subject.target a.subject.context a.belief) refl (h.0, refl, refl, refl), h.1)),
+  )
+
+  pub weight-beyond : ExceedsLimit Weight before m ↔ ((s.uses.role ≡ roles.Weighs) × (1000000 < value_of_digits token))
+  weight-beyond = (
+    λ (n, among, heavy). let h = use-in (Weighs n) refl among in (h.0, subst (λ (k : ℕ). 1000000 < k) h.1 heavy),
+    λ h. (value_of_digits token, in-use (Weighs (value_of_digits token)) refl (h.0, refl), h.1),
   )
 
   pub sizes-beyond : ExceedsLimit FormulaSize before m ↔ ((s.uses.role ≡ roles.Atom 513) ⊎ (s.uses.role ≡ roles.Counted 513))

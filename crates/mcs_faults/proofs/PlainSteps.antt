@@ -4,10 +4,10 @@ use Rattle.std.specs.Prelude.{min, ◌-◌, ◌^◌}
 use Rattle.std.proofs.lemmas.List.{append-nil}
 use Rattle.mcs_system.specs.Plain.{Name}
 use Rattle.mcs_faults.specs.declared.watch.Watch.{Watch}
-use Rattle.mcs_grammar.specs.Entries.{Use, BeginsContext, BeginsBridge, NamesBridge, NamesSource, BeginsBelief, IsNumber, OpensWithin}
+use Rattle.mcs_grammar.specs.Entries.{Use, BeginsContext, BeginsBridge, NamesBridge, Weighs, NamesSource, BeginsBelief, IsNumber, OpensWithin}
 use Rattle.mcs_faults.specs.Watching.{IsWatch, IsUseAllowed}
 use Rattle.mcs_account.specs.Images.{IsSpokenOf}
-use Rattle.mcs_faults.proofs.ApartLemmas.{apart-begins_context, apart-begins_bridge, apart-names_bridge, apart-names_source, apart-begins_belief, apart-number, apart-opens}
+use Rattle.mcs_faults.proofs.ApartLemmas.{apart-begins_context, apart-begins_bridge, apart-names_bridge, apart-names_source, apart-weighs, apart-begins_belief, apart-number, apart-opens}
 use Rattle.mcs_faults.proofs.StepWatch.{plain-step}
 
 module _ (w : Watch) (before : List Use) (watch : IsWatch w before) where
@@ -37,6 +37,9 @@ module _ (w : Watch) (before : List Use) (watch : IsWatch w before) where
 
   pub step-begins_belief : (c : Name) → IsSpokenOf before (BeginsBelief c) → IsWatch w (before ++ BeginsBelief c ∷ [])
   step-begins_belief c spoken = plain-step w before watch (BeginsBelief c) spoken tt (λ t c f e. cc) (apart-begins_belief c) w (omega arith) (omega arith) (sym (append-nil w.bridges.items)) refl refl refl
+
+  pub step-weighs : (n : ℕ) → IsWatch w (before ++ Weighs n ∷ [])
+  step-weighs n = plain-step w before watch (Weighs n) tt tt (λ t c f e. cc) (apart-weighs n) w (omega arith) (omega arith) (sym (append-nil w.bridges.items)) refl refl refl
 
   pub step-number : (k : ℕ) → IsWatch w (before ++ IsNumber k ∷ [])
   step-number k = plain-step w before watch (IsNumber k) tt tt (λ t c f e. cc) (apart-number k) w (omega arith) (omega arith) (sym (append-nil w.bridges.items)) refl refl refl

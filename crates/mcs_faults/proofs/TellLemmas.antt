@@ -1,7 +1,11 @@
 -- Answers of tests that hold of a token of one kind alone.
-use Rattle.std.proofs.Common.{◌≡◌, ℕ, true, sym, ap, ◌∙◌, inl, inr, ◌⊎◌, ◌↔◌, arith}
+use Rattle.std.proofs.Common.{◌≡◌, ℕ, ◌<◌, true, sym, ap, ◌∙◌, inl, inr, ◌⊎◌, ◌↔◌, arith}
 use Rattle.std.specs.Prelude.{IsTrue, nat_eq, nat_lt, length, List}
+use Rattle.std.specs.Bool.{Decides}
 use Rattle.mcs_base.specs.Listings.{IsAmong}
+use Rattle.mcs_base.specs.Numbers.{value_of_digits}
+use Rattle.mcs_grammar.specs.Entries.{Token}
+use Rattle.mcs_account.specs.Account.{weight_of}
 use Rattle.mcs_faults.specs.Watching.{IsNumberOf}
 use Rattle.mcs_faults.proofs.WatchFacts.{number-there}
 use Rattle.std.proofs.lemmas.Bool.Decides.{Decides-eqb, Decides-ltb}
@@ -13,6 +17,13 @@ pub told-there : {A : Type 0} (xs : List A) (x : A) (k n : ℕ) → IsNumberOf x
 told-there xs x k n number is = (
   λ h. (number-there xs x k number).0 (let less = (Decides-ltb k n).0 h in omega arith),
   λ h. (Decides-ltb k n).1 (let less = (number-there xs x k number).1 h in omega arith),
+)
+
+-- a weight is told up to the greatest number, which is above the limit
+pub told-heavy : (digits : Token) → Decides (nat_lt 1000000 (weight_of digits)) (1000000 < value_of_digits digits)
+told-heavy digits = (
+  λ h. let less = (Decides-ltb 1000000 (weight_of digits)).0 h in omega (arith, less),
+  λ h. (Decides-ltb 1000000 (weight_of digits)).1 (omega (arith, h)),
 )
 
 -- ---- the numbers of roles

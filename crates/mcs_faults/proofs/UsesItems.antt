@@ -136,7 +136,7 @@ sum-total c count (x ∷ xs) = omega (arith, sum_by-cons (λ (x : WrittenContext
 
 pub default-count : (t : WrittenText) (c : Name) → count_by (begins_default_of c) (text_uses t) ≡ sum_of c (λ kb. default_count (kb_in kb)) t.contexts
 default-count t c =
-    let counted = text-count (begins_default_of c) (λ (x : WrittenContext). cond (same_name c x.name) (default_count (kb_in x.kb)) 0) (λ (b : WrittenBridge). 0) t (λ x here. let part = kb-defaults c x.name x.kb in let all = context-parts (begins_default_of c) x in omega arith) (λ b. bridge-parts (begins_default_of c) b (default-no-read c)) in
+    let counted = text-count (begins_default_of c) (λ (x : WrittenContext). cond (same_name c x.name) (default_count (kb_in x.kb)) 0) (λ (b : WrittenBridge). 0) t (λ x here. let part = kb-defaults c x.name x.kb in let all = context-parts (begins_default_of c) x in omega arith) (λ b. bridge-parts (begins_default_of c) b (λ n. refl) (default-no-read c)) in
     let none = sum_by_none (λ (b : WrittenBridge). 0) t.bridges (λ b here. refl) in
     let sum = sum-total c (λ kb. default_count (kb_in kb)) t.contexts in
     omega arith
@@ -144,7 +144,7 @@ default-count t c =
 -- a rule of a text has a token of its own
 pub item-count : (t : WrittenText) (c : Name) → IsText t → count_by (begins_item_of c) (text_uses t) ≡ sum_of c (λ kb. item_count (kb_in kb)) t.contexts
 item-count t c h =
-    let counted = text-count (begins_item_of c) (λ (x : WrittenContext). cond (same_name c x.name) (item_count (kb_in x.kb)) 0) (λ (b : WrittenBridge). 0) t (λ x here. let part = kb-items c x.name x.kb (all_among IsContext t.contexts x h.0 here).1 in let all = context-parts (begins_item_of c) x in omega arith) (λ b. bridge-parts (begins_item_of c) b (item-no-read c)) in
+    let counted = text-count (begins_item_of c) (λ (x : WrittenContext). cond (same_name c x.name) (item_count (kb_in x.kb)) 0) (λ (b : WrittenBridge). 0) t (λ x here. let part = kb-items c x.name x.kb (all_among IsContext t.contexts x h.0 here).1 in let all = context-parts (begins_item_of c) x in omega arith) (λ b. bridge-parts (begins_item_of c) b (λ n. refl) (item-no-read c)) in
     let none = sum_by_none (λ (b : WrittenBridge). 0) t.bridges (λ b here. refl) in
     let sum = sum-total c (λ kb. item_count (kb_in kb)) t.contexts in
     omega arith

@@ -17,7 +17,10 @@ use Rattle.mcs_system.proofs.NameLemmas.{position-there}
 use Rattle.mcs_grammar.specs.Written.{WrittenKb, WrittenContext, WrittenBridge, WrittenText, IsText}
 use Rattle.mcs_grammar.specs.Saying.{kb_in, SaysBridge, SaysSystem, Each, names_of}
 use Rattle.mcs_faults.proofs.UsesLemmas.{text_uses, goes_into, sum_of, context-count, bridge-count, target-count, default-count, item-count}
-use Rattle.mcs_faults.proofs.Within.{IsWithin}
+use Rattle.mcs_grammar.specs.Entries.{text_entries}
+use Rattle.mcs_grammar.specs.Faults.{Exceeds}
+use Rattle.mcs_grammar.proofs.Weights.{written-few}
+use Rattle.mcs_faults.proofs.Within.{IsWithin, NoFaults}
 use Rattle.mcs_grammar.proofs.SaidSystem.{as-many-contexts, as-many-bridges, context-written, bridge-written, IsContextAt, context-below}
 
 -- a test that fails at each context's number
@@ -95,6 +98,9 @@ module _ (t : WrittenText) (m : System) (says : SaysSystem t m) (within : IsWith
       let part = sum-has (λ kb. item_count (kb_in kb)) x t.contexts there in
       ap (λ (d : Context). nat_lt 4096 (item_count d.kb)) is ∙ le-ltb 4096 (item_count (kb_in x.kb)) (omega arith))
 
-  pub light-rules : exceeds m Weight ≡ false
+  pub light-rules : NoFaults (text_entries t) → exceeds m Weight ≡ false
   unfolding exceeds
-  light-rules = any_none (λ (b : Bridge). nat_lt 1000000 b.weight) m.bridges (λ b here. let (w, there, s) = bridge-written t m says b here in ap (λ (c : Bridge). nat_lt 1000000 c.weight) s.unmarked)
+  light-rules none = any_none (λ (b : Bridge). nat_lt 1000000 b.weight) m.bridges (λ b here.
+      let (w, there, s) = bridge-written t m says b here in
+      let few = written-few t (λ k e at heavy. none k e (Exceeds Weight) at heavy) w there in
+      le-ltb 1000000 b.weight (omega (arith, few, s.weight)))

@@ -20,6 +20,7 @@ use Rattle.mcs_faults.proofs.Within.{NoFaults}
 use Rattle.mcs_account.proofs.EntryLists.{parts-among}
 use Rattle.mcs_account.proofs.ContextUses.{kind-among}
 use Rattle.mcs_account.proofs.FirstTokens.{first-there, entry-at}
+use Rattle.mcs_grammar.proofs.Weights.{written-some}
 use Rattle.mcs_grammar.proofs.SaidSystem.{read-written, context-written, bridge-written, context-at}
 
 -- ---- justifications
@@ -61,7 +62,7 @@ module _ (t : WrittenText) (m : System) (grammar : IsText t) (says : SaysSystem 
   rule-fits b h =
       let (w, there, s) = bridge-written t m says b h in
       let parts : IsWrittenBridge w = all_among IsWrittenBridge t.bridges w grammar.1 there in
-      or_from (nat_eq b.weight 0) _ (ap (λ (c : Bridge). nat_eq c.weight 0) s.unmarked)
+      or_from (nat_eq b.weight 0) _ (ne_eqb b.weight 0 (λ none. let some = written-some w.marks.weight parts.3 in omega (arith, s.weight, none, some)))
       (or_from (is_program (slice_get m.contexts b.target) && not (is_atom b.head)) (list_any (λ (r : Read). is_program (slice_get m.contexts r.context) && not (is_atom r.belief)) (reads_of b))
       (fits w.head (record { context = b.target; belief = b.head }) (OfHead w there refl) parts.1 s.head)
       (any_none (λ (r : Read). is_program (slice_get m.contexts r.context) && not (is_atom r.belief)) (reads_of b) (λ r here.

@@ -48,7 +48,7 @@ valid-text t m grammar says within none =
                   few-defaults t m says within,
                   (
                     few-items t m says within grammar,
-                    (light-rules t m says within, (no-large t none m says, tt)),
+                    (light-rules t m says within none, (no-large t none m says, tt)),
                   ),
                 ),
               ),

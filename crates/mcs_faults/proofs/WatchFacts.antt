@@ -14,7 +14,7 @@ use Rattle.mcs_system.specs.Logic.{same_name, is_in}
 use Rattle.mcs_system.proofs.Sameness.{same_name-is, same_name-itself}
 use Rattle.mcs_faults.specs.declared.watch.Watch.{Watch}
 use Rattle.mcs_faults.specs.declared.watch.ContextSeen.{ContextSeen}
-use Rattle.mcs_grammar.specs.Entries.{Use, BeginsContext, BeginsBridge, NamesContext, NamesBridge, SaysProgram, BeginsItem, BeginsDefault, NamesTarget, NamesSource, BeginsBelief, EndsRead, AtomOf, IsNumber, OpensWithin}
+use Rattle.mcs_grammar.specs.Entries.{Use, BeginsContext, BeginsBridge, NamesContext, NamesBridge, Weighs, SaysProgram, BeginsItem, BeginsDefault, NamesTarget, NamesSource, BeginsBelief, EndsRead, AtomOf, IsNumber, OpensWithin}
 use Rattle.mcs_grammar.specs.Faults.{names_target, begins_default_of, begins_item_of, IsOneMore}
 use Rattle.mcs_account.specs.Images.{named_read_of}
 use Rattle.mcs_account.specs.Known.{context_named, contexts_named}
@@ -34,6 +34,7 @@ context-named n us = (
     back BeginsContext none = absurd none
     back BeginsBridge none = absurd none
     back (NamesBridge b) none = absurd none
+    back (Weighs k) none = absurd none
     back (SaysProgram c) none = absurd none
     back (BeginsItem c) none = absurd none
     back (BeginsDefault c) none = absurd none
@@ -57,6 +58,7 @@ bridge-named n us = (
     back BeginsContext none = absurd none
     back BeginsBridge none = absurd none
     back (NamesContext b) none = absurd none
+    back (Weighs k) none = absurd none
     back (SaysProgram c) none = absurd none
     back (BeginsItem c) none = absurd none
     back (BeginsDefault c) none = absurd none
@@ -132,6 +134,7 @@ module _ (w : Watch) (before : List Use) (watch : IsWatch w before) (n : Name) (
       go BeginsBridge h = refl
       go (NamesContext b) h = refl
       go (NamesBridge b) h = refl
+      go (Weighs k) h = refl
       go (SaysProgram c) h = refl
       go (BeginsItem c) h = refl
       go (BeginsDefault c) h = refl
@@ -151,6 +154,7 @@ module _ (w : Watch) (before : List Use) (watch : IsWatch w before) (n : Name) (
       go BeginsBridge h = refl
       go (NamesContext b) h = refl
       go (NamesBridge b) h = refl
+      go (Weighs k) h = refl
       go (SaysProgram c) h = refl
       go (BeginsItem c) h = refl
       go (NamesTarget c) h = refl
@@ -170,6 +174,7 @@ module _ (w : Watch) (before : List Use) (watch : IsWatch w before) (n : Name) (
       go BeginsBridge h = refl
       go (NamesContext b) h = refl
       go (NamesBridge b) h = refl
+      go (Weighs k) h = refl
       go (SaysProgram c) h = refl
       go (BeginsDefault c) h = refl
       go (NamesTarget c) h = refl

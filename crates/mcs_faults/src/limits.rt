@@ -13,7 +13,7 @@ ghost use Rattle.mcs_account.specs.declared.reader.NamedRead as code_read;
 
 use crate::fault::Fault;
 use crate::watch::{Said, Watch};
-use mcs_account::{NamedRead, Role, is_name_word};
+use mcs_account::{NamedRead, Role, is_name_word, weight_of};
 use mcs_base::Vars;
 use mcs_system::{Limit, Name, same_formula};
 
@@ -95,7 +95,7 @@ impl Watch {
             Limit::AtomsPerContext => self.exceeds_atoms(said),
             Limit::DefaultsPerContext => self.exceeds_defaults(said),
             Limit::ItemsPerContext => self.exceeds_items(said),
-            Limit::Weight => false,
+            Limit::Weight => self.exceeds_weight(said),
             Limit::FormulaSize => self.exceeds_size(said),
             Limit::OpenParentheses => self.exceeds_open(said),
             Limit::NameBytes => self.exceeds_bytes(said),
@@ -241,6 +241,16 @@ impl Watch {
     {
         said.uses.begins_item
             && self.items_of(said.subject.context) == Limit::ItemsPerContext.most()
+    }
+
+    /// Whether the token is a weight above the limit.
+    fn exceeds_weight(&self, said: &Said) -> bool
+        ensures { AnswersTest result (ExceedsLimit Limit.Weight) self.now said.now }
+    {
+        match said.uses.role {
+            Role::Weighs => weight_of(said.token) as usize > Limit::Weight.most(),
+            _ => false,
+        }
     }
 
     /// Whether the token is the first of a formula, or the first name of a program rule, that

@@ -117,7 +117,11 @@ impl Watch {
             Role::BeginsDefault => self.count_default(said.subject.context),
             Role::NamesTarget => self.count_rule(self.number_of(said.token)),
             Role::Atom { .. } => return self.add_atom(alloc, said.subject.context, said.token),
-            Role::Nothing | Role::NamesSource | Role::Counted { .. } | Role::Opens { .. } => {}
+            Role::Nothing
+            | Role::NamesSource
+            | Role::Weighs
+            | Role::Counted { .. }
+            | Role::Opens { .. } => {}
         }
         Ok(())
     }

@@ -8,7 +8,7 @@ use Rattle.mcs_system.specs.Justifications.{IsJustifiedUpTo, KbIsJustifiedUpTo}
 use Rattle.mcs_tokens.specs.declared.scan.Span.{Span}
 use Rattle.mcs_tokens.proofs.Unique.{spans_few}
 use Rattle.mcs_grammar.specs.Written.{Written, WrittenDefault, WrittenItem, Fact, Rule, WrittenKb, Classical, DefaultTheory, Program, WrittenContext}
-use Rattle.mcs_grammar.specs.Entries.{Token, Use, BeginsItem, BeginsDefault, Entry, entry, formula_in, with_first, whole_entries, after_sign, default_entries, item_entries, ended, kb_entries, context_entries, bridge_entries, text_entries}
+use Rattle.mcs_grammar.specs.Entries.{Token, Use, BeginsItem, BeginsDefault, Entry, entry, formula_in, with_first, whole_entries, after_sign, default_entries, item_entries, ended, kb_entries, context_entries, bridge_entries, version_entries, text_entries}
 use Rattle.mcs_grammar.specs.Saying.{default_said, item_in, kb_in, context_in}
 use Rattle.mcs_grammar.specs.Texts.{SpelledDefaultsAreShort}
 
@@ -60,6 +60,8 @@ pub defaults-short : SpelledDefaultsAreShort
 defaults-short bytes m h =
     let texts = length-map h.spans (λ (s : Span). slice_range bytes s.from s.to) in
     let tokens = length-map (text_entries h.text) (λ (e : Entry). e.token) in
+    let rest = flat_map context_entries h.text.contexts ++ flat_map bridge_entries h.text.bridges in
+    let whole = length-append (version_entries h.text.has_version) rest in
     let both = length-append (flat_map context_entries h.text.contexts) (flat_map bridge_entries h.text.bridges) in
-    let few : length (flat_map context_entries h.text.contexts) ≤ length bytes = omega (arith, texts, ap length h.written, tokens, both, spans_few bytes 0 h.spans h.tokens) in
+    let few : length (flat_map context_entries h.text.contexts) ≤ length bytes = omega (arith, texts, ap length h.written, tokens, whole, both, spans_few bytes 0 h.spans h.tokens) in
     subst (λ cs. AllByRecursion (λ (c : Context). KbIsJustifiedUpTo (length bytes) c.kb) cs) (sym h.says.contexts) (contexts_justified (length bytes) h.text.contexts few)

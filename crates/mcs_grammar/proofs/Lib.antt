@@ -1,15 +1,3 @@
-pub mod FormulaParts
-pub mod FormulaRuns
-pub mod FormulaForward
-pub mod FormulaWhole
-pub mod FormulaSound
-pub mod FormulaTaken
-pub mod FormulaEnds
-pub mod ImageLemmas
-pub mod ReaderLemmas
-pub mod ReaderOperands
-pub mod ReaderSigns
-pub mod ReaderEnds
 pub mod OneFault
 pub mod SaidSystem
 pub mod WithoutRepeats
@@ -17,5 +5,6 @@ pub mod RankLemmas
 pub mod TextSplits
 pub mod Pieces
 pub mod Spelled
-pub mod ReadAtoms
 pub mod JustificationLemmas
+pub mod Weights
+pub mod WorkedTexts

@@ -5,7 +5,8 @@ use Rattle.mcs_base.specs.Words.{is_word, most_name_bytes}
 use Rattle.mcs_base.proofs.Each.{all_append}
 use Rattle.mcs_base.proofs.WordLemmas.{EndsWord, longer_word, past_word, word_begins}
 use Rattle.mcs_tokens.specs.Spelling.{sign_bytes}
-use Rattle.mcs_tokens.specs.Tokens.{is_separator, BeginsWith, IsToken}
+use Rattle.mcs_tokens.specs.Tokens.{is_separator, is_number, BeginsWith, IsToken}
+use Rattle.mcs_tokens.proofs.Numbers.{number_begins, digit_is_word_byte}
 use Rattle.mcs_tokens.specs.declared.sign.Sign.{Sign}
 use Rattle.mcs_tokens.specs.declared.sign.Sign.TheVariants as signs
 use Rattle.mcs_grammar.specs.Entries.{Token, Use, Entry, entry, tokens_of, with_first, with_last}
@@ -73,6 +74,22 @@ one-word t uses next word short ends = record {
   text_is = append-nil t;
   tokens_are = refl;
   apart = ((word_begins t word).0, word-token t next word ends, tt);
+  short = (short, tt);
+}
+
+-- ---- numbers
+number-token : (t : Token) (next : List ℕ) → IsTrue (is_number t) → EndsWord next → IsToken t next
+number-token t next number ends = inr (inr (inl (record {
+  number = number;
+  whole = λ b bs e digit. true≢false (sym (digit_is_word_byte b digit) ∙ past_word b bs next e ends);
+})))
+
+pub one-number : (t : Token) (uses : List Use) (next : List ℕ) → IsTrue (is_number t) → length t ≤ most_name_bytes → EndsWord next → IsSpelled t (entry t uses ∷ []) next
+one-number t uses next number short ends = record {
+  pieces = Part t ∷ [];
+  text_is = append-nil t;
+  tokens_are = refl;
+  apart = ((number_begins t number).0, number-token t next number ends, tt);
   short = (short, tt);
 }
 

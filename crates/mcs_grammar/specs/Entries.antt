@@ -1,10 +1,11 @@
 -- The tokens of a written text, each with what it is there for. What a token is there for is told by it and
 -- the tokens before it.
-use Rattle.std.specs.Prelude.{ℕ, ◌+◌, Bool, true, false, List, [], ◌∷◌, ◌++◌, map, codes, length}
+use Rattle.std.specs.Prelude.{ℕ, ◌+◌, Bool, true, false, List, [], ◌∷◌, ◌++◌, map, codes, length, Option, Some, None}
 use Rattle.std.specs.List.{flat_map}
+use Rattle.mcs_base.specs.Numbers.{value_of_digits}
 use Rattle.mcs_system.specs.Plain.{Name}
 use Rattle.mcs_system.specs.Plain as plain
-use Rattle.mcs_grammar.specs.Written.{Written, True', False', Named, Denied, Grouped, Both, Either, Leads, Equals, WrittenDefault, WrittenItem, Fact, Rule, WrittenLiteral, WrittenRule, WrittenKb, Classical, DefaultTheory, Program, WrittenContext, WrittenPlace, WrittenRead, WrittenBridge, WrittenText}
+use Rattle.mcs_grammar.specs.Written.{Written, True', False', Named, Denied, Grouped, Both, Either, Leads, Equals, WrittenDefault, WrittenItem, Fact, Rule, WrittenLiteral, WrittenRule, WrittenKb, Classical, DefaultTheory, Program, WrittenContext, WrittenPlace, WrittenRead, WrittenMarks, WrittenBridge, WrittenText}
 
 -- the bytes of a token
 abbrev pub Token : Type 0
@@ -29,6 +30,8 @@ pub data Use : Type 0 where
   -- the name after it
   NamesContext : (context : Name) → Use
   NamesBridge : (bridge : Name) → Use
+  -- the number after the word `weight`
+  Weighs : (weight : ℕ) → Use
   -- the word that says that the context is a program
   SaysProgram : (context : Name) → Use
   -- the first token of an item of the context
@@ -170,13 +173,26 @@ abbrev pub reads_entries : Name → List WrittenRead → List Entry
 reads_entries target [] = []
 reads_entries target (r ∷ rs) = entry (codes "if") [] ∷ (read_entries target r ++ flat_map (further_read target) rs)
 
+abbrev pub weight_entries : Option Token → List Entry
+weight_entries None = []
+weight_entries (Some digits) = entry (codes "weight") [] ∷ entry digits (Weighs (value_of_digits digits) ∷ []) ∷ []
+
+abbrev pub mark_entries : WrittenMarks → List Entry
+mark_entries marks = optional marks.keep (codes "keep") ++ (optional marks.closed (codes "closed") ++ weight_entries marks.weight)
+
 abbrev pub bridge_entries : WrittenBridge → List Entry
 bridge_entries b =
-    entry (codes "bridge") (BeginsBridge ∷ []) ∷ entry b.name (NamesBridge b.name ∷ []) ∷ entry (codes ":") []
-    ∷ (place_entries (NamesTarget b.head.context) b.head ++ (reads_entries b.head.context b.reads ++ entry (codes ".") [] ∷ []))
+    entry (codes "bridge") (BeginsBridge ∷ []) ∷ entry b.name (NamesBridge b.name ∷ []) ∷ (mark_entries b.marks ++ entry (codes ":") []
+    ∷ (place_entries (NamesTarget b.head.context) b.head ++ (reads_entries b.head.context b.reads ++ entry (codes ".") [] ∷ [])))
+
+-- ---- texts
+
+abbrev pub version_entries : Bool → List Entry
+version_entries true = entry (codes "version") [] ∷ entry (codes "2") [] ∷ entry (codes ".") [] ∷ []
+version_entries false = []
 
 abbrev pub text_entries : WrittenText → List Entry
-text_entries t = flat_map context_entries t.contexts ++ flat_map bridge_entries t.bridges
+text_entries t = version_entries t.has_version ++ (flat_map context_entries t.contexts ++ flat_map bridge_entries t.bridges)
 
 abbrev pub tokens_of : List Entry → List Token
 tokens_of entries = map (λ (m : Entry). m.token) entries

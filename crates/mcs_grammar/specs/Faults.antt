@@ -8,7 +8,7 @@ use Rattle.mcs_system.specs.Limits.{most}
 use Rattle.mcs_system.specs.declared.limit.Limit.{Limit}
 use Rattle.mcs_system.specs.declared.limit.Limit.TheVariants.{Contexts, Bridges, RulesPerContext, Variables, InputsPerContext, AtomsPerContext, DefaultsPerContext, ItemsPerContext, Weight, FormulaSize, OpenParentheses, NameBytes}
 use Rattle.mcs_grammar.specs.Written.{IsNameWord, WrittenText, IsText}
-use Rattle.mcs_grammar.specs.Entries.{Token, Use, BeginsContext, BeginsBridge, NamesContext, NamesBridge, SaysProgram, BeginsItem, BeginsDefault, NamesTarget, NamesSource, BeginsBelief, EndsRead, AtomOf, IsNumber, OpensWithin, Entry, text_entries, tokens_of, uses_of}
+use Rattle.mcs_grammar.specs.Entries.{Token, Use, BeginsContext, BeginsBridge, NamesContext, NamesBridge, Weighs, SaysProgram, BeginsItem, BeginsDefault, NamesTarget, NamesSource, BeginsBelief, EndsRead, AtomOf, IsNumber, OpensWithin, Entry, text_entries, tokens_of, uses_of}
 
 -- ---- how many there were before
 
@@ -113,8 +113,7 @@ ExceedsLimit InputsPerContext before m = (t : Name) × ((r : NamedRead) × IsAmo
 ExceedsLimit AtomsPerContext before m = (c : Name) × ((a : Name) × IsAmong (AtomOf c a) m.uses × IsOneMore (most AtomsPerContext) (WasAtom before c) a)
 ExceedsLimit DefaultsPerContext before m = (c : Name) × IsAmong (BeginsDefault c) m.uses × (count_by (begins_default_of c) before ≡ most DefaultsPerContext)
 ExceedsLimit ItemsPerContext before m = (c : Name) × IsAmong (BeginsItem c) m.uses × (count_by (begins_item_of c) before ≡ most ItemsPerContext)
--- a text gives no rule a weight
-ExceedsLimit Weight before m = ⊥
+ExceedsLimit Weight before m = (w : ℕ) × IsAmong (Weighs w) m.uses × (most Weight < w)
 ExceedsLimit FormulaSize before m = IsAmong (IsNumber (most FormulaSize + 1)) m.uses
 ExceedsLimit OpenParentheses before m = IsAmong (OpensWithin (most OpenParentheses)) m.uses
 ExceedsLimit NameBytes before m = IsNameWord m.token × (most_name_bytes < length m.token)

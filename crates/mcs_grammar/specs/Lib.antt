@@ -3,5 +3,5 @@ pub mod Entries
 pub mod Saying
 pub mod Faults
 pub mod Texts
-pub mod FormulaSteps
-pub mod FormulaImages
+pub mod Examples
+pub mod Laws

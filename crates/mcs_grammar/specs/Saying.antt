@@ -1,6 +1,7 @@
 -- What a written text says: the system, as plain data.
-use Rattle.std.specs.Prelude.{◌≡◌, not, List, [], ◌∷◌, map, filter, Some}
+use Rattle.std.specs.Prelude.{◌≡◌, ℕ, not, List, [], ◌∷◌, map, filter, Option, Some, None}
 use Rattle.std.specs.List.{position}
+use Rattle.mcs_base.specs.Numbers.{value_of_digits}
 use Rattle.mcs_system.specs.Plain as plain
 use Rattle.mcs_system.specs.Plain.{Name}
 use Rattle.mcs_system.specs.Logic.{same_name}
@@ -49,13 +50,19 @@ positive_places rs = map (λ (r : WrittenRead). r.place) (filter (λ (r : Writte
 abbrev pub negative_places : List WrittenRead → List WrittenPlace
 negative_places rs = map (λ (r : WrittenRead). r.place) (filter (λ (r : WrittenRead). r.denied) rs)
 
+-- the number that the digits spell; 1 where a rule says no weight
+abbrev pub weight_said : Option (List ℕ) → ℕ
+weight_said None = 1
+weight_said (Some digits) = value_of_digits digits
+
 pub record SaysBridge (contexts : List Name) (w : WrittenBridge) (b : plain.Bridge) : Type 0 where
   pub named : b.name ≡ w.name
   pub head : SaysPlace contexts w.head (record { context = b.target; belief = b.head })
   pub pos : Each (SaysPlace contexts) (positive_places w.reads) b.pos
   pub neg : Each (SaysPlace contexts) (negative_places w.reads) b.neg
-  -- a text says nothing else of a rule
-  pub unmarked : b ≡ plain.plain_rule b.name b.target b.head b.pos b.neg
+  pub keep : b.keep ≡ w.marks.keep
+  pub closed : b.closed ≡ w.marks.closed
+  pub weight : b.weight ≡ weight_said w.marks.weight
 
 abbrev pub names_of : List WrittenContext → List Name
 names_of cs = map (λ (c : WrittenContext). c.name) cs

@@ -1,6 +1,6 @@
 -- What is written in a text: its parts with their parentheses, in the order of their tokens.
 --
---   text    = { context } { bridge }
+--   text    = [ "version" "2" "." ] { context } { bridge }
 --   context = "context" name "classical" "{" { formula "." } "}"
 --           | "context" name "default"   "{" { item "." } "}"
 --           | "context" name "program"   "{" { rule "." } "}"
@@ -8,7 +8,8 @@
 --   rule    = name { "|" name } [ ":-" [ body ] ] | ":-" [ body ]
 --   body    = literal { "," literal }
 --   literal = [ "not" ] name
---   bridge  = "bridge" name ":" place [ "if" read { "," read } ] "."
+--   bridge  = "bridge" name marks ":" place [ "if" read { "," read } ] "."
+--   marks   = [ "keep" ] [ "closed" ] [ "weight" number ]
 --   read    = [ "not" ] place
 --   place   = name ":" primary
 --   formula = implication [ "<->" formula ]
@@ -16,10 +17,14 @@
 --   disjunction = conjunction { "|" conjunction }
 --   conjunction = primary { "&" primary }
 --   primary = "~" primary | "(" formula ")" | "true" | "false" | name
-use Rattle.std.specs.Prelude.{◌≡◌, ℕ, ◌≤◌, Bool, true, false, not, ◌&&◌, IsTrue, List, [], ◌∷◌}
+--
+-- A number that is a weight does not begin with `0`. A text that does not begin with `version` has no rule with marks.
+use Rattle.std.specs.Prelude.{◌≡◌, ◌≢◌, ℕ, ◌≤◌, Bool, true, false, not, ◌&&◌, IsTrue, List, [], ◌∷◌, Option, Some, None, slice_index}
 use Rattle.std.specs.List.{AllByRecursion}
 use Rattle.mcs_base.specs.Words.{is_word, is_reserved}
 use Rattle.mcs_system.specs.Plain.{Name}
+use Rattle.mcs_tokens.specs.Kinds.{zero_digit}
+use Rattle.mcs_tokens.specs.Tokens.{is_number}
 
 -- a formula; `Grouped` is one in parentheses
 pub data Written : Type 0 where
@@ -90,12 +95,21 @@ pub record WrittenRead : Type 0 where
   pub denied : Bool
   pub place : WrittenPlace
 
+-- what stands after the name of a rule: the words `keep` and `closed`, and the digits after the word `weight`
+pub record WrittenMarks : Type 0 where
+  pub keep : Bool
+  pub closed : Bool
+  pub weight : Option (List ℕ)
+
 pub record WrittenBridge : Type 0 where
   pub name : Name
+  pub marks : WrittenMarks
   pub head : WrittenPlace
   pub reads : List WrittenRead
 
 pub record WrittenText : Type 0 where
+  -- whether it begins with `version 2.`
+  pub has_version : Bool
   pub contexts : List WrittenContext
   pub bridges : List WrittenBridge
 
@@ -141,8 +155,16 @@ IsContext c = IsNameWord c.name × IsKb c.kb
 abbrev pub IsPlace : WrittenPlace → Type 0
 IsPlace p = IsNameWord p.context × IsFormula p.belief × (level p.belief ≡ 0)
 
+-- digits, of which the first is not `0`
+abbrev pub IsWeight : Option (List ℕ) → Type 0
+IsWeight None = Unit {0}
+IsWeight (Some digits) = IsTrue (is_number digits) × (slice_index digits 0 ≢ zero_digit)
+
+abbrev pub no_marks : WrittenMarks
+no_marks = record { keep = false; closed = false; weight = None }
+
 abbrev pub IsWrittenBridge : WrittenBridge → Type 0
-IsWrittenBridge b = IsNameWord b.name × IsPlace b.head × AllByRecursion (λ (r : WrittenRead). IsPlace r.place) b.reads
+IsWrittenBridge b = IsNameWord b.name × IsPlace b.head × AllByRecursion (λ (r : WrittenRead). IsPlace r.place) b.reads × IsWeight b.marks.weight
 
 abbrev pub IsText : WrittenText → Type 0
-IsText t = AllByRecursion IsContext t.contexts × AllByRecursion IsWrittenBridge t.bridges
+IsText t = AllByRecursion IsContext t.contexts × AllByRecursion IsWrittenBridge t.bridges × (t.has_version ≡ false → AllByRecursion (λ (b : WrittenBridge). b.marks ≡ no_marks) t.bridges)

@@ -1,7 +1,9 @@
-//! The grammar of system texts: the tokens of a text, the system that it denotes, and its faults;
-//! and a parser of formulas, token by token.
+//! The grammar of system texts: the tokens of a text, the system that it denotes, and its faults.
 #![tactic(auto)]
 
-mod formula;
+mod laws;
 
-pub use formula::{Answer, FormulaReader, Pending};
+pub use laws::{
+    spelled_defaults_are_short, spelled_texts_have_no_fault, spelled_weights_are_in_range,
+    texts_have_one_fault, unversioned_rules_are_unmarked, worked_texts,
+};

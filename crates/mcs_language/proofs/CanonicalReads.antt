@@ -12,7 +12,6 @@ use Rattle.mcs_system.proofs.ValidLemmas.{limit_kept}
 use Rattle.mcs_writer.specs.Canonical.{canonical_text}
 use Rattle.mcs_grammar.specs.Entries.{Entry, formula_in, size_of, text_entries, tokens_of}
 use Rattle.mcs_system.specs.Naming.{IsSystemNamed}
-use Rattle.mcs_system.specs.Unmarked.{IsUnmarked}
 use Rattle.mcs_grammar.specs.Saying.{SaysSystem}
 use Rattle.mcs_grammar.specs.Texts.{Spells}
 use Rattle.mcs_grammar.specs.Written.{Written, WrittenContext, WrittenPlace, WrittenRead, WrittenBridge, IsText}
@@ -102,10 +101,10 @@ primary-place m p (OfRead w there r read is) =
     (f, ap (λ (x : WrittenPlace). x.belief) (sym is) ∙ belief)
 
 -- ---- the text has no faults
-module _ (m : System) (named : IsSystemNamed m) (valid : IsValid m) (unmarked : IsUnmarked m) where
+module _ (m : System) (named : IsSystemNamed m) (valid : IsValid m) where
   size-kept : (n : ℕ) → IsSizeOf (canonical_written m) n → n ≤ 512
   size-kept n h = elim (cases_lt 512 n) [
-    | inl less ↦ absurd (true≢false (sym (some-large (canonical_written m) m (canonical-says m named valid unmarked) n h (omega arith)) ∙ limit_kept m valid FormulaSize (inr (inr (inr (inr (inr (inr (inr (inr (inr (inl refl))))))))))))
+    | inl less ↦ absurd (true≢false (sym (some-large (canonical_written m) m (canonical-says m named valid) n h (omega arith)) ∙ limit_kept m valid FormulaSize (inr (inr (inr (inr (inr (inr (inr (inr (inr (inl refl))))))))))))
     | inr past ↦ past
   ]
 
@@ -142,6 +141,6 @@ module _ (m : System) (named : IsSystemNamed m) (valid : IsValid m) (unmarked : 
   canonical-spells =
       let t = canonical_written m in
       let right : IsText t = canonical-right m named valid in
-      let says : SaysSystem t m = canonical-says m named valid unmarked in
+      let says : SaysSystem t m = canonical-says m named valid in
       let has = tokens-of-text (canonical_text m) (text_entries t) (canonical-spelled m named valid) in
       spells-whole (canonical_text m) has.spans t m has.are has.texts right says (no-faults t m right says valid canonical-shallow canonical-short canonical-bare)

@@ -18,7 +18,10 @@ use Rattle.mcs_productions.specs.Productions.{grammar}
 use Rattle.mcs_grammar.specs.Written.{WrittenPlace, WrittenRead, WrittenBridge, WrittenText}
 use Rattle.mcs_grammar.specs.Entries.{Token, NamesContext, EndsRead, Entry, text_entries, uses_of}
 use Rattle.mcs_grammar.specs.Saying.{context_in, names_of, Each, SaysBridge, SaysSystem, positive_places, negative_places}
+use Rattle.mcs_grammar.specs.Faults.{Exceeds}
 use Rattle.mcs_grammar.specs.Texts.{token_texts, Spells}
+use Rattle.mcs_grammar.proofs.Weights.{written-few}
+use Rattle.mcs_system.specs.declared.limit.Limit.TheVariants.{Weight}
 use Rattle.mcs_account.specs.Account.{no_account, accounted, entries_in}
 use Rattle.mcs_account.specs.Reading.{AreRead, Events}
 use Rattle.mcs_account.proofs.Accounts.{bridge_said, names_in, bridge-says}
@@ -95,10 +98,13 @@ module _ (bytes : List ℕ) (spans : List Span) (r : Reading) (tokens : AreToken
       let ended : IsAmong (EndsRead b.head.context (read_in q.place).context (read_in q.place).belief) (uses_of (text_entries t)) = (reads-there t b.head.context (read_in q.place)).1 (record { bridge = b; is_there = there; into = refl; read = q; is_read = here; says = refl }) in
       is-known q.place.context (seen.spoken (EndsRead b.head.context (read_in q.place).context (read_in q.place).belief) ended).1
 
+  none : NoFaults (text_entries t)
+  none = subst NoFaults (sym said.whole.entries) h.faultless
+
   bridge-is-said : (b : WrittenBridge) → IsAmong b t.bridges → SaysBridge (names_in cs) b (bridge_said cs b)
   bridge-is-said b there =
       let places = places-of (λ (p : WrittenPlace). IsAmong p.context (names_in cs)) b.reads (all_from_among (λ (q : WrittenRead). IsAmong q.place.context (names_in cs)) b.reads (known-read b there)) in
-      bridge-says cs b few (known-target b there) places.0 places.1
+      bridge-says cs b few (written-few t (λ k e at heavy. none k e (Exceeds Weight) at heavy) b there) (known-target b there) places.0 places.1
 
   module _ (contexts : List code_context.Context) (bridges : List code_bridge.Bridge) (contexts-are : map context_of contexts ≡ (accounted no_account h.marks).contexts) (bridges-are : map bridge_of bridges ≡ (accounted no_account h.marks).bridges) where
     says : SaysSystem t (system_of contexts bridges)
@@ -108,9 +114,7 @@ module _ (bytes : List ℕ) (spans : List Span) (r : Reading) (tokens : AreToken
     }
 
     pub is-valid : IsValid (system_of contexts bridges)
-    is-valid =
-        let none : NoFaults (text_entries t) = subst NoFaults (sym said.whole.entries) h.faultless in
-        valid-text t (system_of contexts bridges) said.whole.grammar says is-within none
+    is-valid = valid-text t (system_of contexts bridges) said.whole.grammar says is-within none
 
     pub spells-system : Spells bytes (system_of contexts bridges)
     spells-system = record {

@@ -7,8 +7,6 @@ use Rattle.mcs_system.specs.Plain.{Name}
 use Rattle.mcs_system.specs.Limits.{most}
 use Rattle.mcs_system.specs.declared.limit.Limit.TheVariants.{OpenParentheses}
 use Rattle.mcs_tokens.specs.declared.kind.TokenKind.{TokenKind}
-use Rattle.mcs_productions.specs.declared.class.Class.{Class}
-use Rattle.mcs_productions.specs.declared.class.Class.TheVariants as class
 use Rattle.mcs_grammar.specs.Faults.{IsFirstTextFault}
 use Rattle.mcs_grammar.specs.Entries.{Token, Use, Entry, uses_of}
 use Rattle.mcs_account.specs.declared.reader.TextReader.{TextReader}
@@ -53,13 +51,6 @@ is-subject r ts k h s context target =
       context = subst (λ (ns : List Name). IsNumberOf ns p.context s.context) (sym (same-names r ts k h)) (subst (IsNumberOf names p.context) (sym context) one);
       target = subst (λ (ns : List Name). IsNumberOf ns p.target s.target) (sym (same-names r ts k h)) (subst (IsNumberOf names p.target) (sym target) two);
     }
-
--- the number of a token that names no context
-pub other-number : (names : List Name) (c : Class) (t : Token) (n : ℕ) → ¬ (c ≡ class.NamesContext) → ¬ (c ≡ class.NamesTarget) → ¬ (c ≡ class.NamesSource) → IsNumberFor names c t n
-other-number names class.NamesContext t n a b d = absurd (a refl)
-other-number names class.NamesTarget t n a b d = absurd (b refl)
-other-number names class.NamesSource t n a b d = absurd (d refl)
-other-number names c t n a b d = tt
 
 -- ---- what the watch says of a token that was taken
 abbrev pub IsNoted : Option code_fault.Fault → Reading → Watch → code_taken.Taken → Token → code_subject.Subject → Option code_read.NamedRead → Type 0

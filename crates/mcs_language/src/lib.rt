@@ -5,10 +5,10 @@ mod laws;
 mod reading;
 mod writing;
 
-pub use laws::{
-    spelled_defaults_are_short, spelled_texts_have_no_fault, texts_are_unambiguous,
-    texts_have_one_fault,
-};
+pub use laws::texts_are_unambiguous;
 pub use mcs_faults::TextFault;
+pub use mcs_grammar::{
+    spelled_defaults_are_short, spelled_texts_have_no_fault, texts_have_one_fault,
+};
 pub use reading::read_system;
 pub use writing::write_system;

@@ -1,7 +1,6 @@
 //! Writing: from a system to its canonical text.
 
 ghost use Rattle.std.specs.Prelude.{◌≡◌, ◌++◌, OnOk, OnErr};
-ghost use Rattle.mcs_system.specs.Unmarked.{IsUnmarked};
 ghost use Rattle.mcs_writer.specs.Canonical.{canonical_text};
 ghost use Rattle.mcs_grammar.specs.Texts.{Spells};
 
@@ -9,20 +8,19 @@ use mcs_base::{Memory, Text};
 use mcs_system::System;
 use mcs_writer::push_system;
 
-/// The canonical text of the system spells the system, if none of its rules has marks.
+/// The canonical text of the system spells the system.
 fn canonical_text_spells(system: &System)
-    ensures { IsUnmarked system.now → Spells (canonical_text system.now) system.now }
+    ensures { Spells (canonical_text system.now) system.now }
 {
     let _contexts = system.contexts();
 }
 
-/// Appends the canonical text of a system. It does not show the marks of the rules. If they have
-/// none, it spells the system, so that reading it yields the same system. If there is no memory for
-/// all of it, `out` stays as it was.
+/// Appends the canonical text of a system. It spells the system, so that reading it yields the same
+/// system. If there is no memory for all of it, `out` stays as it was.
 pub fn write_system(system: &System, out: &mut Text) -> Result<(), Memory>
     ensures text { OnOk result (out.new ≡ out.old ++ canonical_text system.now) }
     ensures unchanged { OnErr result (out.new ≡ out.old) }
-    ensures reads_back { IsUnmarked system.now → Spells (canonical_text system.now) system.now }
+    ensures reads_back { Spells (canonical_text system.now) system.now }
 {
     canonical_text_spells(system);
     push_system(out, system)

@@ -15,8 +15,8 @@ use Rattle.mcs_productions.specs.declared.production.Production.{Production}
 use Rattle.mcs_productions.specs.declared.production.Production.TheVariants as name
 
 abbrev pub rules : Production → Expr Class Action Production
--- { context } { bridge }
-rules name.Text = Then (Many (Rule name.Context)) (Many (Rule name.Bridge))
+-- "version" "2" "." { context } { marked bridge } | { context } { bridge }
+rules name.Text = Or (Then (Take class.BeginsVersion) (Then (Take class.NamesVersion) (Then (Take class.EndsVersion) (Then (Many (Rule name.Context)) (Many (Rule name.MarkedBridge)))))) (Then (Many (Rule name.Context)) (Many (Rule name.Bridge)))
 -- "context" name "classical" "{" { formula "." } "}", and likewise with "default" and items and with "program" and rules
 rules name.Context = Then (Take class.BeginsContext) (Then (Take class.NamesContext) (Or (Then (Take class.SaysClassical) (Then (Take class.OpensItems) (Then (Many (Then (Rule name.Formula) (Take class.EndsItem))) (Take class.ClosesItems)))) (Or (Then (Take class.SaysDefault) (Then (Take class.OpensItems) (Then (Many (Then (Rule name.Item) (Take class.EndsItem))) (Take class.ClosesItems)))) (Then (Take class.SaysProgram) (Then (Take class.OpensItems) (Then (Many (Then (Rule name.ProgramRule) (Take class.EndsItem))) (Take class.ClosesItems)))))))
 -- formula [ ":" formula { "," formula } "/" formula ]
@@ -29,6 +29,8 @@ rules name.Body = Then (Take class.BeginsBody) (Maybe (Then (Rule name.Literal) 
 rules name.Literal = Then (Maybe (Take class.DeniesLiteral)) (Take class.IsBodyAtom)
 -- "bridge" name tail
 rules name.Bridge = Then (Take class.BeginsBridge) (Then (Take class.NamesBridge) (Rule name.BridgeTail))
+-- "bridge" name [ "keep" ] [ "closed" ] [ "weight" number ] tail
+rules name.MarkedBridge = Then (Take class.BeginsBridge) (Then (Take class.NamesBridge) (Then (Maybe (Take class.Keeps)) (Then (Maybe (Take class.Closes)) (Then (Maybe (Then (Take class.BeginsWeight) (Or (Take class.Weighs) (Take class.WeighsTwo)))) (Rule name.BridgeTail)))))
 -- ":" place [ "if" read { "," read } ] "."
 rules name.BridgeTail = Then (Take class.EndsBridgeName) (Then (Take class.NamesTarget) (Then (Rule name.Place) (Then (Maybe (Then (Take class.BeginsReads) (Then (Rule name.Read) (Many (Then (Take class.SeparatesReads) (Rule name.Read)))))) (Take class.EndsBridge))))
 -- [ "not" ] place
@@ -85,6 +87,14 @@ wanted class.ClosesParenthesis = terminal.Sign sign.CloseParenthesis
 wanted class.IsTrue = terminal.Keyword word.True
 wanted class.IsFalse = terminal.Keyword word.False
 wanted class.IsAtom = terminal.Name
+wanted class.BeginsVersion = terminal.Keyword word.Version
+wanted class.NamesVersion = terminal.Two
+wanted class.EndsVersion = terminal.Sign sign.Period
+wanted class.Keeps = terminal.Keyword word.Keep
+wanted class.Closes = terminal.Keyword word.Closed
+wanted class.BeginsWeight = terminal.Keyword word.Weight
+wanted class.Weighs = terminal.Number
+wanted class.WeighsTwo = terminal.Two
 
 -- the terminals as a set of their numbers
 abbrev pub set_of : List Terminal → ℕ
@@ -99,6 +109,7 @@ after name.ProgramRule = set_of ((terminal.Sign sign.Period) ∷ [])
 after name.Body = set_of ((terminal.Sign sign.Period) ∷ [])
 after name.Literal = set_of ((terminal.Sign sign.Period) ∷ (terminal.Sign sign.Comma) ∷ [])
 after name.Bridge = set_of ((terminal.Keyword word.Bridge) ∷ [])
+after name.MarkedBridge = set_of ((terminal.Keyword word.Bridge) ∷ [])
 after name.BridgeTail = set_of ((terminal.Keyword word.Bridge) ∷ [])
 after name.Read = set_of ((terminal.Sign sign.Period) ∷ (terminal.Sign sign.Comma) ∷ [])
 after name.Place = set_of ((terminal.Keyword word.If) ∷ (terminal.Sign sign.Period) ∷ (terminal.Sign sign.Comma) ∷ [])
@@ -115,17 +126,18 @@ grammar = record { rules = rules; wants = λ c. number (wanted c); after = after
 -- the places of the productions in the list of parts
 abbrev pub root : Production → ℕ
 root name.Text = 0
-root name.Context = 5
-root name.Item = 41
-root name.ProgramRule = 56
-root name.Body = 67
-root name.Literal = 76
-root name.Bridge = 80
-root name.BridgeTail = 85
-root name.Read = 102
-root name.Place = 110
-root name.Formula = 113
-root name.Implication = 121
-root name.Disjunction = 129
-root name.Conjunction = 137
-root name.Primary = 145
+root name.Context = 17
+root name.Item = 53
+root name.ProgramRule = 68
+root name.Body = 79
+root name.Literal = 88
+root name.Bridge = 92
+root name.MarkedBridge = 97
+root name.BridgeTail = 115
+root name.Read = 132
+root name.Place = 140
+root name.Formula = 143
+root name.Implication = 151
+root name.Disjunction = 159
+root name.Conjunction = 167
+root name.Primary = 175

@@ -15,6 +15,9 @@ terminal_of (kinds.Keyword k) = terminal.Keyword k
 terminal_of kinds.Name = terminal.Name
 terminal_of kinds.LongName = terminal.Name
 terminal_of (kinds.Sign s) = terminal.Sign s
+terminal_of kinds.Two = terminal.Two
+terminal_of kinds.Number = terminal.Number
+terminal_of kinds.ZeroNumber = terminal.ZeroNumber
 terminal_of kinds.Stray = terminal.Stray
 
 -- ---- the terminals, each with a number
@@ -55,4 +58,7 @@ abbrev pub number : Terminal → ℕ
 number (terminal.Keyword k) = keyword_number k
 number (terminal.Sign s) = sign_number s
 number terminal.Name = 29
-number terminal.Stray = 30
+number terminal.Two = 30
+number terminal.Number = 31
+number terminal.ZeroNumber = 32
+number terminal.Stray = 33

@@ -83,6 +83,22 @@ pub enum Class {
     IsFalse,
     /// An atom of a formula.
     IsAtom,
+    /// The word `version`.
+    BeginsVersion,
+    /// The number of the version.
+    NamesVersion,
+    /// The period after the number of the version.
+    EndsVersion,
+    /// The word `keep`.
+    Keeps,
+    /// The word `closed`.
+    Closes,
+    /// The word `weight`.
+    BeginsWeight,
+    /// The number of a weight, if it is not 2.
+    Weighs,
+    /// The number of a weight, if it is 2.
+    WeighsTwo,
 }
 
 impl Class {
@@ -128,6 +144,14 @@ impl Class {
             Class::IsTrue => Terminal::Keyword(Keyword::True),
             Class::IsFalse => Terminal::Keyword(Keyword::False),
             Class::IsAtom => Terminal::Name,
+            Class::BeginsVersion => Terminal::Keyword(Keyword::Version),
+            Class::NamesVersion => Terminal::Two,
+            Class::EndsVersion => Terminal::Sign(Sign::Period),
+            Class::Keeps => Terminal::Keyword(Keyword::Keep),
+            Class::Closes => Terminal::Keyword(Keyword::Closed),
+            Class::BeginsWeight => Terminal::Keyword(Keyword::Weight),
+            Class::Weighs => Terminal::Number,
+            Class::WeighsTwo => Terminal::Two,
         }
     }
 }

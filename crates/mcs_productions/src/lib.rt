@@ -1,5 +1,5 @@
-//! The grammar of system texts as a table of productions: over which terminals it is, what each token is there for, and
-//! what is whole after it.
+//! The grammar of system texts as a table of productions: over which terminals it is, what each
+//! token is there for, and what is whole after it.
 #![tactic(auto)]
 
 mod class;

@@ -3,9 +3,10 @@
 /// A production of the grammar.
 #[derive(Clone, Copy, Debug, PartialEq, Eq, Drop)]
 pub enum Production {
-    /// `{ context } { bridge }`
+    /// `"version" "2" "." { context } { marked bridge } | { context } { bridge }`
     Text,
-    /// `"context" name "classical" "{" { formula "." } "}", and likewise with "default" and items and with "program" and rules`
+    /// `"context" name "classical" "{" { formula "." } "}"`, and likewise with `"default"` and
+    /// items and with `"program"` and rules
     Context,
     /// `formula [ ":" formula { "," formula } "/" formula ]`
     Item,
@@ -17,6 +18,8 @@ pub enum Production {
     Literal,
     /// `"bridge" name tail`
     Bridge,
+    /// `"bridge" name [ "keep" ] [ "closed" ] [ "weight" number ] tail`
+    MarkedBridge,
     /// `":" place [ "if" read { "," read } ] "."`
     BridgeTail,
     /// `[ "not" ] place`

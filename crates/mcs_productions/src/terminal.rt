@@ -5,7 +5,8 @@ ghost use Rattle.mcs_productions.specs.Terminals.{terminal_of, keyword_number, s
 
 use mcs_tokens::{Keyword, Sign, TokenKind};
 
-/// A terminal of the grammar: what a token is to it. The length of a name is no matter of the grammar.
+/// A terminal of the grammar: what a token is to it. The length of a name is no matter of the
+/// grammar.
 #[derive(Clone, Copy, Debug, PartialEq, Eq, Drop)]
 pub enum Terminal {
     /// A reserved word.
@@ -13,6 +14,12 @@ pub enum Terminal {
     /// A word that is not reserved, of any length.
     Name,
     Sign(Sign),
+    /// The number `2`.
+    Two,
+    /// Another number, which does not begin with 0.
+    Number,
+    /// A number that begins with 0.
+    ZeroNumber,
     /// A byte with which no token begins.
     Stray,
 }
@@ -26,6 +33,9 @@ impl Terminal {
             TokenKind::Keyword(keyword) => Terminal::Keyword(keyword),
             TokenKind::Name | TokenKind::LongName => Terminal::Name,
             TokenKind::Sign(sign) => Terminal::Sign(sign),
+            TokenKind::Two => Terminal::Two,
+            TokenKind::Number => Terminal::Number,
+            TokenKind::ZeroNumber => Terminal::ZeroNumber,
             TokenKind::Stray => Terminal::Stray,
         }
     }
@@ -39,7 +49,10 @@ impl Terminal {
             Terminal::Keyword(keyword) => keyword_number(keyword),
             Terminal::Sign(sign) => sign_number(sign),
             Terminal::Name => 29,
-            Terminal::Stray => 30,
+            Terminal::Two => 30,
+            Terminal::Number => 31,
+            Terminal::ZeroNumber => 32,
+            Terminal::Stray => 33,
         }
     }
 }

@@ -1,5 +1,6 @@
 //! The fault of a text, and where it stands.
 
+use mcs_base::{Memory, Text};
 use mcs_language::{TextFault, read_system};
 use mcs_system::Limit;
 use std::alloc::Global;
@@ -27,7 +28,7 @@ pub(crate) fn has_fault(
 
 /// Texts, the numbers of their faults, and their offsets: first where something is missing, too
 /// much, or begins no token, then of names.
-static FAULTS: [(&str, u8, usize); 20] = [
+static FAULTS: [(&str, u8, usize); 31] = [
     ("context", 1, 7),
     ("context context classical {}", 1, 8),
     ("context c logical {}", 1, 10),
@@ -46,6 +47,39 @@ static FAULTS: [(&str, u8, usize); 20] = [
         38,
     ),
     ("context c classical { p ? }", 1, 24),
+    // Another version, and a text that goes on after it as none may.
+    ("version 3.", 1, 8),
+    ("version 02.", 1, 8),
+    ("version 2 context c program {}", 1, 10),
+    ("version 2. version 2.", 1, 11),
+    // Marks without the version, in another order, twice, and without their number.
+    ("context c program {} bridge r keep: c:a.", 1, 30),
+    ("context c program {} bridge r weight 2: c:a.", 1, 30),
+    (
+        "version 2. context c program {} bridge r closed keep: c:a.",
+        1,
+        48,
+    ),
+    (
+        "version 2. context c program {} bridge r keep keep: c:a.",
+        1,
+        46,
+    ),
+    (
+        "version 2. context c program {} bridge r weight: c:a.",
+        1,
+        47,
+    ),
+    (
+        "version 2. context c1 program {} bridge r1 weight 0: c1:a.",
+        1,
+        50,
+    ),
+    (
+        "version 2. context c1 program {} bridge r1 weight 007: c1:a.",
+        1,
+        50,
+    ),
     // A context that is not there, before other faults of the token.
     ("bridge r: c:p.", 2, 10),
     ("context c classical {} bridge r: c:p if not d:q.", 2, 44),
@@ -68,11 +102,14 @@ fn faults_stand_at_their_tokens(rt: HostRuntime) {
     }
 }
 
-/// A comment alone, a rule with a context's name, and what a program reads of a classical context.
-static FAULTLESS: [&str; 3] = [
+/// A comment alone, a rule with a context's name, what a program reads of a classical context, and
+/// texts of version 2.
+static FAULTLESS: [&str; 5] = [
     "# context c",
     "context c classical {} bridge c: c:p.",
     "context c program {} context d classical {} bridge r: d:(a | b) if c:a, not d:~a.",
+    "version 2.",
+    "# A comment first.\nversion 2 . context c program {} bridge r keep closed weight 1000000 : c:a.",
 ];
 
 #[test]
@@ -80,6 +117,34 @@ fn texts_without_faults_are_read(rt: HostRuntime) {
     for text in &FAULTLESS {
         assert!(rt; fault_of(rt.alloc(), text.as_bytes()) == None);
     }
+}
+
+/// Whether this weight of the rule exceeds the limit, at its number.
+fn is_heavy(alloc: Global, digits: &str) -> Result<bool, Memory> {
+    let mut text = Text::new(alloc);
+    text.push(b"version 2. context c1 program {} bridge r1 weight ")?;
+    text.push(digits.as_bytes())?;
+    text.push(b": c1:a.")?;
+    let is_heavy = has_fault(alloc, text.bytes(), 5, 50, Some(Limit::Weight));
+    drop(text);
+    Ok(is_heavy)
+}
+
+/// Numbers above the limit of weights: the least one, those that are small but for a power of 2,
+/// and a long one.
+static HEAVY: [&str; 4] = [
+    "1000001",
+    "4294967297",
+    "18446744073709551617",
+    "10000000000000000000000000000000000000000000000000000000000000000000000",
+];
+
+#[test]
+fn weights_keep_their_limit(rt: HostRuntime) {
+    for digits in &HEAVY {
+        assert!(rt; is_heavy(rt.alloc(), digits) == Ok(true));
+    }
+    assert!(rt; is_heavy(rt.alloc(), "1000000") == Ok(false));
 }
 
 /// A text of 190 bytes, with each construct.

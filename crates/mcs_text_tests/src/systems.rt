@@ -45,6 +45,8 @@ pub(crate) enum Claim {
     HasOneRule,
     /// This is its canonical text.
     IsWritten(&'static str),
+    /// Its rules have these marks.
+    IsMarked(&'static [(bool, bool, u32)]),
     /// It is that of the text at this place, and of no other.
     IsOnly(usize),
 }
@@ -62,6 +64,7 @@ impl Claim {
             Claim::IsCopied(text) => is_copied(alloc, system, text) == Ok(true),
             Claim::HasOneRule => has_one_rule(system),
             Claim::IsWritten(want) => is_written(alloc, system, want.as_bytes()) == Ok(true),
+            Claim::IsMarked(marks) => is_marked(system.bridges(), marks),
             Claim::IsOnly(place) => is_only(alloc, system, *place),
         }
     }
@@ -93,7 +96,7 @@ struct Canonical {
     want: &'static str,
 }
 
-static CANONICAL: [Canonical; 6] = [
+static CANONICAL: [Canonical; 8] = [
     Canonical { text: "", want: "" },
     Canonical {
         text: "context c1 classical{a&b->c.}",
@@ -114,6 +117,15 @@ static CANONICAL: [Canonical; 6] = [
     Canonical {
         text: "context c classical{}bridge r:c:p if not c:(a|b),c:~q.",
         want: "context c classical {\n}\nbridge r: c:p if c:~q, not c:(a | b).\n",
+    },
+    // A weight of 1 is not written, nor is the version if nothing needs it.
+    Canonical {
+        text: "version 2.context c program{}bridge r weight 1:c:a.",
+        want: "context c program {\n}\nbridge r: c:a.\n",
+    },
+    Canonical {
+        text: "version 2. context c program{} bridge r weight 1: c:a. bridge s keep weight 30: c:b if not c:a. bridge t closed:c:a. bridge u keep closed:c:a.",
+        want: "version 2.\ncontext c program {\n}\nbridge r: c:a.\nbridge s keep weight 30: c:b if not c:a.\nbridge t closed: c:a.\nbridge u keep closed: c:a.\n",
     },
 ];
 
@@ -143,6 +155,35 @@ fn has_one_rule(system: &System) -> bool {
             [bridge] => reads_one_of_each(bridge),
             _ => false,
         }
+}
+
+/// Whether the rules are kept, are closed and weigh as this says.
+fn is_marked(rules: &[Bridge], marks: &[(bool, bool, u32)]) -> bool {
+    let mut are_so = rules.len() == marks.len();
+    for (rule, mark) in rules.iter().zip(marks) {
+        are_so &= (rule.keep, rule.closed, rule.weight) == *mark;
+    }
+    are_so
+}
+
+/// A text with rules of all kinds of marks, and what they say.
+const MARKED: &[u8] =
+    b"version 2. context c program {} bridge k keep: c:a. bridge l closed: c:a. bridge m weight 1000000: c:a.
+bridge n keep closed weight 2: c:a. bridge o: c:a. bridge p keep weight 10: c:a. bridge q closed weight 1: c:a.";
+
+static MARKS: [(bool, bool, u32); 7] = [
+    (true, false, 1),
+    (false, true, 1),
+    (false, false, 1_000_000),
+    (true, true, 2),
+    (false, false, 1),
+    (true, false, 10),
+    (false, true, 1),
+];
+
+#[test]
+fn marks_of_rules_are_read(rt: HostRuntime) {
+    assert!(rt; holds(rt.alloc(), MARKED, &Claim::IsMarked(&MARKS)));
 }
 
 #[test]

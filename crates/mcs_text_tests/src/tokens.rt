@@ -38,10 +38,13 @@ fn is_told(byte: u8) -> bool {
     let between = matches!(byte, b' ' | b'\t' | b'\n' | b'\r' | b'#');
     let letter = byte.is_ascii_alphabetic() || byte == b'_';
     let sign = b"{}.,:/|&~()".contains(&byte);
+    let digit = byte.is_ascii_digit();
     let kind = kind_of(&text);
     next_token(&text, 0) == (if between { 1 } else { 0 }, 1)
         && (kind == TokenKind::Name) == letter
-        && (kind == TokenKind::Stray) == (!letter && !sign)
+        && (kind == TokenKind::ZeroNumber) == (byte == b'0')
+        && (kind == TokenKind::Two) == (byte == b'2')
+        && (kind == TokenKind::Stray) == (!letter && !sign && !digit)
 }
 
 #[test]
@@ -51,9 +54,9 @@ fn one_byte(rt: HostRuntime) {
     }
 }
 
-/// Texts, and the offsets from and up to which their tokens stand: first of gaps, then of words and
-/// signs.
-static SPANS: [(&str, &str); 13] = [
+/// Texts, and the offsets from and up to which their tokens stand: first of gaps, then of words,
+/// numbers and signs.
+static SPANS: [(&str, &str); 17] = [
     ("", ""),
     (" \t\r\n", ""),
     ("a#b", "0-1 "),
@@ -62,6 +65,10 @@ static SPANS: [(&str, &str); 13] = [
     ("a\r\nb\r", "0-1 3-4 "),
     ("a##\n#\n_", "0-1 6-7 "),
     ("_a1 1a", "0-3 4-5 5-6 "),
+    ("007a7", "0-3 3-5 "),
+    ("12 3\n45", "0-2 3-4 5-7 "),
+    ("1-2", "0-1 1-2 2-3 "),
+    ("2.5.", "0-1 1-2 2-3 3-4 "),
     ("<->", "0-3 "),
     ("<-", "0-1 1-2 "),
     ("<<->->", "0-1 1-4 4-6 "),
@@ -70,7 +77,7 @@ static SPANS: [(&str, &str); 13] = [
 ];
 
 #[test]
-fn gaps_words_and_signs(rt: HostRuntime) {
+fn gaps_words_numbers_and_signs(rt: HostRuntime) {
     for (text, offsets) in &SPANS {
         assert!(rt; has_tokens(rt.alloc(), text, offsets) == Ok(true));
     }
@@ -121,7 +128,7 @@ fn pairs_of_signs(rt: HostRuntime) {
 /// As long as no name may be.
 const LONG_WORD: &str = "xxxxxxxxxxxxxxxxxxxxxxxxxxxxxxxxxxxxxxxxxxxxxxxxxxxxxxxxxxxxxxxxx";
 
-static KINDS: [(&str, TokenKind); 5] = [
+static KINDS: [(&str, TokenKind); 11] = [
     (LONG_WORD, TokenKind::LongName),
     (
         "xxxxxxxxxxxxxxxxxxxxxxxxxxxxxxxxxxxxxxxxxxxxxxxxxxxxxxxxxxxxxxxx",
@@ -130,10 +137,16 @@ static KINDS: [(&str, TokenKind); 5] = [
     ("know", TokenKind::Keyword(Keyword::Know)),
     ("knows", TokenKind::Name),
     (":-", TokenKind::Sign(Sign::If)),
+    ("2", TokenKind::Two),
+    ("02", TokenKind::ZeroNumber),
+    ("000", TokenKind::ZeroNumber),
+    ("20", TokenKind::Number),
+    ("22", TokenKind::Number),
+    ("123456789012345678901234567890", TokenKind::Number),
 ];
 
 #[test]
-fn long_words_and_reserved_words(rt: HostRuntime) {
+fn kinds_of_words_and_numbers(rt: HostRuntime) {
     assert!(rt; next_token(LONG_WORD.as_bytes(), 0) == (0, 65));
     for (text, kind) in &KINDS {
         assert!(rt; kind_of(text.as_bytes()) == *kind);

@@ -1,53 +1,54 @@
--- The table of signs is whole, and longer signs come first.
-use Rattle.std.proofs.Common.{◌≡◌, ℕ, ◌+◌, ◌<◌, List, length, get_or, refl, sym, ap, ◌∙◌, subst, inl, inr, arith, lit<}
-use Rattle.std.proofs.lemmas.Bool.{cases_lt}
-use Rattle.std.proofs.lemmas.List.{get_or_default}
+-- Which sign a text begins with: three signs have more than one byte, and all others have one.
+use Rattle.std.proofs.Common.{◌≡◌, ℕ, ◌≤◌, MatchOption, None, Some, Option, List, [], ◌∷◌, ◌++◌, length, refl, ap, arith, codes}
+use Rattle.std.specs.Prelude.{slice_index}
 use Rattle.mcs_tokens.specs.Spelling.{sign_bytes}
 use Rattle.mcs_tokens.specs.Tokens.{BeginsWith}
 use Rattle.mcs_tokens.specs.declared.sign.Sign.{Sign}
 use Rattle.mcs_tokens.specs.declared.sign.Sign.TheVariants as signs
-use Rattle.mcs_tokens.specs.declared.sign.TheConstants.{SIGNS}
 
--- where the sign stands in the table
-abbrev pub sign_place : Sign → ℕ
-sign_place signs.DoubleArrow = 0
-sign_place signs.If = 1
-sign_place signs.Arrow = 2
-sign_place signs.OpenBrace = 3
-sign_place signs.CloseBrace = 4
-sign_place signs.Period = 5
-sign_place signs.Comma = 6
-sign_place signs.Colon = 7
-sign_place signs.Slash = 8
-sign_place signs.Bar = 9
-sign_place signs.Ampersand = 10
-sign_place signs.Tilde = 11
-sign_place signs.OpenParenthesis = 12
-sign_place signs.CloseParenthesis = 13
+-- the longest sign with which the text begins, if there is one
+abbrev pub IsFirstSign : List ℕ → Option Sign → Type 0
+IsFirstSign text found = MatchOption found ((s : Sign) → ¬ BeginsWith text (sign_bytes s))
+    (λ sign. BeginsWith text (sign_bytes sign) × ((s : Sign) → BeginsWith text (sign_bytes s) → length (sign_bytes s) ≤ length (sign_bytes sign)))
 
-pub sign_listed : (s : Sign) → (sign_place s < length SIGNS) × (get_or SIGNS (sign_place s) s ≡ s)
-sign_listed signs.DoubleArrow = (lit< tt, refl)
-sign_listed signs.If = (lit< tt, refl)
-sign_listed signs.Arrow = (lit< tt, refl)
-sign_listed signs.OpenBrace = (lit< tt, refl)
-sign_listed signs.CloseBrace = (lit< tt, refl)
-sign_listed signs.Period = (lit< tt, refl)
-sign_listed signs.Comma = (lit< tt, refl)
-sign_listed signs.Colon = (lit< tt, refl)
-sign_listed signs.Slash = (lit< tt, refl)
-sign_listed signs.Bar = (lit< tt, refl)
-sign_listed signs.Ampersand = (lit< tt, refl)
-sign_listed signs.Tilde = (lit< tt, refl)
-sign_listed signs.OpenParenthesis = (lit< tt, refl)
-sign_listed signs.CloseParenthesis = (lit< tt, refl)
+-- it begins with none of more than one byte
+abbrev pub BeginsShort : List ℕ → Type 0
+BeginsShort text = (¬ BeginsWith text (codes "<->")) × (¬ BeginsWith text (codes ":-")) × (¬ BeginsWith text (codes "->"))
 
--- the text begins with no sign up to place k either
-pub not_here : (text spelled : List ℕ) (signs : List Sign) (k : ℕ) (e : Sign) → spelled ≡ sign_bytes (get_or signs k e) → k < length signs → ¬ BeginsWith text spelled
-    → ((i : ℕ) (d : Sign) → i < k → ¬ BeginsWith text (sign_bytes (get_or signs i d))) → (i : ℕ) (d : Sign) → i < k + 1 → ¬ BeginsWith text (sign_bytes (get_or signs i d))
-not_here text spelled signs k e is here not before i d h b = elim (cases_lt i k) [
-  | inl less ↦ before i d less b
-  | inr past ↦
-      let at : i ≡ k = omega arith in
-      let same : sign_bytes (get_or signs i d) ≡ spelled = ap (λ j. sign_bytes (get_or signs j d)) at ∙ ap sign_bytes (get_or_default signs k d e here) ∙ sym is in
-      not (subst (BeginsWith text) same b)
-]
+one_byte : (s : Sign) (text : List ℕ) → BeginsShort text → BeginsWith text (sign_bytes s) → length (sign_bytes s) ≡ 1
+one_byte signs.DoubleArrow text short b = absurd (short.0 b)
+one_byte signs.If text short b = absurd (short.1 b)
+one_byte signs.Arrow text short b = absurd (short.2 b)
+one_byte signs.OpenBrace text short b = refl
+one_byte signs.CloseBrace text short b = refl
+one_byte signs.Period text short b = refl
+one_byte signs.Comma text short b = refl
+one_byte signs.Colon text short b = refl
+one_byte signs.Slash text short b = refl
+one_byte signs.Bar text short b = refl
+one_byte signs.Ampersand text short b = refl
+one_byte signs.Tilde text short b = refl
+one_byte signs.OpenParenthesis text short b = refl
+one_byte signs.CloseParenthesis text short b = refl
+
+front_byte : (p : List ℕ) (byte : ℕ) (rest : List ℕ) → length p ≡ 1 → BeginsWith (byte ∷ rest) p → byte ∷ [] ≡ p
+front_byte [] byte rest one b = absurd (omega (arith, one))
+front_byte (x ∷ []) byte rest one b = ap (λ t. head_or t) b.1
+  where
+    head_or : List ℕ → List ℕ
+    head_or [] = []
+    head_or (y ∷ ys) = y ∷ []
+front_byte (x ∷ (y ∷ ys)) byte rest one b = absurd (omega (arith, one))
+
+first_by_byte : (byte : ℕ) (rest : List ℕ) (found : Option Sign) → BeginsShort (byte ∷ rest)
+    → MatchOption found ((s : Sign) → ¬ (byte ∷ [] ≡ sign_bytes s)) (λ s. byte ∷ [] ≡ sign_bytes s) → IsFirstSign (byte ∷ rest) found
+first_by_byte byte rest None short none = λ s b. none s (front_byte (sign_bytes s) byte rest (one_byte s (byte ∷ rest) short b) b)
+first_by_byte byte rest (Some sign) short there = (
+  (rest, ap (λ t. t ++ rest) there),
+  λ s b. omega (arith, one_byte s (byte ∷ rest) short b, ap length there),
+)
+
+pub first_of_some : (text : List ℕ) (found : Option Sign) → 1 ≤ length text → BeginsShort text
+    → MatchOption found ((s : Sign) → ¬ (slice_index text 0 ∷ [] ≡ sign_bytes s)) (λ s. slice_index text 0 ∷ [] ≡ sign_bytes s) → IsFirstSign text found
+first_of_some [] found some short told = absurd (omega (arith, some))
+first_of_some (byte ∷ rest) found some short told = first_by_byte byte rest found short told

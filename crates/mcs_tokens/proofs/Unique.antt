@@ -5,6 +5,7 @@ use Rattle.std.proofs.lemmas.Bool.Decides.{nat_tests}
 use Rattle.std.proofs.lemmas.List.{get_or-drop, get_or-take}
 use Rattle.std.proofs.lemmas.List.Folds.{drop_split}
 use Rattle.std.specs.Prelude.{slice_index, slice_range}
+use Rattle.std.specs.Char.{is_ascii_digit}
 use Rattle.std.specs.List.{AllByRecursion}
 use Rattle.mcs_base.specs.Listings.{IsAscending}
 use Rattle.mcs_base.specs.Words.{is_letter, is_word}
@@ -12,31 +13,35 @@ use Rattle.mcs_base.proofs.Lists.{same_first, later_split}
 use Rattle.mcs_base.proofs.Each.{all_weaker}
 use Rattle.mcs_base.proofs.WordLemmas.{word_begins, word_front}
 use Rattle.mcs_tokens.specs.Spelling.{sign_bytes}
-use Rattle.mcs_tokens.specs.Tokens.{is_separator, hash, IsGapByte, IsWholeWord, IsLongestSign, IsStray, IsToken, IsTokenAt, IsNextToken, AreTokens}
+use Rattle.mcs_tokens.specs.Tokens.{is_separator, hash, is_number, IsGapByte, IsWholeWord, IsLongestSign, IsWholeNumber, IsStray, IsToken, IsTokenAt, IsNextToken, AreTokens}
 use Rattle.mcs_tokens.specs.Laws.{LiesIn}
+use Rattle.mcs_tokens.proofs.Numbers.{number_begins, digit_there, letter_no_digit}
 use Rattle.mcs_tokens.specs.declared.sign.Sign.{Sign}
 use Rattle.mcs_tokens.specs.declared.sign.Sign.TheVariants as signs
 use Rattle.mcs_tokens.specs.declared.scan.Span.{Span}
 
--- a sign begins with no letter, no separator and no `#`
-sign_begins : (s : Sign) → (0 < length (sign_bytes s)) × (is_letter (slice_index (sign_bytes s) 0) ≡ false) × (is_separator (slice_index (sign_bytes s) 0) ≡ false) × (eqb (slice_index (sign_bytes s) 0) hash ≡ false)
-sign_begins signs.OpenBrace = (omega arith, refl, refl, refl)
-sign_begins signs.CloseBrace = (omega arith, refl, refl, refl)
-sign_begins signs.Period = (omega arith, refl, refl, refl)
-sign_begins signs.Comma = (omega arith, refl, refl, refl)
-sign_begins signs.Colon = (omega arith, refl, refl, refl)
-sign_begins signs.If = (omega arith, refl, refl, refl)
-sign_begins signs.Slash = (omega arith, refl, refl, refl)
-sign_begins signs.Bar = (omega arith, refl, refl, refl)
-sign_begins signs.Ampersand = (omega arith, refl, refl, refl)
-sign_begins signs.Tilde = (omega arith, refl, refl, refl)
-sign_begins signs.Arrow = (omega arith, refl, refl, refl)
-sign_begins signs.DoubleArrow = (omega arith, refl, refl, refl)
-sign_begins signs.OpenParenthesis = (omega arith, refl, refl, refl)
-sign_begins signs.CloseParenthesis = (omega arith, refl, refl, refl)
+-- a sign begins with no letter, no separator, no `#` and no digit
+sign_begins : (s : Sign) → (0 < length (sign_bytes s)) × (is_letter (slice_index (sign_bytes s) 0) ≡ false) × (is_separator (slice_index (sign_bytes s) 0) ≡ false) × (eqb (slice_index (sign_bytes s) 0) hash ≡ false) × (is_ascii_digit (slice_index (sign_bytes s) 0) ≡ false)
+sign_begins signs.OpenBrace = (omega arith, refl, refl, refl, refl)
+sign_begins signs.CloseBrace = (omega arith, refl, refl, refl, refl)
+sign_begins signs.Period = (omega arith, refl, refl, refl, refl)
+sign_begins signs.Comma = (omega arith, refl, refl, refl, refl)
+sign_begins signs.Colon = (omega arith, refl, refl, refl, refl)
+sign_begins signs.If = (omega arith, refl, refl, refl, refl)
+sign_begins signs.Slash = (omega arith, refl, refl, refl, refl)
+sign_begins signs.Bar = (omega arith, refl, refl, refl, refl)
+sign_begins signs.Ampersand = (omega arith, refl, refl, refl, refl)
+sign_begins signs.Tilde = (omega arith, refl, refl, refl, refl)
+sign_begins signs.Arrow = (omega arith, refl, refl, refl, refl)
+sign_begins signs.DoubleArrow = (omega arith, refl, refl, refl, refl)
+sign_begins signs.OpenParenthesis = (omega arith, refl, refl, refl, refl)
+sign_begins signs.CloseParenthesis = (omega arith, refl, refl, refl, refl)
 
 letter_apart : (b : ℕ) → IsTrue (is_letter b) → (¬ IsTrue (is_separator b)) × (b ≢ hash)
 letter_apart b h = (λ s. grind (arith, nat_tests), λ e. grind (arith, nat_tests))
+
+digit_apart : (b : ℕ) → IsTrue (is_ascii_digit b) → (¬ IsTrue (is_separator b)) × (b ≢ hash)
+digit_apart b h = (λ s. grind (arith, nat_tests), λ e. grind (arith, nat_tests))
 
 -- with what no token begins
 begins : (t r : List ℕ) → IsToken t r → (0 < length t) × (¬ IsTrue (is_separator (slice_index t 0))) × (slice_index t 0 ≢ hash)
@@ -49,7 +54,11 @@ begins t r (inr (inl s)) =
     let first = sign_begins s.sign in
     let here : Q (sign_bytes s.sign) = (first.0, λ e. true≢false (sym e ∙ first.2), λ e. grind (arith, nat_tests)) in
     subst Q (sym s.spelled) here
-begins t r (inr (inr s)) =
+begins t r (inr (inr (inl n))) =
+    let first = number_begins t n.number in
+    let apart = digit_apart (slice_index t 0) first.1 in
+    (first.0, apart.0, apart.1)
+begins t r (inr (inr (inr s))) =
     let Q : List ℕ → Type 0 = λ u. (0 < length u) × (¬ IsTrue (is_separator (slice_index u 0))) × (slice_index u 0 ≢ hash) in
     let here : Q (s.byte ∷ []) = (omega arith, s.no_separator, s.no_comment) in
     subst Q (sym s.one) here
@@ -92,19 +101,56 @@ sign_bound t r t' r' e l s is = subst (λ u. length u ≤ length t) (sym is) (l.
 sign_no_stray : (t r t' r' : List ℕ) → t ++ r ≡ t' ++ r' → (s : Sign) → t ≡ sign_bytes s → ¬ IsStray t' r'
 sign_no_stray t r t' r' e s is h = h.no_sign s (r, sym e ∙ ap (λ u. u ++ r) is)
 
-pub same_length : (t r t' r' : List ℕ) → t ++ r ≡ t' ++ r' → IsToken t r → IsToken t' r' → length t ≡ length t'
-same_length t r t' r' e (inl w) (inl w') = let a = no_longer_word t r t' r' e w w'.word in let b = no_longer_word t' r' t r (sym e) w' w.word in elim (cases_lt (length t) (length t')) [
+no_longer_number : (t r t' r' : List ℕ) → t ++ r ≡ t' ++ r' → IsWholeNumber t r → IsTrue (is_number t') → ¬ (length t < length t')
+no_longer_number t r t' r' e n n' h =
+    let rest = later_split t r t' r' e h in
+    n.whole rest.0 (rest.1 ++ r') rest.2 (digit_there t rest.0 rest.1 (ap is_number (sym rest.3) ∙ n'))
+
+word_no_number : (t r t' r' : List ℕ) → t ++ r ≡ t' ++ r' → IsTrue (is_word t) → ¬ IsTrue (is_number t')
+word_no_number t r t' r' e w n =
+    let first = word_begins t w in
+    let second = number_begins t' n in
+    let same : slice_index t 0 ≡ slice_index t' 0 = same_first t r t' r' 0 first.0 second.0 e in
+    true≢false (sym second.1 ∙ ap is_ascii_digit (sym same) ∙ letter_no_digit (slice_index t 0) first.1)
+
+number_no_sign : (t r t' r' : List ℕ) → t ++ r ≡ t' ++ r' → IsTrue (is_number t) → (s : Sign) → ¬ (t' ≡ sign_bytes s)
+number_no_sign t r t' r' e n s is =
+    let first = number_begins t n in
+    let sign = sign_begins s in
+    let some : 0 < length t' = subst (λ u. 0 < length u) (sym is) sign.0 in
+    let same : slice_index t 0 ≡ slice_index (sign_bytes s) 0 = same_first t r t' r' 0 first.0 some e ∙ ap (λ u. slice_index u 0) is in
+    true≢false (sym first.1 ∙ ap is_ascii_digit same ∙ sign.4)
+
+number_no_stray : (t r t' r' : List ℕ) → t ++ r ≡ t' ++ r' → IsTrue (is_number t) → ¬ IsStray t' r'
+number_no_stray t r t' r' e n s =
+    let first = number_begins t n in
+    let some : 0 < length t' = subst (λ u. 0 < length u) (sym s.one) (omega arith) in
+    let same : slice_index t 0 ≡ s.byte = same_first t r t' r' 0 first.0 some e ∙ ap (λ u. slice_index u 0) s.one in
+    s.no_digit (ap is_ascii_digit (sym same) ∙ first.1)
+
+neither_longer : (t t' : List ℕ) → ¬ (length t < length t') → ¬ (length t' < length t) → length t ≡ length t'
+neither_longer t t' a b = elim (cases_lt (length t) (length t')) [
   | inl less ↦ absurd (a less)
   | inr past ↦ elim (cases_lt (length t') (length t)) [ inl less ↦ absurd (b less) | inr past' ↦ omega arith ]
 ]
+
+pub same_length : (t r t' r' : List ℕ) → t ++ r ≡ t' ++ r' → IsToken t r → IsToken t' r' → length t ≡ length t'
+same_length t r t' r' e (inl w) (inl w') = neither_longer t t' (no_longer_word t r t' r' e w w'.word) (no_longer_word t' r' t r (sym e) w' w.word)
 same_length t r t' r' e (inl w) (inr (inl s)) = absurd (word_no_sign t r t' r' e w.word s.sign s.spelled)
-same_length t r t' r' e (inl w) (inr (inr s)) = absurd (word_no_stray t r t' r' e w.word s)
+same_length t r t' r' e (inl w) (inr (inr (inl n))) = absurd (word_no_number t r t' r' e w.word n.number)
+same_length t r t' r' e (inl w) (inr (inr (inr y))) = absurd (word_no_stray t r t' r' e w.word y)
 same_length t r t' r' e (inr (inl s)) (inl w) = absurd (word_no_sign t' r' t r (sym e) w.word s.sign s.spelled)
 same_length t r t' r' e (inr (inl s)) (inr (inl s')) = let a = sign_bound t r t' r' e s s'.sign s'.spelled in let b = sign_bound t' r' t r (sym e) s' s.sign s.spelled in omega arith
-same_length t r t' r' e (inr (inl s)) (inr (inr y)) = absurd (sign_no_stray t r t' r' e s.sign s.spelled y)
-same_length t r t' r' e (inr (inr s)) (inl w) = absurd (word_no_stray t' r' t r (sym e) w.word s)
-same_length t r t' r' e (inr (inr y)) (inr (inl s)) = absurd (sign_no_stray t' r' t r (sym e) s.sign s.spelled y)
-same_length t r t' r' e (inr (inr s)) (inr (inr s')) = let a = ap length s.one in let b = ap length s'.one in omega (arith, a, b)
+same_length t r t' r' e (inr (inl s)) (inr (inr (inl n))) = absurd (number_no_sign t' r' t r (sym e) n.number s.sign s.spelled)
+same_length t r t' r' e (inr (inl s)) (inr (inr (inr y))) = absurd (sign_no_stray t r t' r' e s.sign s.spelled y)
+same_length t r t' r' e (inr (inr (inl n))) (inl w) = absurd (word_no_number t' r' t r (sym e) w.word n.number)
+same_length t r t' r' e (inr (inr (inl n))) (inr (inl s)) = absurd (number_no_sign t r t' r' e n.number s.sign s.spelled)
+same_length t r t' r' e (inr (inr (inl n))) (inr (inr (inl n'))) = neither_longer t t' (no_longer_number t r t' r' e n n'.number) (no_longer_number t' r' t r (sym e) n' n.number)
+same_length t r t' r' e (inr (inr (inl n))) (inr (inr (inr y))) = absurd (number_no_stray t r t' r' e n.number y)
+same_length t r t' r' e (inr (inr (inr y))) (inl w) = absurd (word_no_stray t' r' t r (sym e) w.word y)
+same_length t r t' r' e (inr (inr (inr y))) (inr (inl s)) = absurd (sign_no_stray t' r' t r (sym e) s.sign s.spelled y)
+same_length t r t' r' e (inr (inr (inr y))) (inr (inr (inl n))) = absurd (number_no_stray t' r' t r (sym e) n.number y)
+same_length t r t' r' e (inr (inr (inr y))) (inr (inr (inr y'))) = let a = ap length y.one in let b = ap length y'.one in omega (arith, a, b)
 
 -- ---- one next token
 begins_inside : (bytes : List ℕ) (at from to : ℕ) → IsNextToken bytes at from to → from ≤ length bytes

@@ -1,5 +1,7 @@
 -- The tokens of a text, and what stands between them.
-use Rattle.std.specs.Prelude.{◌≡◌, ◌≢◌, ℕ, ◌<◌, ◌≤◌, Bool, nat_eq, ◌||◌, IsTrue, List, [], ◌∷◌, ◌++◌, length, slice_index, slice_range, drop, ◌⊎◌}
+use Rattle.std.specs.Prelude.{◌≡◌, ◌≢◌, ℕ, ◌<◌, ◌≤◌, Bool, false, nat_eq, ◌&&◌, ◌||◌, IsTrue, List, [], ◌∷◌, ◌++◌, length, slice_index, slice_range, drop, ◌⊎◌}
+use Rattle.std.specs.Char.{is_ascii_digit}
+use Rattle.std.specs.List.{list_all}
 use Rattle.mcs_base.specs.Words.{is_letter, is_word}
 use Rattle.mcs_tokens.specs.Spelling.{sign_bytes}
 use Rattle.mcs_tokens.specs.declared.sign.Sign.{Sign}
@@ -50,18 +52,29 @@ pub record IsLongestSign (token rest : List ℕ) : Type 0 where
   pub spelled : token ≡ sign_bytes sign
   pub longest : (s : Sign) → BeginsWith (token ++ rest) (sign_bytes s) → length (sign_bytes s) ≤ length token
 
--- one byte, with which no word, no sign, no separator and no comment begins
+-- one or more digits
+abbrev pub is_number : List ℕ → Bool
+is_number [] = false
+is_number (b ∷ bs) = is_ascii_digit b && list_all is_ascii_digit bs
+
+-- a number that no digit follows
+pub record IsWholeNumber (token rest : List ℕ) : Type 0 where
+  pub number : IsTrue (is_number token)
+  pub whole : (b : ℕ) (bs : List ℕ) → rest ≡ b ∷ bs → ¬ IsTrue (is_ascii_digit b)
+
+-- one byte, with which no word, no number, no sign, no separator and no comment begins
 pub record IsStray (token rest : List ℕ) : Type 0 where
   pub byte : ℕ
   pub one : token ≡ byte ∷ []
   pub no_letter : ¬ IsTrue (is_letter byte)
+  pub no_digit : ¬ IsTrue (is_ascii_digit byte)
   pub no_sign : (s : Sign) → ¬ BeginsWith (token ++ rest) (sign_bytes s)
   pub no_separator : ¬ IsTrue (is_separator byte)
   pub no_comment : byte ≢ hash
 
 -- where the token is followed by the rest
 abbrev pub IsToken : List ℕ → List ℕ → Type 0
-IsToken token rest = IsWholeWord token rest ⊎ (IsLongestSign token rest ⊎ IsStray token rest)
+IsToken token rest = IsWholeWord token rest ⊎ (IsLongestSign token rest ⊎ (IsWholeNumber token rest ⊎ IsStray token rest))
 
 -- of the text from `at` on
 pub record IsTokenAt (bytes : List ℕ) (at from to : ℕ) : Type 0 where

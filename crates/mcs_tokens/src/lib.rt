@@ -1,4 +1,4 @@
-//! The tokens of a system text: words, signs, and bytes with which none of these begins.
+//! The tokens of a system text: words, numbers, signs, and bytes with which none of these begins.
 #![tactic(auto)]
 
 mod kind;

@@ -2,6 +2,7 @@
 
 ghost use Rattle.std.specs.Prelude.{◌≡◌, ◌≢◌, ◌≤◌, ◌<◌, length, IfOk, IsTrue, take, drop};
 ghost use Rattle.std.specs.Prelude.{slice_index, slice_range, All};
+ghost use Rattle.std.specs.Char.{is_ascii_digit};
 ghost use Rattle.std.specs.List.{list_all};
 ghost use Rattle.mcs_tokens.specs.Tokens.{IsNextToken, IsGap, IsGapByte, IsToken, AreTokens};
 ghost use Rattle.mcs_tokens.specs.Tokens.{IsSpanOf, is_separator, hash};
@@ -70,6 +71,21 @@ fn word_len(text: &[u8]) -> usize
     text.len()
 }
 
+/// How many digits the text begins with.
+fn number_len(text: &[u8]) -> usize
+    ensures inside { result ≤ length text.now }
+    ensures digits { IsTrue (list_all is_ascii_digit (take result text.now)) }
+    ensures ended { result < length text.now
+        → ¬ IsTrue (is_ascii_digit (slice_index text.now result)) }
+{
+    for (k, byte) in text.iter().enumerate() {
+        if !byte.is_ascii_digit() {
+            return k;
+        }
+    }
+    text.len()
+}
+
 /// The length of the token with which the text begins.
 fn token_len(text: &[u8]) -> usize
     requires some { 0 < length text.now }
@@ -80,6 +96,9 @@ fn token_len(text: &[u8]) -> usize
 {
     if is_letter(text[0]) {
         return word_len(text);
+    }
+    if text[0].is_ascii_digit() {
+        return number_len(text);
     }
     match first_sign(text) {
         Some(sign) => sign.spelling().len(),

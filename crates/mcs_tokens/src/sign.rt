@@ -1,6 +1,6 @@
 //! The signs of a system text.
 
-ghost use Rattle.std.specs.Prelude.{◌≡◌, ◌≤◌, length, MatchOption, IsTrue, ◌↔◌};
+ghost use Rattle.std.specs.Prelude.{◌≡◌, ◌≤◌, length, MatchOption, IsTrue, ◌↔◌, [], ◌∷◌};
 ghost use Rattle.mcs_tokens.specs.Spelling.{sign_bytes};
 ghost use Rattle.mcs_tokens.specs.Tokens.{BeginsWith};
 
@@ -25,24 +25,6 @@ pub enum Sign {
     OpenParenthesis,
     CloseParenthesis,
 }
-
-/// All signs, longer ones before shorter ones.
-const SIGNS: [Sign; 14] = [
-    Sign::DoubleArrow,
-    Sign::If,
-    Sign::Arrow,
-    Sign::OpenBrace,
-    Sign::CloseBrace,
-    Sign::Period,
-    Sign::Comma,
-    Sign::Colon,
-    Sign::Slash,
-    Sign::Bar,
-    Sign::Ampersand,
-    Sign::Tilde,
-    Sign::OpenParenthesis,
-    Sign::CloseParenthesis,
-];
 
 impl Sign {
     /// The bytes of the sign.
@@ -72,12 +54,34 @@ impl Sign {
         ensures { MatchOption result ((s : Sign) → ¬ (bytes.now ≡ sign_bytes s))
             (λ s. bytes.now ≡ sign_bytes s) }
     {
-        for sign in SIGNS {
-            if bytes == sign.spelling() {
-                return Some(sign);
-            }
+        match bytes {
+            [byte] => sign_of_byte(*byte),
+            b":-" => Some(Sign::If),
+            b"->" => Some(Sign::Arrow),
+            b"<->" => Some(Sign::DoubleArrow),
+            _ => None,
         }
-        None
+    }
+}
+
+/// The sign of this one byte.
+fn sign_of_byte(byte: u8) -> Option<Sign>
+    ensures { MatchOption result ((s : Sign) → ¬ (byte ∷ [] ≡ sign_bytes s))
+        (λ s. byte ∷ [] ≡ sign_bytes s) }
+{
+    match byte {
+        b'{' => Some(Sign::OpenBrace),
+        b'}' => Some(Sign::CloseBrace),
+        b'.' => Some(Sign::Period),
+        b',' => Some(Sign::Comma),
+        b':' => Some(Sign::Colon),
+        b'/' => Some(Sign::Slash),
+        b'|' => Some(Sign::Bar),
+        b'&' => Some(Sign::Ampersand),
+        b'~' => Some(Sign::Tilde),
+        b'(' => Some(Sign::OpenParenthesis),
+        b')' => Some(Sign::CloseParenthesis),
+        _ => None,
     }
 }
 
@@ -95,10 +99,17 @@ pub(crate) fn first_sign(text: &[u8]) -> Option<Sign>
         × ((s : Sign) → BeginsWith text.now (sign_bytes s)
         → length (sign_bytes s) ≤ length (sign_bytes sign))) }
 {
-    for sign in SIGNS {
-        if begins_with(text, sign.spelling()) {
-            return Some(sign);
-        }
+    if begins_with(text, b"<->") {
+        return Some(Sign::DoubleArrow);
     }
-    None
+    if begins_with(text, b":-") {
+        return Some(Sign::If);
+    }
+    if begins_with(text, b"->") {
+        return Some(Sign::Arrow);
+    }
+    match text {
+        [byte, ..] => sign_of_byte(*byte),
+        [] => None,
+    }
 }

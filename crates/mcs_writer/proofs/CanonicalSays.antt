@@ -1,12 +1,13 @@
 -- What is written of a valid system says that system.
-use Rattle.std.proofs.Common.{◌≡◌, ℕ, zero, suc, Bool, true, false, nat_eq, nat_lt, List, [], ◌∷◌, map, length, Some, None, slice_get, option_map, refl, sym, ap, ap₂, ◌∙◌, true≢false, arith}
+use Rattle.std.proofs.Common.{◌≡◌, ℕ, ◌≤◌, zero, suc, Bool, true, false, nat_eq, nat_lt, cond, List, [], ◌∷◌, map, length, Some, None, slice_get, option_map, refl, sym, ap, ap₂, ◌∙◌, true≢false, arith}
 use Rattle.std.proofs.lemmas.Bool.Decides.{nat_tests}
 use Rattle.std.proofs.lemmas.Option.{slice_get-map, slice_get_within}
 use Rattle.std.proofs.lemmas.Slice.Eq.{bytes_eq-Decides}
 use Rattle.std.specs.List.{AllByRecursion, list_any, position, position_or_len}
-use Rattle.std.proofs.lemmas.Bool.{or_parts}
+use Rattle.std.proofs.lemmas.Bool.{or_parts, eqb-true}
+use Rattle.std.specs.Fmt.{decimal}
 use Rattle.mcs_base.proofs.Among.{map_back, none_get}
-use Rattle.mcs_base.proofs.Each.{all_among, all_both, all_from_no_any}
+use Rattle.mcs_base.proofs.Each.{all_among, all_from_no_any}
 use Rattle.mcs_base.proofs.Lists.{slice_get_below}
 use Rattle.mcs_system.specs.Faults.{has_twins, is_unjustified, has_unjustified, has_misfit, IsValid}
 use Rattle.mcs_system.specs.Logic.{is_in, same_name}
@@ -15,10 +16,10 @@ use Rattle.mcs_system.specs.Plain as plain
 use Rattle.mcs_system.specs.Texts.{name_of_context}
 use Rattle.mcs_system.proofs.ValidLemmas.{tests_pass}
 use Rattle.mcs_grammar.specs.Entries.{formula_in}
-use Rattle.mcs_grammar.specs.Saying.{item_in, positive_atoms, negative_atoms, rule_in, kb_in, context_in, SaysPlace, Each, positive_places, negative_places, SaysBridge, names_of, SaysSystem}
+use Rattle.mcs_grammar.specs.Saying.{item_in, positive_atoms, negative_atoms, rule_in, kb_in, context_in, SaysPlace, Each, positive_places, negative_places, weight_said, SaysBridge, names_of, SaysSystem}
+use Rattle.mcs_tokens.proofs.Numbers.{decimal_is}
 use Rattle.mcs_system.specs.Naming.{IsSystemNamed}
-use Rattle.mcs_system.specs.Unmarked.{IsPlainRule, IsUnmarked}
-use Rattle.mcs_writer.proofs.CanonicalWritten.{primary_written, formula_written, with_justs, item_written, body_written, rule_written, kb_written, context_written, place_written, reads_written, bridge_written, canonical_written}
+use Rattle.mcs_writer.proofs.CanonicalWritten.{primary_written, formula_written, with_justs, item_written, body_written, rule_written, kb_written, context_written, place_written, reads_written, weight_written, bridge_written, canonical_written}
 use Rattle.mcs_writer.proofs.CanonicalGrammar.{IsPlaced, IsPlacedBridge, all-placed}
 
 -- ---- lists
@@ -143,24 +144,32 @@ negative-places m [] [] = refl
 negative-places m [] (n ∷ ns) = ap (λ l. place_written m n ∷ l) (negative-places m [] ns)
 negative-places m (p ∷ ps) neg = negative-places m ps neg
 
-bridge-said : (m : System) → IsValid m → (b : Bridge) → IsPlacedBridge m b × IsPlainRule b → SaysBridge (names_of (map context_written m.contexts)) (bridge_written m b) b
-bridge-said m valid b (h, unmarked) =
+weight-said : (w : ℕ) → w ≤ 1000000 → w ≡ weight_said (weight_written w)
+weight-said w few = at (nat_eq w 1) refl
+  where
+    at : (v : Bool) → nat_eq w 1 ≡ v → w ≡ weight_said (cond v None (Some (decimal w)))
+    at true is = eqb-true w 1 is
+    at false is = sym ((decimal_is w (omega (arith, few))).value)
+
+bridge-said : (m : System) → IsValid m → (b : Bridge) → IsPlacedBridge m b → SaysBridge (names_of (map context_written m.contexts)) (bridge_written m b) b
+bridge-said m valid b h =
     let names = names_of (map context_written m.contexts) in
     record {
       named = refl;
       head = place-said m valid (record { context = b.target; belief = b.head }) h.head;
       pos = rw (positive-places m b.pos b.neg) (each-map (SaysPlace names) (place_written m) (IsPlaced m) (place-said m valid) b.pos h.pos);
       neg = rw (negative-places m b.pos b.neg) (each-map (SaysPlace names) (place_written m) (IsPlaced m) (place-said m valid) b.neg h.neg);
-      unmarked = unmarked;
+      keep = refl;
+      closed = refl;
+      weight = weight-said b.weight h.weight.1;
     }
 
 -- ---- the whole text
-pub canonical-says : (m : System) → IsSystemNamed m → IsValid m → IsUnmarked m → SaysSystem (canonical_written m) m
-canonical-says m named valid unmarked =
+pub canonical-says : (m : System) → IsSystemNamed m → IsValid m → SaysSystem (canonical_written m) m
+canonical-says m named valid =
     let justified = or_parts (list_any (λ (c : Context). has_unjustified c.kb) m.contexts) (list_any (has_misfit m.contexts) m.bridges) (tests_pass m valid).fitting in
     let Fits : Context → Type 0 = λ c. has_unjustified c.kb ≡ false in
     record {
       contexts = sym (map_back context_written context_in m.contexts (λ x h. context-said x (all_among (Fits) m.contexts x (all_from_no_any Fits (λ (c : Context). has_unjustified c.kb) (λ c e. e) m.contexts justified.0) h)));
-      bridges = each-map (SaysBridge (names_of (map context_written m.contexts))) (bridge_written m) (λ (b : Bridge). IsPlacedBridge m b × IsPlainRule b) (bridge-said m valid) m.bridges
-          (all_both (IsPlacedBridge m) IsPlainRule m.bridges (all-placed m named valid) unmarked);
+      bridges = each-map (SaysBridge (names_of (map context_written m.contexts))) (bridge_written m) (IsPlacedBridge m) (bridge-said m valid) m.bridges (all-placed m named valid);
     }

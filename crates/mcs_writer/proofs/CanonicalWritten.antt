@@ -1,10 +1,12 @@
 -- The canonical text of a system, as what is written: parentheses around what has two parts, where a primary has to stand.
-use Rattle.std.proofs.Common.{Bool, true, false, List, [], ◌∷◌, ◌++◌, map, slice_get}
+use Rattle.std.proofs.Common.{ℕ, Bool, true, false, nat_eq, cond, List, [], ◌∷◌, ◌++◌, map, Option, Some, None, slice_get}
+use Rattle.std.specs.Fmt.{decimal}
+use Rattle.std.specs.List.{list_any}
 use Rattle.mcs_system.specs.Plain.{Name, Formula, Truth, Falsity, Atom, Not, And, Or, Implies, Iff, Default, ProgramRule, Item, Kb, Context, Read, Bridge, System}
 use Rattle.mcs_system.specs.Plain as plain
 use Rattle.mcs_system.specs.Texts.{name_of_context}
-use Rattle.mcs_writer.specs.Canonical.{head_place}
-use Rattle.mcs_grammar.specs.Written.{Written, True', False', Named, Denied, Grouped, Both, Either, Leads, Equals, WrittenItem, Fact, Rule, WrittenLiteral, WrittenRule, WrittenKb, Classical, DefaultTheory, Program, WrittenContext, WrittenPlace, WrittenRead, WrittenBridge, WrittenText}
+use Rattle.mcs_writer.specs.Canonical.{head_place, is_marked}
+use Rattle.mcs_grammar.specs.Written.{Written, True', False', Named, Denied, Grouped, Both, Either, Leads, Equals, WrittenItem, Fact, Rule, WrittenLiteral, WrittenRule, WrittenKb, Classical, DefaultTheory, Program, WrittenContext, WrittenPlace, WrittenRead, WrittenMarks, WrittenBridge, WrittenText}
 
 -- ---- formulas
 abbrev pub primary_written : Formula → Written
@@ -69,9 +71,15 @@ read_written m denied r = record { denied = denied; place = place_written m r }
 abbrev pub reads_written : System → List Read → List Read → List WrittenRead
 reads_written m pos neg = map (read_written m false) pos ++ map (read_written m true) neg
 
+abbrev pub weight_written : ℕ → Option (List ℕ)
+weight_written weight = cond (nat_eq weight 1) None (Some (decimal weight))
+
+abbrev pub marks_written : Bridge → WrittenMarks
+marks_written b = record { keep = b.keep; closed = b.closed; weight = weight_written b.weight }
+
 abbrev pub bridge_written : System → Bridge → WrittenBridge
-bridge_written m b = record { name = b.name; head = place_written m (head_place b); reads = reads_written m b.pos b.neg }
+bridge_written m b = record { name = b.name; marks = marks_written b; head = place_written m (head_place b); reads = reads_written m b.pos b.neg }
 
 -- ---- the whole text
 abbrev pub canonical_written : System → WrittenText
-canonical_written m = record { contexts = map context_written m.contexts; bridges = map (bridge_written m) m.bridges }
+canonical_written m = record { has_version = list_any is_marked m.bridges; contexts = map context_written m.contexts; bridges = map (bridge_written m) m.bridges }

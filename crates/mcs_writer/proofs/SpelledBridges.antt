@@ -1,5 +1,9 @@
 -- The text of a bridge rule, and that of a system, has the tokens of what is written.
-use Rattle.std.proofs.Common.{◌≡◌, ℕ, Bool, true, false, ◌||◌, List, [], ◌∷◌, ◌++◌, codes, map, slice_get, refl, ap, append_assoc, arith, true≢false}
+use Rattle.std.proofs.Common.{◌≡◌, ℕ, ◌≤◌, Bool, true, false, ◌||◌, nat_eq, cond, IsTrue, List, [], ◌∷◌, ◌++◌, codes, length, map, Some, None, slice_get, refl, ap, append_assoc, arith, true≢false}
+use Rattle.std.specs.Fmt.{decimal}
+use Rattle.std.proofs.lemmas.Fmt.{length-decimal-le}
+use Rattle.mcs_base.specs.Numbers.{value_of_digits}
+use Rattle.mcs_base.specs.Words.{is_word, most_name_bytes}
 use Rattle.std.specs.List.{AllByRecursion, flat_map, list_any}
 use Rattle.mcs_base.proofs.Each.{all_both, all_from_no_any}
 use Rattle.mcs_base.proofs.WordLemmas.{EndsWord, ends_regrouped}
@@ -9,12 +13,13 @@ use Rattle.mcs_system.specs.Texts.{primary, belief_text, name_of_context}
 use Rattle.mcs_text.specs.Separated.{separated, further}
 use Rattle.mcs_system.proofs.ValidLemmas.{tests_pass}
 use Rattle.mcs_tokens.specs.declared.sign.Sign.TheVariants as signs
-use Rattle.mcs_writer.specs.Canonical.{denied, context_text, head_place, if_word, bridge_text, canonical_text}
-use Rattle.mcs_grammar.specs.Entries.{Use, BeginsBridge, NamesBridge, NamesTarget, NamesSource, BeginsBelief, EndsRead, Entry, entry, formula_in, with_first, with_last, whole_entries, place_entries, read_entries, further_read, reads_entries, context_entries, bridge_entries, text_entries}
+use Rattle.mcs_writer.specs.Canonical.{denied, context_text, head_place, if_word, weight_text, marks_text, bridge_text, is_marked, version_line, canonical_text}
+use Rattle.mcs_grammar.specs.Entries.{Use, BeginsBridge, NamesBridge, Weighs, NamesTarget, NamesSource, BeginsBelief, EndsRead, Entry, entry, formula_in, with_first, with_last, whole_entries, optional, place_entries, read_entries, further_read, reads_entries, weight_entries, mark_entries, context_entries, bridge_entries, version_entries, text_entries}
 use Rattle.mcs_system.specs.Naming.{IsNamedContext, IsSystemNamed}
 use Rattle.mcs_writer.proofs.CanonicalGrammar.{IsPlaced, IsPlacedBridge, placed-name, all-placed}
-use Rattle.mcs_writer.proofs.CanonicalWritten.{primary_written, place_written, read_written, reads_written, bridge_written, context_written, canonical_written}
-use Rattle.mcs_grammar.proofs.Spelled.{no-hyphen, IsSpelled, beside, text-as, entries-as, first-tokens, last-tokens, nothing, one-sign, blank, sign-blank, word-space}
+use Rattle.mcs_writer.proofs.CanonicalWritten.{primary_written, place_written, read_written, reads_written, weight_written, marks_written, bridge_written, context_written, canonical_written}
+use Rattle.mcs_grammar.proofs.Spelled.{no-hyphen, IsSpelled, beside, text-as, entries-as, first-tokens, last-tokens, nothing, one-word, one-number, one-sign, blank, sign-blank, word-space}
+use Rattle.mcs_tokens.proofs.Numbers.{decimal_is}
 use Rattle.mcs_writer.proofs.SpelledFormulas.{one-name, primary-no-hyphen, primary-spelled}
 use Rattle.mcs_writer.proofs.SpelledContexts.{after-comma, further-ends, context-spelled}
 
@@ -83,6 +88,50 @@ module _ (m : System) (named : IsSystemNamed m) where
     reads-end (r ∷ rs) neg next ends = refl
 
   -- ---- rules
+  -- a word after a space, where it stands
+  mark-spelled : (v : Bool) (word next : List ℕ) → IsTrue (is_word word) → length word ≤ most_name_bytes → EndsWord next → IsSpelled (cond v (32 ∷ word) []) (optional v word) next
+  mark-spelled true word next named short ends = beside (32 ∷ []) word [] (entry word [] ∷ []) next (blank 32 (word ++ next) refl) (one-word word [] next named short ends)
+  mark-spelled false word next named short ends = nothing next
+
+  weight-spelled : (w : ℕ) (next : List ℕ) → w ≤ 1000000 → EndsWord next → IsSpelled (weight_text w) (weight_entries (weight_written w)) next
+  weight-spelled w next few ends = at (nat_eq w 1)
+    where
+      number : IsSpelled (decimal w) (entry (decimal w) (Weighs (value_of_digits (decimal w)) ∷ []) ∷ []) next
+      number =
+          let short = length-decimal-le 7 w (omega arith) (omega (arith, few)) (omega (arith, few)) in
+          one-number (decimal w) (Weighs (value_of_digits (decimal w)) ∷ []) next ((decimal_is w (omega (arith, few))).number) (omega (arith, short)) ends
+
+      at : (v : Bool) → IsSpelled (cond v [] (codes " weight " ++ decimal w)) (weight_entries (cond v None (Some (decimal w)))) next
+      at true = nothing next
+      at false = beside (codes " weight ") (decimal w) (entry (codes "weight") [] ∷ []) (entry (decimal w) (Weighs (value_of_digits (decimal w)) ∷ []) ∷ []) next
+          (beside (codes " ") (codes "weight ") [] (entry (codes "weight") [] ∷ []) (decimal w ++ next) (blank 32 _ refl) (word-space (codes "weight") [] (decimal w ++ next) refl (omega arith))) number
+
+  -- a space comes first, or what comes next
+  weight-ends : (w : ℕ) (next : List ℕ) → EndsWord next → EndsWord (weight_text w ++ next)
+  weight-ends w next ends = at (nat_eq w 1)
+    where
+      at : (v : Bool) → EndsWord (cond v [] (codes " weight " ++ decimal w) ++ next)
+      at true = ends
+      at false = refl
+
+  word-ends : (v : Bool) (word rest next : List ℕ) → EndsWord (rest ++ next) → EndsWord ((cond v (32 ∷ word) [] ++ rest) ++ next)
+  word-ends true word rest next ends = refl
+  word-ends false word rest next ends = ends
+
+  marks-end : (b : Bridge) (next : List ℕ) → EndsWord next → EndsWord (marks_text b ++ next)
+  marks-end b next ends = word-ends b.keep (codes "keep") _ next (word-ends b.closed (codes "closed") (weight_text b.weight) next (weight-ends b.weight next ends))
+
+  marks-spelled : (b : Bridge) (next : List ℕ) → b.weight ≤ 1000000 → EndsWord next → IsSpelled (marks_text b) (mark_entries (marks_written b)) next
+  marks-spelled b next few ends =
+      let weight = weight_text b.weight in
+      let weighing = weight_entries (weight_written b.weight) in
+      let closed = cond b.closed (codes " closed") [] in
+      let closing = optional b.closed (codes "closed") in
+      beside (cond b.keep (codes " keep") []) (closed ++ weight) (optional b.keep (codes "keep")) (closing ++ weighing) next
+      (mark-spelled b.keep (codes "keep") ((closed ++ weight) ++ next) refl (omega arith) (word-ends b.closed (codes "closed") weight next (weight-ends b.weight next ends)))
+      (beside closed weight closing weighing next
+      (mark-spelled b.closed (codes "closed") (weight ++ next) refl (omega arith) (weight-ends b.weight next ends)) (weight-spelled b.weight next few ends))
+
   bridge-spelled : (b : Bridge) (next : List ℕ) → IsPlacedBridge m b → IsSpelled (bridge_text m b) (bridge_entries (bridge_written m b)) next
   bridge-spelled b next h =
       let w = bridge_written m b in
@@ -98,8 +147,13 @@ module _ (m : System) (named : IsSystemNamed m) where
       let body = belief_text m (head_place b) ++ (word ++ (reads ++ codes ".\n")) in
       let body_entries = place_entries (NamesTarget target) w.head ++ (reading ++ entry (codes ".") [] ∷ []) in
       let colon = beside (codes ": ") body (entry (codes ":") [] ∷ []) body_entries next (sign-blank signs.Colon [] 32 (body ++ next) refl (no-hyphen 32 _ (λ e. omega arith))) (text-as _ body body_entries next same head) in
-      let name = beside b.name (codes ": " ++ body) (entry b.name (NamesBridge b.name ∷ []) ∷ []) (entry (codes ":") [] ∷ body_entries) next (one-name b.name (NamesBridge b.name ∷ []) _ h.name refl) colon in
-      beside (codes "bridge ") (b.name ++ (codes ": " ++ body)) (entry (codes "bridge") (BeginsBridge ∷ []) ∷ []) (entry b.name (NamesBridge b.name ∷ []) ∷ entry (codes ":") [] ∷ body_entries) next (word-space (codes "bridge") (BeginsBridge ∷ []) _ refl (omega arith)) name
+      let place = codes ": " ++ body in
+      let place_entries' = entry (codes ":") [] ∷ body_entries in
+      let marks = beside (marks_text b) place (mark_entries w.marks) place_entries' next (marks-spelled b (place ++ next) h.weight.1 refl) colon in
+      let name = beside b.name (marks_text b ++ place) (entry b.name (NamesBridge b.name ∷ []) ∷ []) (mark_entries w.marks ++ place_entries') next
+      (one-name b.name (NamesBridge b.name ∷ []) ((marks_text b ++ place) ++ next) h.name (ends_regrouped (marks_text b) place next (marks-end b (place ++ next) refl))) marks in
+      beside (codes "bridge ") (b.name ++ (marks_text b ++ place)) (entry (codes "bridge") (BeginsBridge ∷ []) ∷ []) (entry b.name (NamesBridge b.name ∷ []) ∷ (mark_entries w.marks ++ place_entries')) next
+      (word-space (codes "bridge") (BeginsBridge ∷ []) _ refl (omega arith)) name
 
 -- ---- the whole text
 all-spelled : {A W : Type 0} (text : A → List ℕ) (written : A → W) (entries : W → List Entry) (P : A → Type 0) → ((x : A) (next : List ℕ) → P x → IsSpelled (text x) (entries (written x)) next)
@@ -120,8 +174,17 @@ all-fit m named valid =
     first true b e = absurd (true≢false e)
     first false b e = refl
 
+version-spelled : (v : Bool) (next : List ℕ) → IsSpelled (cond v (codes "version 2.\n") []) (version_entries v) next
+version-spelled true next =
+    let rest = beside (codes "2") (codes ".\n") (entry (codes "2") [] ∷ []) (entry (codes ".") [] ∷ []) next (one-number (codes "2") [] (codes ".\n" ++ next) refl (omega arith) refl) (sign-blank signs.Period [] 10 next refl tt) in
+    beside (codes "version ") (codes "2.\n") (entry (codes "version") [] ∷ []) (entry (codes "2") [] ∷ entry (codes ".") [] ∷ []) next (word-space (codes "version") [] _ refl (omega arith)) rest
+version-spelled false next = nothing next
+
 pub canonical-spelled : (m : System) → IsSystemNamed m → IsValid m → IsSpelled (canonical_text m) (text_entries (canonical_written m)) []
 canonical-spelled m named valid =
-    beside (flat_map context_text m.contexts) (flat_map (bridge_text m) m.bridges) (flat_map context_entries (map context_written m.contexts)) (flat_map bridge_entries (map (bridge_written m) m.bridges)) []
+    let texts = flat_map context_text m.contexts ++ flat_map (bridge_text m) m.bridges in
+    let entries = flat_map context_entries (map context_written m.contexts) ++ flat_map bridge_entries (map (bridge_written m) m.bridges) in
+    let parts = beside (flat_map context_text m.contexts) (flat_map (bridge_text m) m.bridges) (flat_map context_entries (map context_written m.contexts)) (flat_map bridge_entries (map (bridge_written m) m.bridges)) []
     (all-spelled context_text context_written context_entries IsFit (λ c next h. context-spelled c next h.0 h.1) m.contexts _ (all-fit m named valid))
-    (all-spelled (bridge_text m) (bridge_written m) bridge_entries (IsPlacedBridge m) (bridge-spelled m named) m.bridges [] (all-placed m named valid))
+    (all-spelled (bridge_text m) (bridge_written m) bridge_entries (IsPlacedBridge m) (bridge-spelled m named) m.bridges [] (all-placed m named valid)) in
+    beside (version_line m) texts (version_entries (list_any is_marked m.bridges)) entries [] (version-spelled (list_any is_marked m.bridges) (texts ++ [])) parts

@@ -29,3 +29,7 @@ rule_written text sign head pos neg =
     let body : separated (pos ++ map denied neg) ≡ joined_by (codes ", ") true (map (λ a. a) pos) ++ joined_by (codes ", ") (nat_eq (length pos) 0) (map denied neg) =
     ap (λ l. separated (l ++ map denied neg)) (sym (map-id pos)) ∙ images_first (λ a. a) pos (map denied neg) in
     rw body (simp append_assoc)
+
+-- the parts of a bridge rule's line, one after another
+pub regrouped : (text word name marks colon head if' pos neg end : List ℕ) → ((((((((text ++ word) ++ name) ++ marks) ++ colon) ++ head) ++ if') ++ pos) ++ neg) ++ end ≡ text ++ (word ++ (name ++ (marks ++ (colon ++ (head ++ (if' ++ ((pos ++ neg) ++ end)))))))
+regrouped text word name marks colon head if' pos neg end = simp append_assoc

@@ -1,7 +1,8 @@
--- The canonical text of a system: a line for each bridge rule, for each item of a context, and for the braces
--- around the items. Each line ends with a line feed.
-use Rattle.std.specs.Prelude.{ℕ, Bool, true, false, List, [], ◌∷◌, ◌++◌, map, codes}
-use Rattle.std.specs.List.{flat_map}
+-- The canonical text of a system: a line for the version where a rule needs one, and a line for each bridge rule, for
+-- each item of a context, and for the braces around the items. Each line ends with a line feed.
+use Rattle.std.specs.Prelude.{ℕ, Bool, true, false, not, ◌||◌, nat_eq, cond, List, [], ◌∷◌, ◌++◌, map, codes}
+use Rattle.std.specs.Fmt.{decimal}
+use Rattle.std.specs.List.{flat_map, list_any}
 use Rattle.mcs_system.specs.Plain.{Name, Formula, Truth, Falsity, Atom, Not, And, Or, Implies, Iff, Default, ProgramRule, Item, Fact, Rule, Kb, Classical, DefaultTheory, Program, Context, Read, Bridge, System}
 use Rattle.mcs_system.specs.Faults.{reads_of}
 use Rattle.mcs_system.specs.Texts.{primary, belief_text}
@@ -100,10 +101,26 @@ abbrev pub if_word : List Read → List ℕ
 if_word [] = []
 if_word (r ∷ rs) = codes " if "
 
--- bridge NAME: HEAD if READS.
+-- the weight, where it is not 1
+abbrev pub weight_text : ℕ → List ℕ
+weight_text weight = cond (nat_eq weight 1) [] (codes " weight " ++ decimal weight)
+
+-- what a rule says of itself, each after a space
+abbrev pub marks_text : Bridge → List ℕ
+marks_text b = cond b.keep (codes " keep") [] ++ (cond b.closed (codes " closed") [] ++ weight_text b.weight)
+
+-- bridge NAME MARKS: HEAD if READS.
 abbrev pub bridge_text : System → Bridge → List ℕ
-bridge_text m b = codes "bridge " ++ (b.name ++ (codes ": " ++ (belief_text m (head_place b) ++ (if_word (reads_of b) ++ (separated (read_texts m b) ++ codes ".\n")))))
+bridge_text m b = codes "bridge " ++ (b.name ++ (marks_text b ++ (codes ": " ++ (belief_text m (head_place b) ++ (if_word (reads_of b) ++ (separated (read_texts m b) ++ codes ".\n"))))))
 
 -- ---- the whole text
+-- it may not be removed, may not be forced, or has another weight than 1
+abbrev pub is_marked : Bridge → Bool
+is_marked b = b.keep || (b.closed || not (nat_eq b.weight 1))
+
+-- where some rule says something of itself
+abbrev pub version_line : System → List ℕ
+version_line m = cond (list_any is_marked m.bridges) (codes "version 2.\n") []
+
 abbrev pub canonical_text : System → List ℕ
-canonical_text m = flat_map context_text m.contexts ++ flat_map (bridge_text m) m.bridges
+canonical_text m = version_line m ++ (flat_map context_text m.contexts ++ flat_map (bridge_text m) m.bridges)

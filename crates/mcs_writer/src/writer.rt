@@ -1,7 +1,8 @@
 //! The canonical text of a system.
 
-ghost use Rattle.std.specs.Prelude.{◌≡◌, ◌<◌, ◌++◌, not, nat_eq, length, map, codes, OnOk, OnErr};
-ghost use Rattle.std.specs.List.{AllByRecursion, flat_map};
+ghost use Rattle.std.specs.Prelude.{◌≡◌, ◌<◌, ◌++◌, [], not, nat_eq, cond, length, map, codes};
+ghost use Rattle.std.specs.Prelude.{OnOk, OnErr};
+ghost use Rattle.std.specs.List.{AllByRecursion, flat_map, list_any};
 ghost use Rattle.mcs_system.specs.Faults.{reads_of};
 ghost use Rattle.mcs_system.specs.Plain as plain;
 ghost use Rattle.mcs_system.specs.Seen.{formula_of, item_of, rule_of, kb_of, context_of, read_of};
@@ -9,7 +10,8 @@ ghost use Rattle.mcs_system.specs.Seen.{bridge_of};
 ghost use Rattle.mcs_system.specs.Texts.{belief_text};
 ghost use Rattle.mcs_writer.specs.Canonical.{formula_text, theory_item_text, joined_by};
 ghost use Rattle.mcs_writer.specs.Canonical.{program_rule_text, kind_word, item_line, items_text};
-ghost use Rattle.mcs_writer.specs.Canonical.{context_text, if_word, bridge_text, canonical_text};
+ghost use Rattle.mcs_writer.specs.Canonical.{context_text, if_word, weight_text, marks_text};
+ghost use Rattle.mcs_writer.specs.Canonical.{bridge_text, is_marked, version_line, canonical_text};
 
 use crate::item_writer::{push_formula, push_primary, push_program_rule, push_theory_item};
 use mcs_base::{Memory, Text};
@@ -156,7 +158,35 @@ fn if_word(bridge: &Bridge) -> &'static [u8]
     if has_reads(bridge) { b" if " } else { b"" }
 }
 
-/// Appends a bridge rule: its head, then its reads with the positive ones first.
+/// The text if the condition holds; otherwise nothing.
+fn text_if(holds: bool, text: &'static [u8]) -> &'static [u8]
+    ensures { result.now ≡ cond holds text.now [] }
+{
+    if holds { text } else { b"" }
+}
+
+/// Appends the weight of a rule, unless it is 1.
+fn push_weight(text: &mut Text, weight: u32) -> Result<(), Memory>
+    ensures { OnOk result (text.new ≡ text.old ++ weight_text weight) }
+{
+    if weight == 1 {
+        return Ok(());
+    }
+    text.push(b" weight ")?;
+    text.push_number(u64::from(weight))
+}
+
+/// Appends what a bridge rule says of itself, each after a space: that it may not be removed, that
+/// it may not be forced, and a weight other than 1.
+fn push_marks(text: &mut Text, bridge: &Bridge) -> Result<(), Memory>
+    ensures { OnOk result (text.new ≡ text.old ++ marks_text (bridge_of bridge.now)) }
+{
+    text.push(text_if(bridge.keep, b" keep"))?;
+    text.push(text_if(bridge.closed, b" closed"))?;
+    push_weight(text, bridge.weight)
+}
+
+/// Appends a bridge rule: its marks, its head, then its reads with the positive ones first.
 fn push_bridge(text: &mut Text, system: &System, bridge: &Bridge) -> Result<(), Memory>
     requires target { bridge.now.target < length system.now.contexts }
     requires reads { AllByRecursion (λ (r : plain.Read). r.context < length system.now.contexts)
@@ -165,6 +195,7 @@ fn push_bridge(text: &mut Text, system: &System, bridge: &Bridge) -> Result<(), 
 {
     text.push(b"bridge ")?;
     text.push(bridge.name.bytes())?;
+    push_marks(text, bridge)?;
     text.push(b": ")?;
     push_belief(text, system, bridge.target, &bridge.head)?;
     text.push(if_word(bridge))?;
@@ -194,13 +225,36 @@ fn push_bridges(text: &mut Text, system: &System) -> Result<(), Memory>
     Ok(())
 }
 
-/// Appends the canonical text of a system. It does not show the marks of the rules. If there is no
-/// memory for all of it, `out` stays as it was.
+/// Whether the rule may not be removed, may not be forced, or has a weight other than 1.
+fn is_marked(bridge: &Bridge) -> bool
+    ensures { result ≡ is_marked (bridge_of bridge.now) }
+{
+    bridge.keep || bridge.closed || bridge.weight != 1
+}
+
+/// Whether some rule is marked.
+fn any_marked(bridges: &[Bridge]) -> bool
+    ensures { result ≡ list_any (λ b. is_marked (bridge_of b)) bridges.now }
+{
+    bridges.iter().any(is_marked)
+}
+
+/// The first line of the text, with the version; empty if no rule is marked.
+fn version_line(system: &System) -> &'static [u8]
+    ensures { result.now ≡ version_line system.now }
+{
+    text_if(any_marked(system.bridges()), b"version 2.\n")
+}
+
+/// Appends the canonical text of a system. It begins with `version 2.` exactly if some rule may not
+/// be removed, may not be forced, or has a weight other than 1. If there is no memory for all of
+/// it, `out` stays as it was.
 pub fn push_system(out: &mut Text, system: &System) -> Result<(), Memory>
     ensures text { OnOk result (out.new ≡ out.old ++ canonical_text system.now) }
     ensures unchanged { OnErr result (out.new ≡ out.old) }
 {
     let mut text = out.empty_like();
+    text.push(version_line(system))?;
     push_contexts(&mut text, system)?;
     push_bridges(&mut text, system)?;
     out.push(text.bytes())

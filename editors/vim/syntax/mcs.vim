@@ -9,7 +9,7 @@ syn case match
 syn iskeyword @,48-57,_
 syn sync minlines=100
 
-" Whatever nothing below takes begins no token, as a digit outside a word.
+" Whatever nothing below takes begins no token, or is a number where none may stand.
 syn match   mcsStray       /[^ \t\r]/
 
 syn match   mcsName        /\<[A-Za-z_][A-Za-z0-9_]*\>/
@@ -17,7 +17,11 @@ syn keyword mcsDeclare     context nextgroup=mcsContextName skipwhite skipempty
 syn keyword mcsKind        classical default program
 syn keyword mcsLogic       not if
 syn keyword mcsConstant    true false
-syn keyword mcsReserved    version keep closed weight autoepistemic know
+syn keyword mcsReserved    autoepistemic know
+syn keyword mcsVersion     version nextgroup=mcsNumber skipwhite skipempty
+syn keyword mcsMark        keep closed
+syn keyword mcsMark        weight nextgroup=mcsNumber skipwhite skipempty
+syn match   mcsNumber      /[1-9][0-9]*/ contained
 syn match   mcsLongName    /\<[A-Za-z_][A-Za-z0-9_]\{64,}\>/
 syn match   mcsOperator    /<->\|->\|:-\|[&|~\/:]/
 syn match   mcsDelimiter   /[{}().,]/
@@ -28,7 +32,7 @@ syn keyword mcsTodo        TODO FIXME NOTE contained
 syn match   mcsContextName /\<[A-Za-z_][A-Za-z0-9_]*\>/ contained
 syn match   mcsPlace       /\<[A-Za-z_][A-Za-z0-9_]*\>\ze\_s*:/ contained
 syn match   mcsRuleName    /\%(\<bridge\_s\+\)\@<=\<[A-Za-z_][A-Za-z0-9_]*\>/ contained
-syn cluster mcsToken       contains=mcsStray,mcsName,mcsKind,mcsLogic,mcsConstant,mcsReserved,mcsOperator,mcsDelimiter,mcsComment
+syn cluster mcsToken       contains=mcsStray,mcsName,mcsKind,mcsLogic,mcsConstant,mcsReserved,mcsMark,mcsOperator,mcsDelimiter,mcsComment
 syn region  mcsBridge      matchgroup=mcsDeclare start=/\<bridge\>/ end=/\ze\<\%(bridge\|context\)\>/
       \ matchgroup=mcsDelimiter end=/\./ contains=@mcsToken,mcsPlace,mcsRuleName,mcsLongPlace
 syn match   mcsLongPlace   /\<[A-Za-z_][A-Za-z0-9_]\{64,}\>/ contained
@@ -42,6 +46,9 @@ hi def link mcsKind        Type
 hi def link mcsLogic       Conditional
 hi def link mcsConstant    Boolean
 hi def link mcsReserved    Error
+hi def link mcsVersion     PreProc
+hi def link mcsMark        StorageClass
+hi def link mcsNumber      Number
 hi def link mcsLongName    Error
 hi def link mcsLongPlace   Error
 hi def link mcsOperator    Operator

@@ -1,13 +1,14 @@
 use Rattle.std.proofs.Common.{◌≡◌, ◌++◌, [], ◌∷◌, refl, sym, subst, inl, inr, IfOk}
 use Rattle.std.proofs.lemmas.List.{append-nil, append_assoc}
 use Rattle.std.proofs.lemmas.Result.{IfOk-weaker}
+use Rattle.mcs_base.specs.Numbers.{value_of_digits}
 use Rattle.mcs_account.specs.declared.place.Role.{Role}
 use Rattle.mcs_account.specs.declared.place.Role.TheVariants as roles
 use Rattle.mcs_grammar.specs.Entries.{BeginsContext, BeginsBridge, NamesContext, NamesBridge, SaysProgram, BeginsDefault, NamesTarget, AtomOf, IsNumber}
 use Rattle.mcs_account.specs.Images.{role_uses}
 use Rattle.mcs_faults.specs.Watching.{HaveNoFault, IsWatch}
 use Rattle.mcs_account.specs.Images.{IsNaming}
-use Rattle.mcs_faults.proofs.PlainSteps.{more-context, more-bridge, step-begins_context, step-begins_bridge, step-names_source, step-number, step-opens}
+use Rattle.mcs_faults.proofs.PlainSteps.{more-context, more-bridge, step-begins_context, step-begins_bridge, step-names_source, step-weighs, step-number, step-opens}
 use Rattle.mcs_faults.proofs.watch.Watch.record_role.Goals as goal
 
 pub returns-in-NamesContext : goal.returns-in-NamesContext
@@ -69,6 +70,7 @@ returns-in-Nothing c = λ before a watch number word free.
     elim c.in-Nothing.is [
       | inl is ↦ at roles.Nothing (subst (IsWatch c.args.self.now) (sym (append-nil before)) watch) is
       | inr (inl is) ↦ at roles.NamesSource (step-names_source c.args.self.now before watch c.args.said.now.token.now) is
-      | inr (inr (inl (n, is))) ↦ at (roles.Counted n) (step-number c.args.self.now before watch n) is
-      | inr (inr (inr (n, is))) ↦ at (roles.Opens n) (step-opens c.args.self.now before watch n) is
+      | inr (inr (inl is)) ↦ at roles.Weighs (step-weighs c.args.self.now before watch (value_of_digits c.args.said.now.token.now)) is
+      | inr (inr (inr (inl (n, is)))) ↦ at (roles.Counted n) (step-number c.args.self.now before watch n) is
+      | inr (inr (inr (inr (n, is)))) ↦ at (roles.Opens n) (step-opens c.args.self.now before watch n) is
     ]

@@ -1,0 +1,30 @@
+use Rattle.std.proofs.Common.{refl, sym, arith}
+use Rattle.mcs_tokens.proofs.KindLemmas.{no_candidates}
+use Rattle.mcs_tokens.proofs.kind.keywords_of.Goals as goal
+
+pub returns-in-2 : goal.returns-in-2
+returns-in-2 c = rw c.in-2.is refl
+
+pub returns-in-3 : goal.returns-in-3
+returns-in-3 c = rw c.in-3.is refl
+
+pub returns-in-4 : goal.returns-in-4
+returns-in-4 c = rw c.in-4.is refl
+
+pub returns-in-5 : goal.returns-in-5
+returns-in-5 c = rw c.in-5.is refl
+
+pub returns-in-6 : goal.returns-in-6
+returns-in-6 c = rw c.in-6.is refl
+
+pub returns-in-7 : goal.returns-in-7
+returns-in-7 c = rw c.in-7.is refl
+
+pub returns-in-9 : goal.returns-in-9
+returns-in-9 c = rw c.in-9.is refl
+
+pub returns-in-13 : goal.returns-in-13
+returns-in-13 c = rw c.in-13.is refl
+
+pub returns-in_default : goal.returns-in_default
+returns-in_default c = sym (no_candidates c.args.bytes (omega (arith, c.in_default)) (omega (arith, c.in_default)) (omega (arith, c.in_default)) (omega (arith, c.in_default)) (omega (arith, c.in_default)) (omega (arith, c.in_default)) (omega (arith, c.in_default)) (omega (arith, c.in_default)))
