@@ -53,6 +53,24 @@ printf '%s\\n' 'mcs 1: 1 contexts, 1 rules, 1 variables' 'equilibrium 1: {c:a} a
             self.assertEqual((status, noted), (0, ""))
 
 
+class Workers(Ground):
+    def test_words(self):
+        self.assertEqual(self.ran("bench/workers", "--help")[0], 0)
+        program = self.script("mcs", "#!/bin/sh\n")
+        for words in (["--fast"], ["--program", "nothing"], ["--program", program, "wheels 3"], ["--program", program, "--workers", "0"]):
+            status, table, noted = self.ran("bench/workers", *words)
+            self.assertEqual((status, table), (2, ""), words)
+            self.assertOneLine(noted)
+
+    def test_a_difference_is_told(self):
+        text = self.file("a text.mcs", "")
+        for told, wanted in (("echo same", (0, "")), ("echo $2", (1, "workers: runs of one text did not print the same\n"))):
+            program = self.script("mcs", f"#!/bin/sh\n{told}\n")
+            status, table, noted = self.ran("bench/workers", "--program", program, "--workers", "2", "--times", "1", text)
+            self.assertEqual((status, noted), wanted)
+            self.assertRegex(table, r"\na text +0\.\d+ +0\.\d+ ")
+
+
 class Hostile(Ground):
     def test_words(self):
         self.assertEqual(self.ran("bench/hostile", "--help")[0], 0)
