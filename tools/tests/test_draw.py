@@ -32,7 +32,8 @@ class Draw(Ground):
             for name, kind in re.findall(r"\bcontext (\w+) (\w+)", text):
                 self.line(graph, f'"context {name}" [label="{name}\\n({kind})"]')
             for name in re.findall(r"\bbridge (\w+)", text):
-                self.assertEqual(graph.count(f'label="{name}"'), 1, path)
+                # The name of a rule stands alone or before its marks; that of a context before its kind.
+                self.assertEqual(len(re.findall(rf'label="{name}("|\\n[^(])', graph)), 1, path)
 
     def test_one_read_is_an_arrow_and_a_negative_one_is_dashed(self):
         graph = self.drawn(example("access.mcs"))
