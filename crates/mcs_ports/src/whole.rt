@@ -4,6 +4,7 @@ ghost use Rattle.std.specs.Prelude.{◌≡◌, ◌⊎◌, ℕ, ◌<◌, ◌≤�
 ghost use Rattle.std.specs.Prelude.{is_some, IsNone, IsSome, IfSome, IfOk, OnOk, OnErr, IsErrOf};
 ghost use Rattle.mcs_ports.specs.Causes.{Rose, HasCause};
 ghost use Rattle.mcs_ports.specs.Pieces.{TakesAtMost, appended};
+ghost use Rattle.mcs_ports.specs.Shelves.{KeepsShelf};
 ghost use Rattle.mcs_ports.specs.declared.whole.ReadAnswer.TheVariants.{Memory};
 
 use crate::{Failed, Shelf, Sink};
@@ -95,15 +96,12 @@ pub fn read_whole<H: Shelf>(
 
 // Reads what is left of the open file, if this is at most `limit` bytes.
 fn read_rest<H: Shelf>(alloc: Global, shelf: &mut H, limit: usize) -> Result<Vec<u8>, ReadAnswer>
-    ensures later { H.faults shelf.old ≤ H.faults shelf.new }
-    ensures failures_later { H.failures shelf.old ≤ H.failures shelf.new }
+    ensures shelf { KeepsShelf H.held H.left H.faults H.failures shelf.old shelf.new }
     ensures fault { IsErrOf result ReadAnswer.Fault
         → Rose (H.faults shelf.old) (H.faults shelf.new) }
     ensures failure { IsErrOf result ReadAnswer.Fault
         → Rose (H.failures shelf.old) (H.failures shelf.new) }
     ensures within { IfOk result (λ bytes. length bytes.items ≤ limit) }
-    ensures same_held { H.held shelf.new ≡ H.held shelf.old }
-    ensures tells { is_some (H.left shelf.new) ≡ is_some (H.left shelf.old) }
     ensures whole { IfOk result (λ bytes. IfSome (H.left shelf.old) (λ l. l ≡ bytes.items)) }
     ensures too_long { IsErrOf result ReadAnswer.TooLong
         → IfSome (H.left shelf.old) (λ l. limit < length l) }
