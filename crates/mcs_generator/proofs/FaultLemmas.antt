@@ -22,7 +22,7 @@ use Rattle.mcs_system.specs.declared.bridge.Bridge as code_bridge
 use Rattle.mcs_system.specs.declared.knowledge.Context as code_context
 use Rattle.mcs_system.specs.declared.limit.Limit.{Limit}
 use Rattle.mcs_system.specs.declared.limit.Limit.TheVariants as limits
-use Rattle.mcs_system.specs.Faults.{points_outside, has_unknown_context, has_twin_names, is_program, has_misfit, is_unjustified, has_unjustified, has_misfits, is_default, default_count, item_count, is_large, has_large_formula, is_large_rule, has_large_item, has_large_part, exceeds, first_exceeded, limits as all_limits, fault, fault_of}
+use Rattle.mcs_system.specs.Faults.{points_outside, has_unknown_context, has_twin_names, is_program, has_misfit, is_unjustified, has_unjustified, has_misfits, is_default, default_count, item_count, is_large, has_large_formula, is_large_rule, has_large_item, has_large_part, exceeds, first_exceeded, limits as all_limits, fault_of, IsValid}
 use Rattle.mcs_system.specs.Seen.{context_of, bridge_of, system_of}
 use Rattle.mcs_system.proofs.Sameness.{same_name-itself, same_read-is}
 use Rattle.mcs_system.proofs.Distinct.{one_number}
@@ -325,7 +325,9 @@ pub generated_valid : GeneratedSystemsAreValid
 unfolding fault_of
 generated_valid n = rw (all_known n, all_apart n, all_fitting n, none_exceeded n) refl
 
-pub not_faulty : (n : ℕ) (cs : List code_context.Context) (bs : List code_bridge.Bridge) (k : ℕ) (l : Option Limit) → map context_of cs ≡ generated_contexts n → map bridge_of bs ≡ generated_bridges n → fault_of (system_of cs bs) ≡ Some (fault k l) → ⊥
-not_faulty n cs bs k l contexts bridges is =
-    let same : system_of cs bs ≡ generated_system n = ap₂ (λ xs ys. record { contexts = xs; bridges = ys }) contexts bridges in
-    let e : None ≡ Some (fault k l) = sym (ap fault_of same ∙ generated_valid n) ∙ is in cc
+-- ---- lists that hold its contexts and rules
+pub generated_parts : (n : ℕ) (cs : List code_context.Context) (bs : List code_bridge.Bridge) → map context_of cs ≡ generated_contexts n → map bridge_of bs ≡ generated_bridges n → system_of cs bs ≡ generated_system n
+generated_parts n cs bs contexts bridges = ap₂ (λ xs ys. record { contexts = xs; bridges = ys }) contexts bridges
+
+pub valid_parts : (n : ℕ) (cs : List code_context.Context) (bs : List code_bridge.Bridge) → map context_of cs ≡ generated_contexts n → map bridge_of bs ≡ generated_bridges n → IsValid (system_of cs bs)
+valid_parts n cs bs contexts bridges = ap fault_of (generated_parts n cs bs contexts bridges) ∙ generated_valid n

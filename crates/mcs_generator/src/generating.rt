@@ -9,7 +9,7 @@ use crate::bridges::{missed_rule, reached_rule};
 use crate::knowledge::context;
 use crate::numbers::context_count;
 use mcs_base::Memory;
-use mcs_system::{Bridge, BuildFault, Context, System};
+use mcs_system::{Bridge, Context, System};
 use std::alloc::Global;
 
 /// The contexts of the generated system.
@@ -50,9 +50,5 @@ pub fn generate(alloc: Global, number: u64) -> Result<System, Memory>
 {
     let contexts = contexts(alloc, number)?;
     let bridges = bridges(alloc, number)?;
-    match System::build(alloc, contexts, bridges) {
-        Ok(system) => Ok(system),
-        Err(BuildFault::Memory) => Err(Memory),
-        Err(BuildFault::Fault { .. }) => unreachable!(),
-    }
+    System::of_valid(alloc, contexts, bridges)
 }

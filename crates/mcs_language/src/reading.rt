@@ -1,21 +1,18 @@
 //! Reading: from the bytes of a text to its system.
 
 ghost use Rattle.std.specs.Prelude.{◌≡◌, ◌≤◌, ℕ, List, Some, length, slice_get, OnOk, IfOk, IfErr};
-ghost use Rattle.mcs_system.specs.Faults.{IsValid};
-ghost use Rattle.mcs_system.specs.Seen.{system_of};
 ghost use Rattle.mcs_tokens.specs.Tokens.{AreTokens};
 ghost use Rattle.mcs_tokens.specs.declared.scan.Span as declared;
 ghost use Rattle.mcs_grammar.specs.Entries.{Token};
 ghost use Rattle.mcs_faults.specs.Watching.{names_seen};
 ghost use Rattle.mcs_language.specs.Progress.{AreReadUpTo, AreTokensRead, IsNextRead, IsNumberFor, IsToldOf};
 ghost use Rattle.mcs_grammar.specs.Texts.{Spells};
-ghost use Rattle.mcs_faults.specs.declared.fault.TextFault.TheVariants as texts;
 
 use mcs_account::{Taken, TextReader};
 use mcs_base::Memory;
 use mcs_faults::{Fault, Subject, TextFault, Watch};
 use mcs_productions::Class;
-use mcs_system::{Bridge, BuildFault, Context, System};
+use mcs_system::System;
 use mcs_tokens::{Span, next_token};
 use std::alloc::Global;
 
@@ -121,20 +118,8 @@ impl Reading {
             return Err(Fault::NoGrammar.at(bytes.len()));
         }
         let (contexts, bridges) = reader.into_parts();
-        built(alloc, contexts, bridges)
-    }
-}
-
-/// The system of these contexts and bridge rules, which have no fault.
-fn built(alloc: Global, contexts: Vec<Context>, bridges: Vec<Bridge>) -> Result<System, TextFault>
-    requires { IsValid (system_of contexts.items bridges.items) }
-    ensures system { IfOk result (λ s. s ≡ system_of contexts.items bridges.items) }
-    ensures fault { IfErr result (λ f. f ≡ texts.Memory) }
-{
-    match System::build(alloc, contexts, bridges) {
-        Ok(system) => Ok(system),
-        Err(BuildFault::Memory) => Err(TextFault::Memory),
-        Err(BuildFault::Fault { .. }) => unreachable!(),
+        let system = System::of_valid(alloc, contexts, bridges)?;
+        Ok(system)
     }
 }
 

@@ -1,5 +1,5 @@
 -- Which fault is told, by the tests in their order.
-use Rattle.std.proofs.Common.{◌≡◌, ◌<◌, ◌≤◌, Bool, true, false, cond, ltb, List, [], ◌∷◌, ◌++◌, length, Option, Some, None, Result, Ok, Err, refl, ap, ◌∙◌, arith}
+use Rattle.std.proofs.Common.{◌≡◌, ℕ, ◌<◌, ◌≤◌, Bool, true, false, cond, ltb, List, [], ◌∷◌, ◌++◌, length, Option, Some, None, Result, Ok, Err, refl, sym, ap, ◌∙◌, inl, inr, arith}
 use Rattle.std.proofs.lemmas.Bool.Decides.{nat_tests}
 use Rattle.std.specs.Result.{IfErr, IsErrAnd}
 use Rattle.mcs_system.specs.declared.fault.BuildFault.{BuildFault}
@@ -11,8 +11,9 @@ use Rattle.mcs_system.specs.declared.limit.Limit.TheVariants.{Contexts, Bridges,
 use Rattle.mcs_system.specs.Plain.{System}
 use Rattle.mcs_system.specs.Systems.{variables}
 use Rattle.mcs_system.specs.Faults.{has_unknown_context, has_twin_names, has_misfits, exceeds, first_exceeded, limits, Fault, fault, limit_fault, fault_of, IsValid}
-use Rattle.mcs_system.specs.Built.{flaw_number, first_flaw, first_limits, last_limits, IsFaultOf}
+use Rattle.mcs_system.specs.Built.{flaw_number, first_flaw, first_limits, variable_limits, last_limits, IsFaultOf, PassesFirst}
 use Rattle.mcs_system.specs.Gathered.{IsLimitDue}
+use Rattle.mcs_system.proofs.ValidLemmas.{tests_pass, limit_kept}
 
 -- ---- what is no limit
 abbrev flaw_by : Bool → Bool → Bool → Option Flaw
@@ -61,18 +62,11 @@ exceeded_before m (x ∷ xs) ys l e = at (exceeds m x) e (exceeded_before m xs y
     at true e rest = e
     at false e rest = rest e
 
-abbrev middle_limits : List Limit
-middle_limits = Variables ∷ InputsPerContext ∷ AtomsPerContext ∷ last_limits
-
-pub record PassesFirst (m : System) : Type 0 where
-  pub flaws : first_flaw m ≡ None
-  pub limits : first_exceeded m first_limits ≡ None
-
 pub limit_told : (m : System) (l : Limit) → first_flaw m ≡ None → first_exceeded m first_limits ≡ Some l → fault_of m ≡ Some (fault 5 (Some l))
-limit_told m l none e = no_flaw m none ∙ ap limit_fault (exceeded_before m first_limits middle_limits l e)
+limit_told m l none e = no_flaw m none ∙ ap limit_fault (exceeded_before m first_limits (variable_limits ++ last_limits) l e)
 
-after_first : (m : System) → PassesFirst m → fault_of m ≡ limit_fault (first_exceeded m middle_limits)
-after_first m first = no_flaw m first.flaws ∙ ap limit_fault (kept_before m first_limits middle_limits first.limits)
+after_first : (m : System) → PassesFirst m → fault_of m ≡ limit_fault (first_exceeded m (variable_limits ++ last_limits))
+after_first m first = no_flaw m first.flaws ∙ ap limit_fault (kept_before m first_limits (variable_limits ++ last_limits) first.limits)
 
 many_variables : (m : System) → 64 < length (variables m) → exceeds m Variables ≡ true
 unfolding exceeds
@@ -100,14 +94,30 @@ inputs_told m first few e = after_first m first ∙ rw (few_variables m few, e) 
 pub atoms_told : (m : System) → PassesFirst m → length (variables m) ≤ 64 → exceeds m InputsPerContext ≡ false → exceeds m AtomsPerContext ≡ true → fault_of m ≡ Some (fault 5 (Some AtomsPerContext))
 atoms_told m first few e e' = after_first m first ∙ rw (few_variables m few, e, e') refl
 
-after_atoms : (m : System) → PassesFirst m → length (variables m) ≤ 64 → exceeds m InputsPerContext ≡ false → exceeds m AtomsPerContext ≡ false → fault_of m ≡ limit_fault (first_exceeded m last_limits)
-after_atoms m first few e e' = after_first m first ∙ rw (few_variables m few, e, e') refl
+after_variables : (m : System) → PassesFirst m → first_exceeded m variable_limits ≡ None → fault_of m ≡ limit_fault (first_exceeded m last_limits)
+after_variables m first none = after_first m first ∙ ap limit_fault (kept_before m variable_limits last_limits none)
 
-pub last_told : (m : System) (l : Limit) → PassesFirst m → length (variables m) ≤ 64 → exceeds m InputsPerContext ≡ false → exceeds m AtomsPerContext ≡ false → first_exceeded m last_limits ≡ Some l → fault_of m ≡ Some (fault 5 (Some l))
-last_told m l first few e e' last = after_atoms m first few e e' ∙ ap limit_fault last
+pub last_told : (m : System) (l : Limit) → PassesFirst m → first_exceeded m variable_limits ≡ None → first_exceeded m last_limits ≡ Some l → fault_of m ≡ Some (fault 5 (Some l))
+last_told m l first none last = after_variables m first none ∙ ap limit_fault last
 
-pub none_told : (m : System) → PassesFirst m → length (variables m) ≤ 64 → exceeds m InputsPerContext ≡ false → exceeds m AtomsPerContext ≡ false → first_exceeded m last_limits ≡ None → IsValid m
-none_told m first few e e' last = after_atoms m first few e e' ∙ ap limit_fault last
+pub none_told : (m : System) → PassesFirst m → first_exceeded m variable_limits ≡ None → first_exceeded m last_limits ≡ None → IsValid m
+none_told m first none last = after_variables m first none ∙ ap limit_fault last
+
+pub within_variables : (m : System) → length (variables m) ≤ 64 → exceeds m InputsPerContext ≡ false → exceeds m AtomsPerContext ≡ false → first_exceeded m variable_limits ≡ None
+within_variables m few inputs atoms = rw (few_variables m few, inputs, atoms) refl
+
+-- ---- a valid system
+pub first_passed : (m : System) → IsValid m → PassesFirst m
+first_passed m valid =
+    let passed = tests_pass m valid in
+    let a = limit_kept m valid Contexts (inl refl) in
+    let b = limit_kept m valid Bridges (inr (inl refl)) in
+    let c = limit_kept m valid RulesPerContext (inr (inr (inl refl))) in
+    record { flaws = rw (passed.known, passed.apart, passed.fitting) refl; limits = rw (a, b, c) refl }
+
+-- no fault of it is told
+pub not_told : (m : System) (n : ℕ) (l : Option Limit) → IsValid m → ¬ IsFaultOf m (code.Fault n l)
+not_told m n l valid told = let e : None ≡ Some (fault n l) = sym valid ∙ told in cc
 
 -- a limit that a walk refuses
 pub due_told : {T : Type 0} (m : System) (limit : Limit) (exceeded : Type 0) (e : BuildFault) (r : Result T BuildFault) → IsErrAnd r (λ d. d ≡ e) → (exceeded → fault_of m ≡ Some (fault 5 (Some limit))) → IsLimitDue limit exceeded e → IfErr r (IsFaultOf m)

@@ -1,6 +1,6 @@
 -- What is known of a valid system: its numbers are in range, its names differ, and it keeps the limits.
 use Rattle.std.proofs.Common.{◌≡◌, ℕ, ◌<◌, ◌≤◌, zero, suc, Bool, true, false, not, ◌||◌, ◌&&◌, nat_lt, nat_eq, List, [], ◌∷◌, map, length, count_by, Option, Some, None, slice_get, option_map, refl, sym, ap, ◌∙◌, inl, inr, arith, true≢false}
-use Rattle.std.proofs.lemmas.Bool.{or_parts, ltb-true, ltb-false, not-false}
+use Rattle.std.proofs.lemmas.Bool.{or_parts, ltb-true, ltb-false, eqb-false, not-false}
 use Rattle.std.proofs.lemmas.Option.{slice_get-map}
 use Rattle.std.proofs.lemmas.Slice.Eq.{bytes_eq-Decides}
 use Rattle.std.specs.List.{list_any, range_with_len, AllByRecursion}
@@ -12,10 +12,10 @@ use Rattle.mcs_system.specs.Systems.{variables}
 use Rattle.mcs_system.specs.Rows.{inputs_of}
 use Rattle.mcs_system.specs.Atoms.{atoms_of}
 use Rattle.mcs_system.specs.declared.limit.Limit.{Limit}
-use Rattle.mcs_system.specs.declared.limit.Limit.TheVariants.{Contexts, Bridges, RulesPerContext, Variables, InputsPerContext, AtomsPerContext, DefaultsPerContext}
+use Rattle.mcs_system.specs.declared.limit.Limit.TheVariants.{Contexts, Bridges, RulesPerContext, Variables, InputsPerContext, AtomsPerContext, DefaultsPerContext, Weight}
 use Rattle.mcs_system.specs.Faults.{reads_of, points_outside, is_atom, is_program, has_misfit, has_unjustified, default_count, has_unknown_context, has_twins, has_twin_names, has_misfits, exceeds, first_exceeded, limits, limit_fault, fault, fault_of, IsValid}
 use Rattle.mcs_base.proofs.Among.{none_get, none_any, among_range}
-use Rattle.mcs_base.proofs.Each.{all_from_no_any}
+use Rattle.mcs_base.proofs.Each.{all_both, all_from_no_any}
 use Rattle.mcs_base.proofs.Booleans.{cond_none_parts, implied}
 
 -- ---- a valid system passes each test
@@ -108,6 +108,15 @@ bridge_names_differ m valid i j b d at at' same =
     let name : Bridge → Name = λ b. b.name in
     twins_are_one (map name m.bridges) (or_parts (has_twins (map (λ (c : Context). c.name) m.contexts)) (has_twins (map name m.bridges)) (tests_pass m valid).apart).1 i j d.name
     (slice_get-map name m.bridges i ∙ (ap (option_map name) at ∙ ap Some same)) (slice_get-map name m.bridges j ∙ ap (option_map name) at')
+
+-- ---- weights
+pub weights_in_range : (m : System) → IsValid m → AllByRecursion (λ (b : Bridge). (1 ≤ b.weight) × (b.weight ≤ 1000000)) m.bridges
+unfolding exceeds
+weights_in_range m valid = all_both (λ (b : Bridge). 1 ≤ b.weight) (λ (b : Bridge). b.weight ≤ 1000000) m.bridges
+    (all_from_no_any (λ (b : Bridge). 1 ≤ b.weight) (has_misfit m.contexts) (λ b e. omega (arith, eqb-false b.weight 0 (or_parts (nat_eq b.weight 0) (has_misfit_part m.contexts b) e).0)) m.bridges
+    (or_parts (list_any (λ (c : Context). has_unjustified c.kb) m.contexts) (list_any (has_misfit m.contexts) m.bridges) (tests_pass m valid).fitting).1)
+    (all_from_no_any (λ (b : Bridge). b.weight ≤ 1000000) (λ (b : Bridge). nat_lt 1000000 b.weight) (λ b e. ltb-false 1000000 b.weight e) m.bridges
+    (limit_kept m valid Weight (inr (inr (inr (inr (inr (inr (inr (inr (inl refl)))))))))))
 
 -- ---- limits
 pub few_contexts : (m : System) → IsValid m → length m.contexts ≤ 64

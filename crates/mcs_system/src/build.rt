@@ -3,8 +3,8 @@
 
 ghost use Rattle.std.specs.Prelude.{◌≡◌, IfOk, IfErr};
 ghost use Rattle.mcs_system.specs.Built.{first_flaw, first_limits, last_limits, IsFaultOf};
-ghost use Rattle.mcs_system.specs.Built.{IsSystemKept};
-ghost use Rattle.mcs_system.specs.Faults.{first_exceeded};
+ghost use Rattle.mcs_system.specs.Built.{PassesFirst, IsGathered, IsSystemKept};
+ghost use Rattle.mcs_system.specs.Faults.{first_exceeded, IsValid};
 ghost use Rattle.mcs_system.specs.Seen.{system_of};
 
 use crate::bridge::Bridge;
@@ -73,6 +73,27 @@ fn last_limit(contexts: &[Context], bridges: &[Bridge]) -> Option<Limit>
     }
 }
 
+/// What a system of these contexts and rules keeps, if they have no flaw and keep the limits that
+/// come before the limit of variables. Refuses if a limit that is counted over variables is
+/// exceeded.
+fn gather(alloc: Global, contexts: &[Context], bridges: &[Bridge]) -> Result<Kept, BuildFault>
+    requires { PassesFirst (system_of contexts.now bridges.now) }
+    ensures ok { IfOk result (IsGathered contexts.now bridges.now) }
+    ensures fault { IfErr result (IsFaultOf (system_of contexts.now bridges.now)) }
+{
+    let variables = variables_of(alloc, contexts, bridges)?;
+    if has_many_inputs(contexts, bridges, &variables) {
+        return Err(BuildFault::exceeded(Limit::InputsPerContext));
+    }
+    let parts = parts_of_contexts(alloc, contexts, bridges, &variables)?;
+    let reads = rule_reads(alloc, &variables, bridges)?;
+    Ok(Kept {
+        variables,
+        parts,
+        reads,
+    })
+}
+
 /// What a system of these contexts and rules keeps, or the first of their faults.
 pub(crate) fn keep(
     alloc: Global,
@@ -88,19 +109,27 @@ pub(crate) fn keep(
     if let Some(limit) = first_limit(contexts, bridges) {
         return Err(BuildFault::exceeded(limit));
     }
-    let variables = variables_of(alloc, contexts, bridges)?;
-    if has_many_inputs(contexts, bridges, &variables) {
-        return Err(BuildFault::exceeded(Limit::InputsPerContext));
-    }
-    let parts = parts_of_contexts(alloc, contexts, bridges, &variables)?;
+    let kept = gather(alloc, contexts, bridges)?;
     if let Some(limit) = last_limit(contexts, bridges) {
         return Err(BuildFault::exceeded(limit));
     }
-    let reads = rule_reads(alloc, &variables, bridges)?;
     are_named(contexts, bridges);
-    Ok(Kept {
-        variables,
-        parts,
-        reads,
-    })
+    Ok(kept)
+}
+
+/// What a system of these contexts and rules keeps, if they have none of the faults.
+pub(crate) fn keep_valid(
+    alloc: Global,
+    contexts: &[Context],
+    bridges: &[Bridge],
+) -> Result<Kept, Memory>
+    requires { IsValid (system_of contexts.now bridges.now) }
+    ensures { IfOk result (IsSystemKept contexts.now bridges.now) }
+{
+    are_named(contexts, bridges);
+    match gather(alloc, contexts, bridges) {
+        Ok(kept) => Ok(kept),
+        Err(BuildFault::Memory) => Err(Memory),
+        Err(BuildFault::Fault { .. }) => unreachable!(),
+    }
 }

@@ -16,12 +16,12 @@ ghost use Rattle.mcs_system.specs.Seen.{context_of, bridge_of, read_of, system_o
 ghost use Rattle.mcs_system.specs.Systems.{variables, variables_of, applicable, is_applicable};
 
 use crate::bridge::{Bridge, Read};
-use crate::build::keep;
+use crate::build::{keep, keep_valid};
 use crate::fault::BuildFault;
 use crate::knowledge::Context;
 use crate::name::Name;
 use crate::parts::{ContextParts, Kept, RuleReads};
-use mcs_base::{Active, Marks, Vars};
+use mcs_base::{Active, Marks, Memory, Vars};
 use std::alloc::Global;
 use std::marker::Model;
 
@@ -69,6 +69,24 @@ impl System {
         ensures fault { IfErr result (IsFaultOf (system_of contexts.items bridges.items)) }
     {
         let kept = keep(alloc, &contexts, &bridges)?;
+        Ok(System {
+            contexts,
+            bridges,
+            kept,
+        })
+    }
+
+    /// The system of these contexts and bridge rules, which have none of the faults that `build`
+    /// answers.
+    pub fn of_valid(
+        alloc: Global,
+        contexts: Vec<Context>,
+        bridges: Vec<Bridge>,
+    ) -> Result<System, Memory>
+        requires { IsValid (system_of contexts.items bridges.items) }
+        ensures { IfOk result (λ s. s ≡ system_of contexts.items bridges.items) }
+    {
+        let kept = keep_valid(alloc, &contexts, &bridges)?;
         Ok(System {
             contexts,
             bridges,

@@ -1,7 +1,6 @@
-use Rattle.mcs_generator.proofs.FaultLemmas.{not_faulty}
+use Rattle.std.proofs.Common.{◌∙◌}
+use Rattle.mcs_generator.proofs.FaultLemmas.{generated_parts, valid_parts}
 use Rattle.mcs_generator.proofs.generating.generate.Goals as goal
 
-pub unreachable-requires : goal.unreachable-requires
-unreachable-requires c =
-    let told = rw c.in-Err-Fault.field-0-is at c.in-Err-Fault.ensures in
-    not_faulty c.args.number c.in_ok-contexts.contexts.items c.in_ok-bridges.bridges.items c.in-Err-Fault.field-0-0 c.in-Err-Fault.field-0-1 c.in_ok-contexts.ensures c.in_ok-bridges.ensures told.fault
+pub of_valid-requires : goal.of_valid-requires
+of_valid-requires c = valid_parts c.args.number c.in_ok-contexts.contexts.items c.in_ok-bridges.bridges.items c.in_ok-contexts.ensures c.in_ok-bridges.ensures
