@@ -117,3 +117,17 @@ returns-clause-played g c = λ budget ready.
 pub returns-clause-left : goal.returns-clause-left
 returns-clause-left g c = λ budget ready.
     in_play_sound c.args.plan.now c.args.level budget c.args.asked c.args.nodes.now ready c.order-i-items.result.now c.order-i-items.ensures.order c.loop-i.i-index c.loop-i.nodes c.loop-i.total (c.loop-i.invariant budget ready)
+
+pub returns-in_err-begin_all-clause-played : goal.returns-in_err-begin_all-clause-played
+returns-in_err-begin_all-clause-played g c = λ budget ready.
+    let p = err_from_is_err_and c.from_residual.result c.from_residual.ensures.1 in
+    rw (p.1, p.2) (play_stopped c.args.plan.now c.args.level budget c.args.asked c.args.nodes.now ready c.begin_all.new.nodes Memory c.begin_all.ensures.same tt)
+
+pub bounds-nodes-i : goal.bounds-nodes-i
+bounds-nodes-i g c =
+    let (budget, ready) = c.requires.ready in
+    let less = here_below c.args.plan.now c.args.level budget c.args.asked c.args.nodes.now ready c.order-i-items.result.now c.order-i-items.ensures.order c.loop-i.i-index c.loop-i-test.true c.loop-i.nodes c.loop-i.total (c.loop-i.invariant budget ready) in
+    less
+
+pub grant_need-requires-clause-asks : goal.grant_need-requires-clause-asks
+grant_need-requires-clause-asks g c = c.requires.asks
