@@ -7,7 +7,9 @@ use mcs_base::{Memory, Text, Vars};
 use mcs_proof_text::{answer_lines, reports_have_one_fault, spelled_reports_have_no_fault};
 use mcs_spelling::push_atoms;
 use mcs_system::System;
-use mcs_trace::{AnswerSetCert, ClassicalCert, DefaultCert, Entail, Outside, ProgramCert, SetCert};
+use mcs_trace::{
+    AnswerSetCert, ClassicalCert, DefaultCert, Entail, Outside, ProgramCert, SetCert, Trace,
+};
 use std::alloc::Global;
 use std::test::Fail;
 
@@ -20,11 +22,11 @@ fn yes(alloc: Global) -> Result<Entail, Fail> {
     Ok(Entail::Yes(trace_of(alloc, "step by 1 2\n")?))
 }
 
-/// By one step that it follows, alone.
-fn only_yes(alloc: Global) -> Result<Vec<Entail>, Fail> {
-    let mut entails = Vec::new(alloc);
-    entails.push(yes(alloc)?)?;
-    Ok(entails)
+/// Appends that it follows, by one step.
+fn push_yes(alloc: Global, entails: &mut Vec<Entail>) -> Result<(), Fail> {
+    let entail = yes(alloc)?;
+    entails.push(entail)?;
+    Ok(())
 }
 
 /// By this set of atoms that it does not follow, alone.
@@ -37,8 +39,13 @@ fn only_no(alloc: Global, set: u64) -> Result<Vec<Entail>, Memory> {
 /// Entailments, one that follows and one that does not.
 fn of_formulas(alloc: Global) -> Result<AnswerCert, Fail> {
     let mut entails = only_no(alloc, 2)?;
-    entails.push(yes(alloc)?)?;
-    Ok(AnswerCert::Classical(ClassicalCert { entails }))
+    match push_yes(alloc, &mut entails) {
+        Ok(()) => Ok(AnswerCert::Classical(ClassicalCert { entails })),
+        Err(fail) => {
+            drop(entails);
+            Err(fail)
+        }
+    }
 }
 
 /// What shows of one of the sets of two defaults whether it generates an extension: each shows it
@@ -58,71 +65,144 @@ const VERDICTS: &[Verdict] = &[
     Verdict::Extension,
 ];
 
-/// That the first default is not supported, alone.
-fn only_unsupported(alloc: Global) -> Result<Vec<Outside>, Memory> {
-    let mut outside = Vec::new(alloc);
-    outside.push(Outside::Unsupported(1, Entail::No(1)))?;
-    Ok(outside)
+/// The parts of a certificate that a set generates an extension.
+#[derive(Drop)]
+struct Parts {
+    order: Vec<u32>,
+    pres: Vec<Entail>,
+    justs: Vec<Entail>,
+    outside: Vec<Outside>,
+    outputs: Vec<Entail>,
+}
+
+impl Parts {
+    /// Fills the parts, which are empty, for the set of both defaults.
+    fn fill(&mut self, alloc: Global) -> Result<(), Fail> {
+        self.order.push(2)?;
+        self.order.push(1)?;
+        push_yes(alloc, &mut self.pres)?;
+        self.justs.push(Entail::No(0))?;
+        self.outside.push(Outside::Unsupported(1, Entail::No(1)))?;
+        self.outputs.push(Entail::No(3))?;
+        Ok(())
+    }
+
+    /// The certificate.
+    fn shown(self) -> SetCert {
+        SetCert::Extension {
+            order: self.order,
+            pres: self.pres,
+            justs: self.justs,
+            outside: self.outside,
+            outputs: self.outputs,
+        }
+    }
 }
 
 /// That the set of both defaults generates an extension.
 fn extension(alloc: Global) -> Result<SetCert, Fail> {
-    let order = [2, 1].to_vec(alloc)?;
-    let pres = only_yes(alloc)?;
-    let justs = only_no(alloc, 0)?;
-    let outside = only_unsupported(alloc)?;
-    let outputs = only_no(alloc, 3)?;
-    Ok(SetCert::Extension {
-        order,
-        pres,
-        justs,
-        outside,
-        outputs,
-    })
+    let mut parts = Parts {
+        order: Vec::new(alloc),
+        pres: Vec::new(alloc),
+        justs: Vec::new(alloc),
+        outside: Vec::new(alloc),
+        outputs: Vec::new(alloc),
+    };
+    match parts.fill(alloc) {
+        Ok(()) => Ok(parts.shown()),
+        Err(fail) => {
+            drop(parts);
+            Err(fail)
+        }
+    }
+}
+
+/// That the second default applies and is not in the set.
+fn applied(alloc: Global) -> Result<SetCert, Fail> {
+    let justs = only_no(alloc, 1)?;
+    match yes(alloc) {
+        Ok(pre) => Ok(SetCert::Applied {
+            number: 2,
+            pre,
+            justs,
+        }),
+        Err(fail) => {
+            drop(justs);
+            Err(fail)
+        }
+    }
+}
+
+/// That the second default is not grounded in the first one.
+fn ungrounded(alloc: Global) -> Result<SetCert, Memory> {
+    let pres = only_no(alloc, 2)?;
+    Ok(SetCert::Ungrounded { closed: 1, pres })
 }
 
 /// The verdict.
 fn shown(alloc: Global, verdict: &Verdict) -> Result<SetCert, Fail> {
-    Ok(match verdict {
-        Verdict::Blocked => SetCert::Fails(Outside::Blocked(1, 2, yes(alloc)?)),
-        Verdict::Applied => {
-            let justs = only_no(alloc, 1)?;
-            let pre = yes(alloc)?;
-            SetCert::Applied {
-                number: 2,
-                pre,
-                justs,
-            }
-        }
-        Verdict::Ungrounded => SetCert::Ungrounded {
-            closed: 1,
-            pres: only_no(alloc, 2)?,
-        },
-        Verdict::Extension => extension(alloc)?,
-    })
+    match verdict {
+        Verdict::Blocked => Ok(SetCert::Fails(Outside::Blocked(1, 2, yes(alloc)?))),
+        Verdict::Applied => applied(alloc),
+        Verdict::Ungrounded => Ok(ungrounded(alloc)?),
+        Verdict::Extension => extension(alloc),
+    }
+}
+
+/// Appends verdicts of each kind.
+fn push_verdicts(alloc: Global, sets: &mut Vec<SetCert>) -> Result<(), Fail> {
+    for verdict in VERDICTS {
+        let set = shown(alloc, verdict)?;
+        sets.push(set)?;
+    }
+    Ok(())
 }
 
 /// Verdicts of each kind.
 fn of_defaults(alloc: Global) -> Result<AnswerCert, Fail> {
     let mut sets = Vec::new(alloc);
-    for verdict in VERDICTS {
-        sets.push(shown(alloc, verdict)?)?;
+    match push_verdicts(alloc, &mut sets) {
+        Ok(()) => Ok(AnswerCert::Default(DefaultCert { sets })),
+        Err(fail) => {
+            drop(sets);
+            Err(fail)
+        }
     }
-    Ok(AnswerCert::Default(DefaultCert { sets }))
+}
+
+/// Appends a model, with the trace that it is minimal.
+fn push_model(alloc: Global, models: &mut Vec<AnswerSetCert>) -> Result<(), Fail> {
+    let minimal = trace_of(alloc, "step 1 -2 by 3\n")?;
+    models.push(AnswerSetCert { model: 1, minimal })?;
+    Ok(())
+}
+
+/// Appends a model and two smaller sets; a last trace.
+fn fill_program(
+    alloc: Global,
+    models: &mut Vec<AnswerSetCert>,
+    smaller: &mut Vec<u64>,
+) -> Result<Trace, Fail> {
+    push_model(alloc, models)?;
+    smaller.push(0)?;
+    smaller.push(2)?;
+    trace_of(alloc, "step by 4\n")
 }
 
 /// A model, two smaller sets, and a last trace.
 fn of_program(alloc: Global) -> Result<AnswerCert, Fail> {
-    let mut models = Vec::new(alloc);
-    let minimal = trace_of(alloc, "step 1 -2 by 3\n")?;
-    models.push(AnswerSetCert { model: 1, minimal })?;
-    let smaller = [0, 2].to_vec(alloc)?;
-    let none = trace_of(alloc, "step by 4\n")?;
-    Ok(AnswerCert::Program(ProgramCert {
-        models,
-        smaller,
-        none,
-    }))
+    let (mut models, mut smaller) = (Vec::new(alloc), Vec::new(alloc));
+    match fill_program(alloc, &mut models, &mut smaller) {
+        Ok(none) => Ok(AnswerCert::Program(ProgramCert {
+            models,
+            smaller,
+            none,
+        })),
+        Err(fail) => {
+            drop((models, smaller));
+            Err(fail)
+        }
+    }
 }
 
 const FORMULAS: &str =

@@ -100,12 +100,13 @@ fn has(alloc: Global, system: &Arc<System>, marks: Marks, wanted: &Wanted) -> Re
 
 #[test]
 fn changed_systems_have_their_states(rt: HostRuntime) -> Result<(), Fail> {
+    let mut are_right = true;
     for (text, marks, wanted) in CHANGES {
         let system = system_of(rt.alloc(), text)?;
-        let is_right = has(rt.alloc(), &system, marks_of(marks), wanted);
+        are_right &= has(rt.alloc(), &system, marks_of(marks), wanted) == Ok(true);
         drop(system);
-        assert!(rt; is_right == Ok(true));
     }
+    assert!(rt; are_right);
     Ok(())
 }
 

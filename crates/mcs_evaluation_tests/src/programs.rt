@@ -179,12 +179,13 @@ const PROGRAMS: &[(&str, &[u64], usize)] = &[
 
 #[test]
 fn answer_sets_are_shown(rt: HostRuntime) -> Result<(), Fail> {
+    let mut are_right = true;
     for (text, views, models) in PROGRAMS {
         let system = system_of(rt.alloc(), text)?;
-        let is_right = has_views(rt.alloc(), &system, views, *models);
+        are_right &= has_views(rt.alloc(), &system, views, *models) == Ok(true);
         drop(system);
-        assert!(rt; is_right == Ok(true));
     }
+    assert!(rt; are_right);
     Ok(())
 }
 
@@ -208,11 +209,12 @@ const PROGRAMS_SEEN_THROUGH_TWO: &[(&str, &[u64])] = &[
 
 #[test]
 fn answer_sets_are_seen_through_two_atoms(rt: HostRuntime) -> Result<(), Fail> {
+    let mut are_right = true;
     for (text, views) in PROGRAMS_SEEN_THROUGH_TWO {
         let system = system_of(rt.alloc(), text)?;
-        let is_right = has_views_of_two(rt.alloc(), &system, views);
+        are_right &= has_views_of_two(rt.alloc(), &system, views) == Ok(true);
         drop(system);
-        assert!(rt; is_right == Ok(true));
     }
+    assert!(rt; are_right);
     Ok(())
 }

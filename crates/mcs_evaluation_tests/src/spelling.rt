@@ -33,19 +33,24 @@ const NUMBERS: &[(&str, Option<&[u64]>, Option<u64>)] = &[
 
 /// Whether the text spells just these numbers.
 fn spells(alloc: Global, text: &str, numbers: &Option<&[u64]>) -> Result<bool, Memory> {
-    Ok(match (read_numbers(alloc, text.as_bytes())?, numbers) {
+    let found = read_numbers(alloc, text.as_bytes())?;
+    let is_right = match (&found, numbers) {
         (Some(found), Some(wanted)) => found.as_slice() == *wanted,
         (None, None) => true,
         _ => false,
-    })
+    };
+    drop(found);
+    Ok(is_right)
 }
 
 #[test]
 fn numbers_are_read(rt: HostRuntime) {
+    let mut are_read = true;
     for (text, numbers, number) in NUMBERS {
-        let is_read = read_number(text.as_bytes()) == *number;
-        assert!(rt; is_read && spells(rt.alloc(), text, numbers) == Ok(true));
+        are_read &= read_number(text.as_bytes()) == *number;
+        are_read &= spells(rt.alloc(), text, numbers) == Ok(true);
     }
+    assert!(rt; are_read);
 }
 
 /// Texts of sets of the numbers 0 to 2, by their names `a`, `ab` and `b`: the set that each is
@@ -63,12 +68,23 @@ const SETS: &[(&str, Option<u64>, Option<u64>)] = &[
     ("{b", None, None),
 ];
 
+/// The text of the word.
+fn text_of(alloc: Global, word: &str) -> Result<Text, Memory> {
+    let mut text = Text::new(alloc);
+    match text.push(word.as_bytes()) {
+        Ok(()) => Ok(text),
+        Err(want) => {
+            drop(text);
+            Err(want)
+        }
+    }
+}
+
 /// The texts of these words.
 pub(crate) fn texts_of(alloc: Global, words: &[&str]) -> Result<Vec<Text>, Memory> {
     let mut texts = Vec::new(alloc);
     for word in words {
-        let mut text = Text::new(alloc);
-        text.push(word.as_bytes())?;
+        let text = text_of(alloc, word)?;
         texts.push(text)?;
     }
     Ok(texts)
@@ -122,33 +138,33 @@ const STEPS: &[(&str, Option<StepParts>)] = &[
 /// Whether the step has these parts, and is written as the line.
 fn is_step(alloc: Global, step: &Step, parts: &StepParts, line: &str) -> Result<bool, Memory> {
     let mut text = Text::new(alloc);
-    push_step(&mut text, step)?;
+    let pushed = push_step(&mut text, step);
+    let is_line = text.bytes() == line.as_bytes();
+    drop(text);
+    pushed?;
     let (literals, chain) = *parts;
-    Ok(
-        text.bytes() == line.as_bytes()
-            && step.clause.literals() == literals
-            && step.chain.as_slice() == chain,
-    )
+    Ok(is_line && step.clause.literals() == literals && step.chain.as_slice() == chain)
 }
 
 /// Whether the line is just the step of these parts, read and written.
 fn is_read(alloc: Global, line: &str, parts: &Option<StepParts>) -> Result<bool, Memory> {
-    match (read_step(alloc, line.as_bytes())?, parts) {
-        (Some(step), Some(parts)) => {
-            let is_right = is_step(alloc, &step, parts, line);
-            drop(step);
-            is_right
-        }
+    let found = read_step(alloc, line.as_bytes())?;
+    let is_right = match (&found, parts) {
+        (Some(step), Some(parts)) => is_step(alloc, step, parts, line),
         (None, None) => Ok(true),
         _ => Ok(false),
-    }
+    };
+    drop(found);
+    is_right
 }
 
 #[test]
 fn steps_are_read_and_written(rt: HostRuntime) {
+    let mut are_read = true;
     for (line, parts) in STEPS {
-        assert!(rt; is_read(rt.alloc(), line, parts) == Ok(true));
+        are_read &= is_read(rt.alloc(), line, parts) == Ok(true);
     }
+    assert!(rt; are_read);
 }
 
 #[test]

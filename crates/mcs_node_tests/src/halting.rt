@@ -10,7 +10,7 @@ use std::alloc::Global;
 use std::marker::Model;
 
 /// How an oracle halts a round.
-#[derive(Clone, Copy, Debug, PartialEq, Eq)]
+#[derive(Clone, Copy)]
 pub(crate) enum Halting {
     Never,
     /// It lacks every answer.

@@ -61,16 +61,19 @@ fn halts(
     let mut mesh = mesh_of(alloc, system, budget, at, &IdleGate)?;
     let is_right = mesh.repairs(alloc, 0) == Err(halt) && are_stopped(&mesh, halt) && mesh.halted();
     let oracles = mesh.into_oracles()?;
-    Ok(is_right && oracles.len() == 3)
+    let count = oracles.len();
+    drop(oracles);
+    Ok(is_right && count == 3)
 }
 
 #[test]
 fn rounds_halt_before_they_end(rt: HostRuntime) -> Result<(), Fail> {
     let system = system_of(rt.alloc(), THREE.as_bytes())?;
+    let mut are_right = true;
     for (budget, halting) in HALTS {
-        let is_right = halts(rt.alloc(), &system, *budget, *halting);
-        assert!(rt; is_right == Ok(true));
+        are_right &= halts(rt.alloc(), &system, *budget, *halting) == Ok(true);
     }
     drop(system);
+    assert!(rt; are_right);
     Ok(())
 }

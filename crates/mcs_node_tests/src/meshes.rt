@@ -21,7 +21,7 @@ use std::test::Fail;
 pub(crate) type Meshed<'g> = Mesh<'g, HaltingOracle, IdleGate>;
 
 /// The context at which a round halts, and how.
-#[derive(Clone, Copy, Debug, PartialEq, Eq)]
+#[derive(Clone, Copy)]
 pub(crate) struct HaltAt {
     pub context: u32,
     pub halting: Halting,

@@ -79,8 +79,15 @@ pub(crate) fn hand_twice(
     let Some(letter) = sender.next_out() else {
         return Ok(None);
     };
-    let again = letter.copy()?;
-    let once = node.handle(alloc, letter);
-    let twice = node.handle(alloc, again);
-    Ok(Some((once, twice)))
+    match letter.copy() {
+        Ok(again) => {
+            let once = node.handle(alloc, letter);
+            let twice = node.handle(alloc, again);
+            Ok(Some((once, twice)))
+        }
+        Err(want) => {
+            drop(letter);
+            Err(want)
+        }
+    }
 }

@@ -1,8 +1,12 @@
 //! A round of three contexts in each order of its events.
 
+ghost use Rattle.std.specs.Prelude.{◌≡◌, false, None};
+
+use crate::halting::HaltingOracle;
 use crate::meshes::{Meshed, NOWHERE, mesh_of, system_of};
 use mcs_base::Memory;
 use mcs_node::Event::{self, Begin, Deliver, Grant};
+use mcs_node::Node;
 use mcs_ports::IdleGate;
 use mcs_system::System;
 use mcs_table::Row;
@@ -48,51 +52,105 @@ const ORDERS: [[usize; 4]; 24] = [
 
 /// All begin; twice, what is between comes in this order, since a letter may have come before it
 /// was put out; then the third is granted.
-fn events_in(alloc: Global, order: &[usize; 4]) -> Result<Vec<Event>, Memory> {
-    let mut events = [Begin(0), Begin(1), Begin(2)].to_vec(alloc)?;
-    for place in order.iter().chain(order) {
-        events.push(BETWEEN[*place % 4])?;
-    }
-    events.push(Grant(2))?;
-    Ok(events)
+fn events_in(order: &[usize; 4]) -> [Event; 12] {
+    let [first, second, third, fourth] = *order;
+    let (a, b) = (BETWEEN[first % 4], BETWEEN[second % 4]);
+    let (c, d) = (BETWEEN[third % 4], BETWEEN[fourth % 4]);
+    [
+        Begin(0),
+        Begin(1),
+        Begin(2),
+        a,
+        b,
+        c,
+        d,
+        a,
+        b,
+        c,
+        d,
+        Grant(2),
+    ]
+}
+
+/// Appends the local rows of the node; whether it is done.
+fn push_rows(
+    alloc: Global,
+    node: &Node<HaltingOracle>,
+    rows: &mut Vec<Row>,
+) -> Result<bool, Memory> {
+    let Some(table) = node.local(alloc)? else {
+        return Ok(false);
+    };
+    let pushed = rows.extend_from_slice(table.rows());
+    drop(table);
+    pushed?;
+    Ok(true)
 }
 
 /// The local rows of all contexts, one after the other; `None` where a node is not done.
 fn rows_of(alloc: Global, mesh: &Meshed<'_>) -> Result<Option<Vec<Row>>, Memory> {
     let mut rows = Vec::new(alloc);
     for node in mesh.nodes() {
-        let Some(table) = node.local(alloc)? else {
+        if !push_rows(alloc, node, &mut rows)? {
             return Ok(None);
-        };
-        rows.extend_from_slice(table.rows())?;
+        }
     }
     Ok(Some(rows))
 }
 
-/// The local rows after the round of level 1 in this order, where it ends with two letters put out.
+/// The local rows after these events of level 1, where the round ends with two letters put out.
+fn rows_by(
+    alloc: Global,
+    mesh: &mut Meshed<'_>,
+    events: &[Event],
+) -> Result<Option<Vec<Row>>, Memory>
+    requires going { mesh.old.state.halted ≡ false }
+    requires first { mesh.old.last ≡ None }
+{
+    let replay = mesh.replay(alloc, 1, events)?;
+    if !replay.done || replay.put_out != 2 {
+        return Ok(None);
+    }
+    rows_of(alloc, mesh)
+}
+
+/// The local rows after the round in this order.
 fn rows_after(
     alloc: Global,
     system: &Arc<System>,
     order: &[usize; 4],
 ) -> Result<Option<Vec<Row>>, Memory> {
-    let events = events_in(alloc, order)?;
     let mut mesh = mesh_of(alloc, system, 8, NOWHERE, &IdleGate)?;
-    let replay = mesh.replay(alloc, 1, &events)?;
-    if !replay.done || replay.put_out != 2 {
-        return Ok(None);
+    let rows = rows_by(alloc, &mut mesh, &events_in(order));
+    drop(mesh);
+    rows
+}
+
+/// Whether these are the local rows after the round in this order.
+fn are_rows(
+    alloc: Global,
+    system: &Arc<System>,
+    order: &[usize; 4],
+    rows: &[Row],
+) -> Result<bool, Memory> {
+    match rows_after(alloc, system, order)? {
+        Some(found) => Ok(found.as_slice() == rows),
+        None => Ok(false),
     }
-    rows_of(alloc, &mesh)
 }
 
 /// Whether the round has five local rows in each order of its events, the same in all: one of each
 /// of the first two contexts; of the third one for no change, and one for each of its rules
 /// removed.
 fn are_alike(alloc: Global, system: &Arc<System>) -> Result<bool, Memory> {
-    let first = rows_after(alloc, system, &ORDERS[0])?;
-    let mut are_alike = first.as_ref().map(|rows| rows.len()) == Some(5);
+    let Some(first) = rows_after(alloc, system, &ORDERS[0])? else {
+        return Ok(false);
+    };
+    let mut are_alike = first.len() == 5;
     for order in &ORDERS {
-        are_alike = are_alike && rows_after(alloc, system, order)? == first;
+        are_alike &= are_rows(alloc, system, order, &first) == Ok(true);
     }
+    drop(first);
     Ok(are_alike)
 }
 

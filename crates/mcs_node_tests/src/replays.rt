@@ -16,7 +16,7 @@ use std::test::Fail;
 const ALONE: &str = "context c1 program {} bridge r1: c1:a if c1:a.";
 
 /// What a replay of events of level 0 tells.
-#[derive(Clone, Copy, Debug, PartialEq, Eq)]
+#[derive(Clone, Copy)]
 struct Told {
     put_out: u32,
     ignored: u64,
@@ -189,19 +189,20 @@ fn tells(
     told: Told,
 ) -> Result<bool, Memory> {
     let mut mesh = mesh_of(alloc, system, budget, NOWHERE, &IdleGate)?;
-    let replay = mesh.replay(alloc, 0, events)?;
+    let replay = mesh.replay(alloc, 0, events);
     let is_halted = mesh.halted();
     drop(mesh);
-    Ok(is_told(replay, told) && is_halted)
+    Ok(is_told(replay?, told) && is_halted)
 }
 
 #[test]
 fn events_are_replayed(rt: HostRuntime) -> Result<(), Fail> {
+    let mut are_told = true;
     for (text, events, budget, told) in REPLAYS {
         let system = system_of(rt.alloc(), text.as_bytes())?;
-        let is_told = tells(rt.alloc(), &system, events, *budget, *told);
+        are_told &= tells(rt.alloc(), &system, events, *budget, *told) == Ok(true);
         drop(system);
-        assert!(rt; is_told == Ok(true));
     }
+    assert!(rt; are_told);
     Ok(())
 }

@@ -51,16 +51,6 @@ fn take_both_turns(alloc: Global, nodes: &mut Two) -> Result<bool, Memory> {
     Ok(is_first_turn(nodes) && takes_first_turn(alloc, nodes)? && takes_second_turn(alloc, nodes))
 }
 
-/// Whether the nodes of the system take turns within a budget of two questions.
-fn take_turns(alloc: Global, system: &Arc<System>) -> Result<bool, Memory> {
-    let Some(mut nodes) = begin_two(alloc, system, 2)? else {
-        return Ok(false);
-    };
-    let is_right = take_both_turns(alloc, &mut nodes);
-    drop(nodes);
-    is_right
-}
-
 /// Whether the second node stops by itself when it is granted two questions, which are more than
 /// the budget.
 fn is_stopped_second(alloc: Global, nodes: &mut Two) -> Result<bool, Memory> {
@@ -73,16 +63,6 @@ fn is_stopped_second(alloc: Global, nodes: &mut Two) -> Result<bool, Memory> {
             && nodes.second.by_itself()
             && !nodes.second.is_done(),
     )
-}
-
-/// Whether the second node of the system stops by itself within a budget of one question.
-fn stops_second(alloc: Global, system: &Arc<System>) -> Result<bool, Memory> {
-    let Some(mut nodes) = begin_two(alloc, system, 1)? else {
-        return Ok(false);
-    };
-    let is_right = is_stopped_second(alloc, &mut nodes);
-    drop(nodes);
-    is_right
 }
 
 /// Whether the next letter of the first node is a stop, which stops the second one with its halt.
@@ -98,21 +78,14 @@ fn carries_stop(alloc: Global, nodes: &mut Two) -> bool {
     is_stop && handled == Handled::Took
 }
 
-/// Whether the first node of the system stops within a budget of no question, and stops the second
-/// one.
-fn stops_both(alloc: Global, system: &Arc<System>) -> Result<bool, Memory> {
-    let Some(mut nodes) = begin_two(alloc, system, 0)? else {
-        return Ok(false);
-    };
+/// Whether the first node stops when it is granted a question, which is more than the budget, and
+/// stops the second one.
+fn are_both_stopped(alloc: Global, nodes: &mut Two) -> bool {
     let total = grant(alloc, &mut nodes.first, 0);
-    let is_right = total == Some(1)
-        && carries_stop(alloc, &mut nodes)
+    total == Some(1)
+        && carries_stop(alloc, nodes)
         && nodes.second.stopped() == Some(Halt::Spent { level: 0, drawn: 1 })
-        && !nodes.second.by_itself();
-    let Two { first, second } = nodes;
-    drop(first.take_oracle());
-    drop(second.take_oracle());
-    Ok(is_right)
+        && !nodes.second.by_itself()
 }
 
 /// Whether a letter of the first node to the third one is ignored by the second one, which still
@@ -127,34 +100,57 @@ fn is_ignored(alloc: Global, nodes: &mut Two) -> bool {
     is_stranger && handled == Handled::Ignored && nodes.second.needs() == Some(1)
 }
 
-/// Whether the second node of the system ignores a letter to the third one.
-fn ignores_stranger(alloc: Global, system: &Arc<System>) -> Result<bool, Memory> {
-    let Some(mut nodes) = begin_two(alloc, system, 3)? else {
-        return Ok(false);
-    };
-    let is_ignored = is_ignored(alloc, &mut nodes);
-    drop(nodes);
-    Ok(is_ignored)
+/// What comes of two nodes.
+enum Outcome {
+    BothDone,
+    SecondStopped,
+    BothStopped,
+    StrangerIgnored,
 }
 
-#[test]
-fn strangers_are_ignored(rt: HostRuntime) -> Result<(), Fail> {
-    let system = system_of(rt.alloc(), THREE.as_bytes())?;
-    let ignores = ignores_stranger(rt.alloc(), &system);
-    drop(system);
-    assert!(rt; ignores == Ok(true));
-    Ok(())
+/// Texts of systems, budgets of questions, and what comes of the nodes of the first two contexts.
+const OUTCOMES: &[(&str, u64, Outcome)] = &[
+    (TOLD, 2, Outcome::BothDone),
+    (TOLD, 1, Outcome::SecondStopped),
+    (TOLD, 0, Outcome::BothStopped),
+    (THREE, 3, Outcome::StrangerIgnored),
+];
+
+/// Whether this comes of the nodes.
+fn comes(alloc: Global, nodes: &mut Two, outcome: &Outcome) -> Result<bool, Memory> {
+    match outcome {
+        Outcome::BothDone => take_both_turns(alloc, nodes),
+        Outcome::SecondStopped => is_stopped_second(alloc, nodes),
+        Outcome::BothStopped => Ok(are_both_stopped(alloc, nodes)),
+        Outcome::StrangerIgnored => Ok(is_ignored(alloc, nodes)),
+    }
+}
+
+/// Whether this comes of the nodes of the system within the budget. They give back their solvers.
+fn comes_within(
+    alloc: Global,
+    system: &Arc<System>,
+    budget: u64,
+    outcome: &Outcome,
+) -> Result<bool, Memory> {
+    let Some(mut nodes) = begin_two(alloc, system, budget)? else {
+        return Ok(false);
+    };
+    let is_right = comes(alloc, &mut nodes, outcome);
+    let Two { first, second } = nodes;
+    drop(first.take_oracle());
+    drop(second.take_oracle());
+    is_right
 }
 
 #[test]
 fn nodes_take_turns(rt: HostRuntime) -> Result<(), Fail> {
-    let system = system_of(rt.alloc(), TOLD.as_bytes())?;
-    let takes = take_turns(rt.alloc(), &system);
-    let stops = stops_second(rt.alloc(), &system);
-    let carries = stops_both(rt.alloc(), &system);
-    drop(system);
-    assert!(rt; takes == Ok(true));
-    assert!(rt; stops == Ok(true));
-    assert!(rt; carries == Ok(true));
+    let mut are_right = true;
+    for (text, budget, outcome) in OUTCOMES {
+        let system = system_of(rt.alloc(), text.as_bytes())?;
+        are_right &= comes_within(rt.alloc(), &system, *budget, outcome) == Ok(true);
+        drop(system);
+    }
+    assert!(rt; are_right);
     Ok(())
 }

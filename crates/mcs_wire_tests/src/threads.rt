@@ -12,7 +12,6 @@ use mcs_node::Letter;
 use mcs_wire::{Address, Ends, Inbox, Settled, settle, wire};
 use std::alloc::Global;
 use std::sync::{Arc, Wait};
-use std::test::Fail;
 use std::thread;
 use std::thread::Threads;
 
@@ -386,19 +385,23 @@ fn is_counted(counted: &Counted, sent: u64, got: u64, levels: usize, times: u32)
         && are_all(counts, times)
 }
 
-#[test]
-fn four_threads_send_and_one_takes(rt: HostRuntime) -> Result<(), Fail> {
-    let plan = plan_of_two(rt.alloc())?;
-    let counted = four_send(&rt, rt.alloc(), &plan, 1000, 2500);
-    drop(plan);
-    let counted = counted?;
-    let is_right = match &counted {
-        Some(counted) => is_counted(counted, 4000, 2500, 2000, 2),
-        None => false,
+/// Whether all that four threads send arrives, while a fifth takes some.
+fn are_four_heard<R: Threads + Wait + Sync>(rt: &R, alloc: Global) -> bool {
+    let Some(plan) = plan_of_two(alloc) else {
+        return false;
     };
-    drop(counted);
-    assert!(rt; is_right);
-    Ok(())
+    let counted = four_send(rt, alloc, &plan, 1000, 2500);
+    let is_right = match &counted {
+        Ok(Some(counted)) => is_counted(counted, 4000, 2500, 2000, 2),
+        _ => false,
+    };
+    drop((plan, counted));
+    is_right
+}
+
+#[test]
+fn four_threads_send_and_one_takes(rt: HostRuntime) {
+    assert!(rt; are_four_heard(&rt, rt.alloc()));
 }
 
 /// One thread sends letters of so many levels through an inbox that holds one, while another one
@@ -428,17 +431,21 @@ fn two_exchange<R: Threads + Wait + Sync>(
     settle_all(rt, alloc, address, taken, 1)
 }
 
-#[test]
-fn two_threads_exchange_through_one_place(rt: HostRuntime) -> Result<(), Fail> {
-    let plan = plan_of_two(rt.alloc())?;
-    let counted = two_exchange(&rt, rt.alloc(), &plan, 500);
-    drop(plan);
-    let counted = counted?;
-    let is_right = match &counted {
-        Some(counted) => is_counted(counted, 500, 500, 500, 1),
-        None => false,
+/// Whether all that one thread sends arrives, while another takes it.
+fn is_one_heard<R: Threads + Wait + Sync>(rt: &R, alloc: Global) -> bool {
+    let Some(plan) = plan_of_two(alloc) else {
+        return false;
     };
-    drop(counted);
-    assert!(rt; is_right);
-    Ok(())
+    let counted = two_exchange(rt, alloc, &plan, 500);
+    let is_right = match &counted {
+        Ok(Some(counted)) => is_counted(counted, 500, 500, 500, 1),
+        _ => false,
+    };
+    drop((plan, counted));
+    is_right
+}
+
+#[test]
+fn two_threads_exchange_through_one_place(rt: HostRuntime) {
+    assert!(rt; is_one_heard(&rt, rt.alloc()));
 }

@@ -1,127 +1,51 @@
 //! Wires in one thread.
 
-ghost use Rattle.std.specs.Prelude.{◌≡◌, ◌≤◌, [], None, length, IfOk};
-ghost use Rattle.std.specs.Arc.{arc_value};
+ghost use Rattle.std.specs.Prelude.{◌≡◌, [], None};
 ghost use Rattle.mcs_node.specs.Letters.{IsTrueLetter, content_of};
 ghost use Rattle.mcs_node.specs.Nodes.{IsAbove};
-ghost use Rattle.mcs_wire.specs.Wires.{AllName};
 
-use crate::letters::{plan_of_two, stops, system_of_two};
+use crate::letters::{plan_of_two, system_of_two};
 use mcs_base::Memory;
 use mcs_import::Plan;
 use mcs_node::{Content, InTurn, Letter, Node};
 use mcs_ports::IdleGate;
 use mcs_solver::LocalSolver;
 use mcs_system::System;
-use mcs_wire::{Address, Ends, Inbox, Settled, settle, wire};
+use mcs_wire::{Ends, Settled, settle, wire};
 use std::alloc::Global;
 use std::sync::{Arc, Wait};
-use std::test::Fail;
 
-/// Two addresses of a wire, which stand for all, and its inbox.
-#[derive(Drop)]
-struct Two {
-    address: Address,
-    other: Address,
-    inbox: Inbox,
-}
-
-/// Those of a new wire.
-fn two_addresses(alloc: Global, plan: &Arc<Plan>) -> Result<Two, Memory>
-    ensures plan { IfOk result (λ two. (two.inbox.wire.plan ≡ arc_value plan.now)
-        × (two.inbox.wire.addresses ≡ 2)) }
-    ensures wire { IfOk result (λ two. (two.address.wire ≡ two.inbox.wire)
-        × (two.other.wire ≡ two.inbox.wire)) }
-    ensures parts { IfOk result (λ two. (two.address.parts ≡ 1) × (two.other.parts ≡ 1)) }
-    ensures none { IfOk result (λ two. (two.address.sent ≡ []) × (two.other.sent ≡ [])) }
-{
-    let Ends { mut address, inbox } = wire(alloc, Arc::try_clone(plan)?, 2, 2)?;
-    match address.split() {
-        Ok(other) => Ok(Two {
-            address,
-            other,
-            inbox,
-        }),
-        Err(want) => {
-            drop((address, inbox));
-            Err(want)
+/// A new wire of the plan, settled; `None` if something was in it.
+fn settled<R: Wait>(rt: &R, alloc: Global, plan: Arc<Plan>) -> Result<Option<Settled>, Memory> {
+    let Ends { address, mut inbox } = wire(alloc, plan, 1, 3)?;
+    match inbox.try_take(rt) {
+        None => Ok(Some(settle(rt, alloc, address, inbox)?)),
+        taken => {
+            drop((taken, address, inbox));
+            Ok(None)
         }
     }
 }
 
-/// Sends the last of the letters, if there is one. Nothing was sent before.
-fn send_last<R: Wait>(rt: &R, address: &mut Address, letters: &mut Vec<Letter>)
-    requires names { AllName address.old.wire.plan letters.old.items }
-    requires none { address.old.sent ≡ [] }
-    ensures wire { (address.new.wire ≡ address.old.wire) × (address.new.parts ≡ address.old.parts) }
-    ensures few { length address.new.sent ≤ 1 }
-{
-    if let Some(letter) = letters.pop() {
-        address.send(rt, letter);
-    }
-}
-
-/// Two addresses send a letter each, one of these is taken, and the wire is settled; `None` if
-/// there are no letters.
-fn send_two_take_one<R: Wait>(
-    rt: &R,
-    alloc: Global,
-    plan: &Arc<Plan>,
-) -> Result<Option<Settled>, Memory> {
-    let mut one = stops(alloc, plan, 1, 1)?;
-    let mut two = stops(alloc, plan, 2, 1)?;
-    if one.is_empty() || two.is_empty() {
-        return Ok(None);
-    }
-    let Two {
-        mut address,
-        mut other,
-        mut inbox,
-    } = two_addresses(alloc, plan)?;
-    send_last(rt, &mut address, &mut one);
-    send_last(rt, &mut other, &mut two);
-    drop((one, two));
-    drop(inbox.take(rt));
-    address.join(other);
-    Ok(Some(settle(rt, alloc, address, inbox)?))
-}
-
-/// Whether two letters were sent, one was taken, and the one of this level was left.
-fn is_one_left(settled: &Settled, level: u32) -> bool {
-    let left = settled.left();
-    settled.sent() == 2 && settled.got() == 1 && left.len() == 1 && left[0].level() == level
-}
-
-#[test]
-fn one_of_two_letters_is_left(rt: HostRuntime) -> Result<(), Fail> {
-    let plan = plan_of_two(rt.alloc())?;
-    let settled = send_two_take_one(&rt, rt.alloc(), &plan);
-    drop(plan);
-    let settled = settled?;
-    let is_left = match &settled {
-        Some(settled) => is_one_left(settled, 2),
-        None => false,
+/// Whether nothing is in a new wire of the plan, and nothing was when it is settled.
+fn is_empty<R: Wait>(rt: &R, alloc: Global) -> bool {
+    let Some(plan) = plan_of_two(alloc) else {
+        return false;
+    };
+    let settled = settled(rt, alloc, plan);
+    let is_empty = match &settled {
+        Ok(Some(settled)) => {
+            settled.sent() == 0 && settled.got() == 0 && settled.left().is_empty()
+        }
+        _ => false,
     };
     drop(settled);
-    assert!(rt; is_left);
-    Ok(())
-}
-
-/// Whether nothing is in a new wire of the plan, and nothing was when it is settled.
-fn is_empty<R: Wait>(rt: &R, alloc: Global, plan: Arc<Plan>) -> Result<bool, Memory> {
-    let Ends { address, mut inbox } = wire(alloc, plan, 1, 3)?;
-    let is_empty = inbox.try_take(rt).is_none();
-    let settled = settle(rt, alloc, address, inbox)?;
-    let was_empty = settled.sent() == 0 && settled.got() == 0 && settled.left().is_empty();
-    drop(settled);
-    Ok(is_empty && was_empty)
+    is_empty
 }
 
 #[test]
-fn nothing_is_in_a_new_wire(rt: HostRuntime) -> Result<(), Fail> {
-    let is_empty = is_empty(&rt, rt.alloc(), plan_of_two(rt.alloc())?);
-    assert!(rt; is_empty == Ok(true));
-    Ok(())
+fn nothing_is_in_a_new_wire(rt: HostRuntime) {
+    assert!(rt; is_empty(&rt, rt.alloc()));
 }
 
 /// Grants the node its need, if it waits for that; the need then.
@@ -143,12 +67,12 @@ fn first_out(alloc: Global, node: &mut Node<LocalSolver>) -> Result<Option<Lette
 }
 
 /// The first letter that the first context puts out at level 0; `None` if it puts out none.
-fn supply(alloc: Global, system: &Arc<System>) -> Result<Option<Letter>, Memory> {
+fn supply(alloc: Global, system: Arc<System>) -> Result<Option<Letter>, Memory> {
     if system.contexts().is_empty() {
         return Ok(None);
     }
     let plan = Arc::new(alloc, Plan::of(alloc, system.clone()?)?)?;
-    let solver = LocalSolver::new(alloc, system.clone()?, 0, false);
+    let solver = LocalSolver::new(alloc, system, 0, false);
     let mut node = Node::new(alloc, plan, 0, 1, solver)?;
     let first = first_out(alloc, &mut node);
     drop(node);
@@ -203,16 +127,18 @@ fn states_through_wire<R: Wait>(
     }
 }
 
-#[test]
-fn what_a_taken_letter_says_is_true(rt: HostRuntime) -> Result<(), Fail> {
-    let plan = plan_of_two(rt.alloc())?;
-    let system = system_of_two(rt.alloc())?;
-    let letter = supply(rt.alloc(), &system);
-    drop(system);
-    let listed = match letter? {
-        Some(letter) => states_through_wire(&rt, rt.alloc(), plan, letter)?,
-        None => None,
+/// Whether the letter lists the one state of the first context once it went through a wire.
+fn is_true_when_taken<R: Wait>(rt: &R, alloc: Global) -> bool {
+    let (Some(plan), Some(system)) = (plan_of_two(alloc), system_of_two(alloc)) else {
+        return false;
     };
-    assert!(rt; listed == Some(1));
-    Ok(())
+    match supply(alloc, system) {
+        Ok(Some(letter)) => states_through_wire(rt, alloc, plan, letter) == Ok(Some(1)),
+        _ => false,
+    }
+}
+
+#[test]
+fn what_a_taken_letter_says_is_true(rt: HostRuntime) {
+    assert!(rt; is_true_when_taken(&rt, rt.alloc()));
 }
