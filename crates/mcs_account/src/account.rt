@@ -10,7 +10,8 @@ ghost use Rattle.mcs_system.specs.Plain as plain;
 ghost use Rattle.mcs_system.specs.Seen.{context_of, formula_of, rule_of};
 ghost use Rattle.mcs_system.specs.Seen as seen;
 ghost use Rattle.mcs_account.specs.Account as said;
-ghost use Rattle.mcs_account.specs.Account.{IsJoining, item_of, no_account, no_rule, number_of, told, took, weight_of};
+ghost use Rattle.mcs_account.specs.Account.{IsJoining, item_of, no_account, no_rule, number_of};
+ghost use Rattle.mcs_account.specs.Account.{told, took, weight_of};
 ghost use Rattle.mcs_account.specs.Images.{account_of, operands_of};
 
 use mcs_base::Memory;
@@ -45,11 +46,12 @@ fn empty_rule(alloc: Global) -> ProgRule
     }
 }
 
-/// The item of these formulas: one is a fact; of more the first is the prerequisite of a default, and the last its
-/// consequent.
+/// The item of these formulas: one is a fact; of more the first is the prerequisite of a default,
+/// and the last its consequent.
 fn item(formulas: Vec<Formula>) -> Option<TheoryItem>
-    ensures { MatchOption result (operands_of formulas.items ≡ []) (λ i. (f : plain.Formula) × (fs : List plain.Formula) ×
-        (operands_of formulas.items ≡ f ∷ fs) × (seen.item_of i ≡ item_of f fs [])) }
+    ensures { MatchOption result (operands_of formulas.items ≡ []) (λ i. (f : plain.Formula)
+        × (fs : List plain.Formula) × (operands_of formulas.items ≡ f ∷ fs)
+        × (seen.item_of i ≡ item_of f fs [])) }
 {
     let mut formulas = formulas;
     let conclusion = formulas.pop()?;
@@ -67,7 +69,8 @@ fn item(formulas: Vec<Formula>) -> Option<TheoryItem>
 /// Both formulas, joined by what the action says.
 fn joined(alloc: Global, action: Action, left: Formula, right: Formula) -> Result<Formula, Memory>
     requires { IsJoining action }
-    ensures { IfOk result (λ f. said.joined action (formula_of right ∷ formula_of left ∷ []) ≡ formula_of f ∷ []) }
+    ensures { IfOk result (λ f. said.joined action (formula_of right ∷ formula_of left ∷ [])
+        ≡ formula_of f ∷ []) }
 {
     let left = Box::new(alloc, left)?;
     let right = Box::new(alloc, right)?;
@@ -117,11 +120,12 @@ impl Account {
         }
     }
 
-    /// Takes a token that is there for this. A name is at most as long as a name may be. If memory runs out, the account
-    /// can't be used any more.
+    /// Takes a token that is there for this. A name is at most as long as a name may be. If memory
+    /// runs out, the account can't be used any more.
     pub fn took(&mut self, alloc: Global, class: Class, token: &[u8]) -> Result<(), Memory>
         requires named { wanted class ≡ terminal.Name → IsTrue (is_name token.now) }
-        ensures { IfOk result (λ _. account_of self.new ≡ took (account_of self.old) class token.now) }
+        ensures { IfOk result (λ _. account_of self.new
+            ≡ took (account_of self.old) class token.now) }
     {
         match class {
             Class::NamesContext => self.begin_context(alloc, token),
@@ -172,7 +176,8 @@ impl Account {
         }
     }
 
-    /// Takes what the grammar says between tokens: a connective gets its operands, or a read is whole.
+    /// Takes what the grammar says between tokens: a connective gets its operands, or a read is
+    /// whole.
     pub fn told(&mut self, alloc: Global, action: Action) -> Result<(), Memory>
         ensures { IfOk result (λ _. account_of self.new ≡ told (account_of self.old) action) }
     {
@@ -218,7 +223,8 @@ impl Account {
     /// Begins a context, which is classical until its kind is said.
     fn begin_context(&mut self, alloc: Global, token: &[u8]) -> Result<(), Memory>
         requires { IsTrue (is_name token.now) }
-        ensures { IfOk result (λ _. account_of self.new ≡ took (account_of self.old) class.NamesContext token.now) }
+        ensures { IfOk result (λ _. account_of self.new
+            ≡ took (account_of self.old) class.NamesContext token.now) }
     {
         if let Some(name) = Name::read(alloc, token)? {
             self.contexts.push(Context {
@@ -231,7 +237,11 @@ impl Account {
 
     /// The last context has this knowledge base.
     fn set_kb(&mut self, kb: Kb)
-        ensures { account_of self.new ≡ record (account_of self.old) { contexts = said.in_last (said.with_kb (seen.kb_of kb)) (account_of self.old).contexts } }
+        ensures { account_of self.new
+            ≡ record (account_of self.old) {
+              contexts = said.in_last
+                  (said.with_kb (seen.kb_of kb)) (account_of self.old).contexts;
+            } }
     {
         if let Some(context) = self.contexts.last_mut() {
             context.kb = kb;
@@ -240,7 +250,8 @@ impl Account {
 
     /// The formulas, or the program rule, are an item of the last context.
     fn end_item(&mut self, alloc: Global) -> Result<(), Memory>
-        ensures { IfOk result (λ _. account_of self.new ≡ took (account_of self.old) class.EndsItem []) }
+        ensures { IfOk result (λ _. account_of self.new
+            ≡ took (account_of self.old) class.EndsItem []) }
     {
         let formulas = mem::replace(&mut self.operands, Vec::new(alloc));
         let rule = mem::replace(&mut self.rule, empty_rule(alloc));
@@ -253,7 +264,8 @@ impl Account {
     /// Adds an atom to the body of the program rule.
     fn add_literal(&mut self, alloc: Global, token: &[u8]) -> Result<(), Memory>
         requires { IsTrue (is_name token.now) }
-        ensures { IfOk result (λ _. account_of self.new ≡ took (account_of self.old) class.IsBodyAtom token.now) }
+        ensures { IfOk result (λ _. account_of self.new
+            ≡ took (account_of self.old) class.IsBodyAtom token.now) }
     {
         let denied = mem::replace(&mut self.denied, false);
         if denied {
@@ -265,7 +277,8 @@ impl Account {
     /// Begins a bridge rule, of which only the name is known.
     fn begin_bridge(&mut self, alloc: Global, token: &[u8]) -> Result<(), Memory>
         requires { IsTrue (is_name token.now) }
-        ensures { IfOk result (λ _. account_of self.new ≡ took (account_of self.old) class.NamesBridge token.now) }
+        ensures { IfOk result (λ _. account_of self.new
+            ≡ took (account_of self.old) class.NamesBridge token.now) }
     {
         if let Some(name) = Name::read(alloc, token)? {
             self.bridges.push(Bridge {
@@ -322,7 +335,8 @@ impl Account {
 
     /// Takes the formula that is whole last: the belief of the read that ends.
     pub fn take_belief(&mut self) -> Option<Formula>
-        ensures { MatchOption result (((account_of self.old).operands ≡ []) × (account_of self.new ≡ account_of self.old))
+        ensures { MatchOption result (((account_of self.old).operands ≡ [])
+            × (account_of self.new ≡ account_of self.old))
             (λ f. account_of self.old ≡ said.pushed (account_of self.new) (formula_of f)) }
     {
         self.operands.pop()
@@ -360,7 +374,8 @@ impl Account {
     /// The atom is a formula.
     fn push_atom(&mut self, alloc: Global, token: &[u8]) -> Result<(), Memory>
         requires { IsTrue (is_name token.now) }
-        ensures { IfOk result (λ _. account_of self.new ≡ took (account_of self.old) class.IsAtom token.now) }
+        ensures { IfOk result (λ _. account_of self.new
+            ≡ took (account_of self.old) class.IsAtom token.now) }
     {
         if let Some(name) = Name::read(alloc, token)? {
             self.operands.push(Formula::Atom(name))?;
@@ -397,7 +412,8 @@ impl Account {
 
 /// Adds an item: the last formula, the default that the formulas make, or the program rule.
 fn add_item(kb: &mut Kb, formulas: Vec<Formula>, rule: ProgRule) -> Result<(), Memory>
-    ensures { IfOk result (λ _. seen.kb_of kb.new ≡ said.more_kb (operands_of formulas.items) (rule_of rule) (seen.kb_of kb.old)) }
+    ensures { IfOk result (λ _. seen.kb_of kb.new
+        ≡ said.more_kb (operands_of formulas.items) (rule_of rule) (seen.kb_of kb.old)) }
 {
     let mut formulas = formulas;
     match kb {
@@ -418,7 +434,8 @@ fn add_item(kb: &mut Kb, formulas: Vec<Formula>, rule: ProgRule) -> Result<(), M
 
 /// Adds a read to the bridge rule.
 fn add_read(bridge: &mut Bridge, denied: bool, read: Read) -> Result<(), Memory>
-    ensures { IfOk result (λ _. seen.bridge_of bridge.new ≡ said.with_read denied (seen.read_of read) (seen.bridge_of bridge.old)) }
+    ensures { IfOk result (λ _. seen.bridge_of bridge.new
+        ≡ said.with_read denied (seen.read_of read) (seen.bridge_of bridge.old)) }
 {
     if denied {
         return Ok(bridge.neg.push(read)?);

@@ -1,4 +1,5 @@
-//! System texts over the events of the grammar's reader: what is written, what it says, and what its tokens are there for.
+//! System texts over the events of the grammar's reader: what is written, what it says, and what
+//! its tokens are there for.
 #![tactic(auto)]
 
 mod account;

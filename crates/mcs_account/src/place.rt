@@ -10,7 +10,8 @@ ghost use Rattle.mcs_productions.specs.Productions.{wanted};
 ghost use Rattle.mcs_productions.specs.declared.terminal.Terminal.TheVariants as terminal;
 ghost use Rattle.mcs_account.specs.Account as said;
 ghost use Rattle.mcs_account.specs.Account.{no_place, own_uses, place_after, uses_with};
-ghost use Rattle.mcs_account.specs.Images.{IsNaming, IsPlace, capped, most_number, role_uses, about_place, context_chosen, target_chosen, uses_in};
+ghost use Rattle.mcs_account.specs.Images.{IsNaming, IsPlace, capped, most_number, role_uses};
+ghost use Rattle.mcs_account.specs.Images.{about_place, context_chosen, target_chosen, uses_in};
 
 use mcs_base::{is_reserved, is_word};
 use mcs_productions::Class;
@@ -71,14 +72,16 @@ pub enum Beginning {
     Belief,
 }
 
-/// Where a text is between two tokens: of which contexts the next token is said, and how much was counted.
+/// Where a text is between two tokens: of which contexts the next token is said, and how much was
+/// counted.
 #[derive(Clone, Copy)]
 pub struct Place {
     /// The number of the context that is spoken of.
     pub context: usize,
     /// The number of the context of the head of the rule.
     pub target: usize,
-    /// How many tokens of the formula that are no parentheses, or names of the program rule, there were, up to 514.
+    /// How many tokens of the formula that are no parentheses, or names of the program rule, there
+    /// were, up to 514.
     pub counted: usize,
     /// How many parentheses are open.
     pub opened: usize,
@@ -166,9 +169,11 @@ impl Place {
         }
     }
 
-    /// The place after a token of the class. `number` is that of the context with its name, if it is the name of one.
+    /// The place after a token of the class. `number` is that of the context with its name, if it
+    /// is the name of one.
     pub fn after(&self, class: Class, number: usize) -> Place
-        ensures place { (p : said.Place) (t : Token) → IsPlace self.now p → p.opened ≤ most limits.OpenParentheses → IsPlace result (place_after p class t) }
+        ensures place { (p : said.Place) (t : Token) → IsPlace self.now p
+            → p.opened ≤ most limits.OpenParentheses → IsPlace result (place_after p class t) }
         ensures context { result.context ≡ context_chosen class number self.now.context }
         ensures target { result.target ≡ target_chosen class number self.now.target }
     {

@@ -1,6 +1,7 @@
 //! Reading a text token by token: the grammar's reader, the account, and the place.
 
-ghost use Rattle.std.specs.Prelude.{◌≡◌, ◌≤◌, ◌↔◌, ◌&&◌, not, false, IfOk, IsTrue, MatchOption, [], Some, None};
+ghost use Rattle.std.specs.Prelude.{◌≡◌, ◌≤◌, ◌↔◌, ◌&&◌, not, false, IfOk, IsTrue, MatchOption, []};
+ghost use Rattle.std.specs.Prelude.{Some, None};
 ghost use Rattle.mcs_syntax.specs.Reads.{IsRead};
 ghost use Rattle.mcs_syntax.specs.Parts.{rest};
 ghost use Rattle.mcs_productions.specs.Productions.{grammar};
@@ -12,7 +13,8 @@ ghost use Rattle.mcs_account.specs.Account as said;
 ghost use Rattle.mcs_account.specs.Account.{place_after};
 ghost use Rattle.mcs_account.specs.Images.{IsPlace, account_of, context_chosen, target_chosen};
 ghost use Rattle.mcs_account.specs.Reading.{Events, class_in, ends_in, heard};
-ghost use Rattle.mcs_account.specs.Taken.{IsEnd, IsEndedRead, IsReaderAt, IsTokenTaken, NamesAreShort, ended_with, is_long};
+ghost use Rattle.mcs_account.specs.Taken.{IsEnd, IsEndedRead, IsReaderAt, IsTokenTaken};
+ghost use Rattle.mcs_account.specs.Taken.{NamesAreShort, ended_with, is_long};
 
 use crate::account::Account;
 use crate::place::{Place, Uses};
@@ -64,7 +66,8 @@ fn is_long_name(kind: TokenKind) -> bool
     matches!(kind, TokenKind::LongName)
 }
 
-/// Hands the events of the token to the account, but for the end of a read. A name that is too long is not handed to it.
+/// Hands the events of the token to the account, but for the end of a read. A name that is too long
+/// is not handed to it.
 fn hear(
     alloc: Global,
     account: &mut Account,
@@ -116,9 +119,10 @@ impl TextReader {
         })
     }
 
-    /// Takes the next token, and returns what it is there for, or `None` if no text goes on with it. The token has to be
-    /// passed before the next one is taken. A name that is too long is taken too, but the text can't be read on after it.
-    /// If memory runs out, the reader can't be used any more.
+    /// Takes the next token, and returns what it is there for, or `None` if no text goes on with
+    /// it. The token has to be passed before the next one is taken. A name that is too long is
+    /// taken too, but the text can't be read on after it. If memory runs out, the reader can't be
+    /// used any more.
     pub fn take(&mut self, alloc: Global, token: &[u8]) -> Result<Option<Taken>, Memory>
         ensures { IfOk result (λ taken. IsTokenTaken taken self.old self.new token.now) }
     {
@@ -156,7 +160,8 @@ impl TextReader {
 
     /// Takes the read of the context that is spoken of, whose belief is whole.
     fn take_read(&mut self, alloc: Global) -> Result<Option<NamedRead>, Memory>
-        ensures rest { IfOk result (λ _. self.new ≡ record self.old { account = self.new.account }) }
+        ensures rest { IfOk result (λ _. self.new
+            ≡ record self.old { account = self.new.account }) }
         ensures read { IfOk result (λ read. IsEndedRead read self.old self.new) }
     {
         let Some(context) = self.account.contexts.get(self.place.context) else {
@@ -172,19 +177,22 @@ impl TextReader {
         }
     }
 
-    /// The read that ends with the token that was taken, if one does and has no name that is too long.
+    /// The read that ends with the token that was taken, if one does and has no name that is too
+    /// long.
     pub fn last_read(&self) -> Option<&NamedRead>
         ensures { MatchOption result (self.now.ended ≡ None) (λ r. self.now.ended ≡ Some r.now) }
     {
         self.ended.as_ref()
     }
 
-    /// Goes on after the token that was taken. `number` is that of the context with its name, if it is the name of one.
+    /// Goes on after the token that was taken. `number` is that of the context with its name, if it
+    /// is the name of one.
     pub fn pass(&mut self, taken: &Taken, number: usize) -> Result<(), Memory>
         ensures reader { IfOk result (λ _. self.new.reader ≡ self.old.reader) }
         ensures account { IfOk result (λ _. account_of self.new.account
             ≡ ended_with self.old.ended (account_of self.old.account)) }
-        ensures place { IfOk result (λ _. (p : said.Place) (t : Token) → IsPlace self.old.place p → p.opened ≤ most limits.OpenParentheses
+        ensures place { IfOk result (λ _. (p : said.Place) (t : Token) → IsPlace self.old.place p
+            → p.opened ≤ most limits.OpenParentheses
             → IsPlace self.new.place (place_after p taken.now.class t)) }
         ensures context { IfOk result (λ _. self.new.place.context
             ≡ context_chosen taken.now.class number self.old.place.context) }

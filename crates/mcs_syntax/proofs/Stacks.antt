@@ -10,9 +10,11 @@ use Rattle.mcs_syntax.specs.declared.part.Event.TheVariants.{Took, Told}
 use Rattle.mcs_syntax.specs.declared.part.Part.{Part}
 use Rattle.mcs_syntax.specs.declared.part.Part.TheVariants as part
 use Rattle.mcs_syntax.specs.declared.front.Front.{Front}
+use Rattle.mcs_syntax.specs.declared.step.Onward.{Onward}
+use Rattle.mcs_syntax.specs.declared.step.Onward.TheVariants.{Stop, To, Down}
 use Rattle.mcs_syntax.specs.Grammar.{Expr, Take, Say, Rule, Nothing, Then, Or, Maybe, Many, Means, by_rule, nothing, both, Grammar, IsReadable, tokens, silent, given, before, apart, in_turn, front, fits, cost}
 use Rattle.mcs_syntax.specs.Reads.{Goes, HasRead, Turns, Leads, begun, chooses, head_of, starts, is_done, says_next}
-use Rattle.mcs_syntax.specs.Parts.{expr_at, made_of, state, tops, coming, above, IsStack, IsTop, due, is_plain, IsTakenApart, IsSettled, IsTurned, IsGone}
+use Rattle.mcs_syntax.specs.Parts.{expr_at, made_of, state, tops, coming, above, IsStack, IsTop, due, is_plain, with_next, moves, left_by, IsTakenApart, IsSettled, IsTurned, IsGone}
 use Rattle.mcs_syntax.proofs.Options.{and-parts}
 use Rattle.mcs_syntax.proofs.KindSets.{left-union, has-given}
 use Rattle.mcs_syntax.proofs.Fronts.{Of}
@@ -41,6 +43,12 @@ due-right false false ca cb d = omega arith
 due-one : (na : Bool) (ca d m : ℕ) → not na ≡ true → ca + cond na m 0 < 1 + ca + d
 due-one true ca d m e = absurd (true≢false (sym e))
 due-one false ca d m e = omega arith
+
+-- where it stops, nothing stands above the stack
+pub stopped : (o : Onward) (places : List ℕ) → moves o ≡ false → left_by o places ≡ places
+stopped Stop places off = refl
+stopped (To k) places off = absurd (true≢false off)
+stopped Down places off = refl
 
 -- what is not plain is no action, and not empty
 abbrev Stands : {C A N : Type 0} → Expr C A N → Type 0
@@ -241,7 +249,7 @@ module _ {C A N : Type 0} (g : Grammar C A N) (parts : List (Part C A N)) where
                 (subst (λ es. Turns g kind (Then (Many e) r) [] (state es)) (sym grown) (many-in g kind e r (never-after g h kind e r many b)))
                 (subst (λ es. due g es < due g (Many e ∷ tops parts l)) (sym grown) (due-one (front g e).is_null (cost g e) (due g (tops parts l)) (due g (Many e ∷ tops parts l)) (and-parts _ _ many).1))
 
-      pub turned-plain : (new : List ℕ) (all : List (Event C A)) (taken : Bool) → IsTakenApart g parts k taken l new said all → is_plain (expr_at parts k) ≡ true → IsTurned g parts kind k true l new said all
+      pub turned-plain : (new : List ℕ) (all : List (Event C A)) (taken : Bool) → IsTakenApart g parts k taken l new said all → is_plain (expr_at parts k) ≡ true → IsTurned g parts kind k taken l new said all
       turned-plain new all true p e = let w = p.0 refl in (w.0, w.1, w.3, λ _. (from-read g kind (above parts k l) (coming parts new) w.0 w.2, w.4), λ e. absurd (true≢false e))
       turned-plain new all false p e = absurd (true≢false (sym e ∙ (p.1 refl).0))
 
@@ -252,6 +260,10 @@ module _ {C A N : Type 0} (g : Grammar C A N) (parts : List (Part C A N)) where
     pub turns : Turns g kind (coming parts old) told (coming parts now)
     pub ready : IsStack g parts now
     pub leads : Leads g (coming parts now) kind
+
+  -- with the place that stands next above the stack
+  abbrev pub IsGoingOn : Option ℕ → (old : List ℕ) → Option ℕ → (now : List ℕ) → (said all : List (Event C A)) → Type 0
+  IsGoingOn kind old next now said all = IsGoing kind old (with_next next now) said all × (next ≡ None → now ≡ [])
 
   module _ (kind : Option ℕ) (old : List ℕ) (said : List (Event C A)) where
     pub going-none : IsStack g parts old → Leads g (coming parts old) kind → IsGoing kind old old said said
@@ -308,6 +320,9 @@ module _ {C A N : Type 0} (g : Grammar C A N) (parts : List (Part C A N)) where
     pub added : all ≡ said ++ told
     pub read : HasRead g (coming parts old) [] told (coming parts now)
     pub ready : IsStack g parts now
+
+  abbrev pub IsSettlingOn : (old : List ℕ) → Option ℕ → (now : List ℕ) → (said all : List (Event C A)) → Type 0
+  IsSettlingOn old next now said all = IsSettling old (with_next next now) said all × (next ≡ None → now ≡ [])
 
   module _ (old : List ℕ) (said : List (Event C A)) where
     pub settling-none : IsStack g parts old → IsSettling old old said said

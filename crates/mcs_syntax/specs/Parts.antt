@@ -3,6 +3,8 @@ use Rattle.std.specs.Prelude.{◌≡◌, ℕ, zero, suc, ◌+◌, ◌<◌, Bool,
 use Rattle.mcs_syntax.specs.declared.part.Event.{Event}
 use Rattle.mcs_syntax.specs.declared.part.Part.{Part}
 use Rattle.mcs_syntax.specs.declared.part.Part.TheVariants as part
+use Rattle.mcs_syntax.specs.declared.step.Onward.{Onward}
+use Rattle.mcs_syntax.specs.declared.step.Onward.TheVariants.{Stop, To, Down}
 use Rattle.mcs_syntax.specs.Grammar.{Expr, Take, Say, Rule, Nothing, Then, Or, Maybe, Many, Grammar, front, fits, cost}
 use Rattle.mcs_syntax.specs.Reads.{IsRead, HasRead, Turns, is_done, says_next}
 
@@ -95,6 +97,22 @@ is_plain (Then e f) = true
 is_plain (Or e f) = false
 is_plain (Maybe e) = false
 is_plain (Many e) = false
+
+-- ---- the place that stands next, above the stack
+abbrev pub with_next : Option ℕ → List ℕ → List ℕ
+with_next None places = places
+with_next (Some k) places = places ++ k ∷ []
+
+abbrev pub moves : Onward → Bool
+moves Stop = false
+moves (To k) = true
+moves Down = true
+
+-- what is still to come then
+abbrev pub left_by : Onward → List ℕ → List ℕ
+left_by Stop places = places
+left_by (To k) places = places ++ k ∷ []
+left_by Down places = places
 
 -- ---- what is promised of one step
 -- what is plain is taken apart, and nothing else

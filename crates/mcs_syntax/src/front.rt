@@ -12,7 +12,8 @@ use mcs_sets::SmallSet;
 use std::alloc::Global;
 use std::marker::Model;
 
-/// What is known of a part: whether a text of it has no token, and the kinds of tokens with which its texts begin.
+/// What is known of a part: whether a text of it has no token, and the kinds of tokens with which
+/// its texts begin.
 #[derive(Clone, Copy, Debug)]
 pub struct Front {
     pub is_null: bool,
@@ -68,7 +69,8 @@ impl<'t, C, A, N: Rules<C, A>> Model for Table<'t, C, A, N> {
 
     ghost view = { λ t. t.parts.now };
 
-    ghost invariant = { λ t. IsTable N.grammar N.root t.parts.now × AreFronts N.grammar t.parts.now t.fronts.items };
+    ghost invariant = { λ t. IsTable N.grammar N.root t.parts.now
+        × AreFronts N.grammar t.parts.now t.fronts.items };
 }
 
 /// What is known of the part, where rules are no deeper.
@@ -171,7 +173,8 @@ impl<'t, C: Copy, A: Copy, N: Rules<C, A>> Table<'t, C, A, N> {
         self.fronts[place].is_null
     }
 
-    /// Whether a text of the part at the place begins with a token of the kind; `None` is the end of the text.
+    /// Whether a text of the part at the place begins with a token of the kind; `None` is the end
+    /// of the text.
     pub fn begins(&self, place: usize, kind: Option<u32>) -> bool
         requires inside { place < length self.now }
         requires small { IfSome kind (λ d. d < 128) }
@@ -188,7 +191,8 @@ impl<'t, C: Copy, A: Copy, N: Rules<C, A>> Table<'t, C, A, N> {
         requires one { a < length self.now }
         requires other { b < length self.now }
         requires small { IfSome kind (λ d. d < 128) }
-        ensures { result ≡ chooses kind (front N.grammar (expr_at self.now a)) (front N.grammar (expr_at self.now b)) }
+        ensures { result ≡ chooses kind (front N.grammar (expr_at self.now a))
+            (front N.grammar (expr_at self.now b)) }
     {
         self.begins(a, kind) || (self.is_null(a) && !self.begins(b, kind))
     }

@@ -1,4 +1,5 @@
-//! Grammars as data, and what holds of the texts of each grammar that is read by one token at a time.
+//! Grammars as data, and what holds of the texts of each grammar that is read by one token at a
+//! time.
 #![tactic(auto)]
 
 mod front;

@@ -3,7 +3,8 @@
 ghost use Rattle.std.specs.Prelude.{◌≡◌, ◌<◌, ℕ};
 ghost use Rattle.mcs_syntax.specs.Grammar.{Grammar, IsReadable};
 
-/// A part of a rule. Numbers are the places of its own parts, which come after it in the list of all parts.
+/// A part of a rule. Numbers are the places of its own parts, which come after it in the list of
+/// all parts.
 #[derive(Clone, Copy, Debug)]
 pub enum Part<C, A, N> {
     /// A token of this class.
@@ -31,8 +32,8 @@ pub enum Event<C, A> {
     Told(A),
 }
 
-/// The rules of a grammar, by their names. The grammar is one that a reader can read: one token tells what to do, and each
-/// rule has a text.
+/// The rules of a grammar, by their names. The grammar is one that a reader can read: one token
+/// tells what to do, and each rule has a text.
 pub trait Rules<C, A>: Sized {
     ghost grammar: { Grammar C A Self };
 

@@ -1,26 +1,36 @@
-use Rattle.std.proofs.Common.{arith, ◌≡◌, length}
-use Rattle.std.proofs.lemmas.List.{nil_from_length}
-use Rattle.mcs_syntax.proofs.Stacks.{popped-top, settling-none, settling-more, settling-falls, settled-here, settled-empty}
+use Rattle.std.proofs.Common.{List, [], ◌∷◌, ◌++◌, ℕ, ◌<◌, sym, ap, subst, ◌∙◌}
+use Rattle.mcs_syntax.specs.Parts.{due, tops, with_next, left_by, moves}
+use Rattle.mcs_syntax.proofs.Stacks.{IsSettling, stopped, popped-top, settling-none, settling-more, settling-falls, settled-here, settled-empty}
 use Rattle.mcs_syntax.proofs.step.settle.Goals as goal
 
-pub loop-place-init : goal.loop-place-init
-loop-place-init g c = settling-none (g.N.Rules).grammar c.args.table.now c.args.stack.now.items c.args.events.now.items c.requires.ready
+pub loop-next-init : goal.loop-next-init
+loop-next-init g c = (
+  subst (λ (ks : List ℕ). IsSettling (g.N.Rules).grammar c.args.table.now c.args.stack.now.items ks c.args.events.now.items c.args.events.now.items) (sym c.next-next.ensures.above)
+      (settling-none (g.N.Rules).grammar c.args.table.now c.args.stack.now.items c.args.events.now.items c.requires.ready),
+  c.next-next.ensures.empty,
+)
 
 pub take_apart-requires : goal.take_apart-requires
-take_apart-requires g c = record { top = popped-top (g.N.Rules).grammar c.args.table.now c.pop.new.self.items c.in-Some.place c.loop-place.stack.items c.in-Some.ensures.items c.loop-place.invariant.ready }
+take_apart-requires g c = record { top = popped-top (g.N.Rules).grammar c.args.table.now c.loop-next.stack.items c.in-Some.place (with_next c.loop-next.next c.loop-next.stack.items) (ap (λ o. with_next o c.loop-next.stack.items) c.in-Some.is) c.loop-next.invariant.0.ready }
 
-pub loop-place-preserved : goal.loop-place-preserved
-loop-place-preserved g c = settling-more (g.N.Rules).grammar c.args.table.now c.args.stack.now.items c.args.events.now.items c.loop-place.stack.items c.pop.new.self.items c.in-Some.place c.loop-place.events.items c.in-Some.ensures.items c.loop-place.invariant c.take_apart.new.stack.items c.take_apart.new.events.items c.in_ok-taken.taken c.in_ok-taken.ensures c.if-not-taken.false
+pub loop-next-preserved : goal.loop-next-preserved
+loop-next-preserved g c = (
+  subst (λ (ks : List ℕ). IsSettling (g.N.Rules).grammar c.args.table.now c.args.stack.now.items ks c.args.events.now.items c.take_apart.new.events.items) (sym c.next-next-in-Some.ensures.above)
+      (settling-more (g.N.Rules).grammar c.args.table.now c.args.stack.now.items c.args.events.now.items (with_next c.loop-next.next c.loop-next.stack.items) c.loop-next.stack.items c.in-Some.place c.loop-next.events.items (ap (λ o. with_next o c.loop-next.stack.items) c.in-Some.is) c.loop-next.invariant.0 (left_by c.in_ok-onward.onward c.take_apart.new.stack.items) c.take_apart.new.events.items (moves c.in_ok-onward.onward) c.in_ok-onward.ensures (sym c.moves.ensures ∙ c.if-not-moves.false)),
+  c.next-next-in-Some.ensures.empty,
+)
 
-pub loop-place-smaller : goal.loop-place-smaller
-loop-place-smaller g c = settling-falls (g.N.Rules).grammar c.args.table.now c.args.stack.now.items c.args.events.now.items c.loop-place.stack.items c.pop.new.self.items c.in-Some.place c.loop-place.events.items c.in-Some.ensures.items c.loop-place.invariant c.take_apart.new.stack.items c.take_apart.new.events.items c.in_ok-taken.taken c.in_ok-taken.ensures c.if-not-taken.false
+pub loop-next-smaller : goal.loop-next-smaller
+loop-next-smaller g c =
+    subst (λ (ks : List ℕ). due (g.N.Rules).grammar (tops c.args.table.now ks) < due (g.N.Rules).grammar (tops c.args.table.now (with_next c.loop-next.next c.loop-next.stack.items))) (sym c.next-next-in-Some.ensures.above)
+    (settling-falls (g.N.Rules).grammar c.args.table.now c.args.stack.now.items c.args.events.now.items (with_next c.loop-next.next c.loop-next.stack.items) c.loop-next.stack.items c.in-Some.place c.loop-next.events.items (ap (λ o. with_next o c.loop-next.stack.items) c.in-Some.is) c.loop-next.invariant.0 (left_by c.in_ok-onward.onward c.take_apart.new.stack.items) c.take_apart.new.events.items (moves c.in_ok-onward.onward) c.in_ok-onward.ensures (sym c.moves.ensures ∙ c.if-not-moves.false))
 
-pub returns-then-not-taken : goal.returns-then-not-taken
-returns-then-not-taken g c = settled-here (g.N.Rules).grammar c.args.table.now c.args.stack.now.items c.args.events.now.items c.loop-place.stack.items c.pop.new.self.items c.in-Some.place c.loop-place.events.items c.in-Some.ensures.items c.loop-place.invariant c.take_apart.new.stack.items c.take_apart.new.events.items c.in_ok-taken.taken c.in_ok-taken.ensures c.push.new.self.items c.if-not-taken.true c.in_ok-push.ensures.items
+pub returns-then-not-moves : goal.returns-then-not-moves
+returns-then-not-moves g c =
+    let off = sym c.moves.ensures ∙ c.if-not-moves.true in
+    settled-here (g.N.Rules).grammar c.args.table.now c.args.stack.now.items c.args.events.now.items (with_next c.loop-next.next c.loop-next.stack.items) c.loop-next.stack.items c.in-Some.place c.loop-next.events.items (ap (λ o. with_next o c.loop-next.stack.items) c.in-Some.is) c.loop-next.invariant.0 (left_by c.in_ok-onward.onward c.take_apart.new.stack.items) c.take_apart.new.events.items (moves c.in_ok-onward.onward) c.in_ok-onward.ensures c.push.new.self.items off
+    (c.in_ok-push.ensures.items ∙ ap (λ (ks : List ℕ). ks ++ c.in-Some.place ∷ []) (sym (stopped c.in_ok-onward.onward c.take_apart.new.stack.items off)))
 
 pub returns : goal.returns
-returns g c =
-    let none = c.in_default.ensures.cases in
-    let before : length c.loop-place.stack.items ≡ 0 = omega (arith, none.0, c.loop-place.stack.ok.0) in
-    let after : length c.pop.new.self.items ≡ 0 = omega (arith, none.1, c.pop.new.self.ok.0) in
-    settled-empty (g.N.Rules).grammar c.args.table.now c.args.stack.now.items c.args.events.now.items c.loop-place.stack.items c.pop.new.self.items c.loop-place.events.items (nil_from_length _ before) (nil_from_length _ after) c.loop-place.invariant
+returns g c = settled-empty (g.N.Rules).grammar c.args.table.now c.args.stack.now.items c.args.events.now.items (with_next c.loop-next.next c.loop-next.stack.items) c.loop-next.stack.items c.loop-next.events.items
+    (ap (λ o. with_next o c.loop-next.stack.items) c.in_default.is ∙ c.loop-next.invariant.1 c.in_default.is) (c.loop-next.invariant.1 c.in_default.is) c.loop-next.invariant.0
