@@ -52,7 +52,7 @@ module _ (us vs : List Use) (same : IsSame us vs) where
     rules = s.rules ∙ same.counts (names_target c.name) (λ n. refl);
     defaults = s.defaults ∙ same.counts (begins_default_of c.name) (λ n. refl);
     items = s.items ∙ same.counts (begins_item_of c.name) (λ n. refl);
-    atoms = atoms-same c.name c.atoms.items s.atoms;
+    atoms = atoms-same c.name c.atoms s.atoms;
     inputs = λ k. (
       λ h. let (r, at, was) = (s.inputs k).0 h in (r, at, (same.among (EndsRead c.name r.context r.belief) refl).0 was),
       λ (r, at, was). (s.inputs k).1 (r, at, (same.among (EndsRead c.name r.context r.belief) refl).1 was),

@@ -38,7 +38,7 @@ module _ (w : Watch) (before : List Use) (watch : IsWatch w before) (n : Name) (
   pub more-items : (x : ℕ) → x ≡ min (c.items + 1) (2 ^ 64 - 1) → x ≡ c.items + 1
   more-items x is = let few = seen.few.2 in omega arith
 
-  module _ (w' : Watch) (begun : w'.contexts_begun ≡ w.contexts_begun) (bridges_begun : w'.bridges_begun ≡ w.bridges_begun) (bridges : w'.bridges.items ≡ w.bridges.items) (variables : w'.variables.items ≡ w.variables.items) where
+  module _ (w' : Watch) (begun : w'.contexts_begun ≡ w.contexts_begun) (bridges_begun : w'.bridges_begun ≡ w.bridges_begun) (bridges : w'.bridges ≡ w.bridges) (variables : w'.variables.items ≡ w.variables.items) where
     pub step-says_program : IsSpokenOf before (SaysProgram n) → (c' : ContextSeen) → c' ≡ record c { is_program = true } → w'.contexts.items ≡ slice_set w.contexts.items k c' → IsWatch w' (before ++ SaysProgram n ∷ [])
     step-says_program spoken c' is contexts =
         context-step w before watch (SaysProgram n) spoken tt (λ t d f e. cc) k c (record c { is_program = true }) here refl
@@ -48,11 +48,11 @@ module _ (w : Watch) (before : List Use) (watch : IsWatch w before) (n : Name) (
           rules = seen.rules ∙ sym (count_by_push_no (names_target c.name) before (SaysProgram n) refl);
           defaults = seen.defaults ∙ sym (count_by_push_no (begins_default_of c.name) before (SaysProgram n) refl);
           items = seen.items ∙ sym (count_by_push_no (begins_item_of c.name) before (SaysProgram n) refl);
-          atoms = atoms-later before (SaysProgram n) c.name c.atoms.items (λ a e. cc) seen.atoms;
+          atoms = atoms-later before (SaysProgram n) c.name c.atoms (λ a e. cc) seen.atoms;
           inputs = inputs-later before (SaysProgram n) c.name c.inputs _ _ (λ d f e. cc) seen.inputs (λ j r at. at) (λ j r at was. at);
           few = seen.few;
         })
-        w' (omega arith) (omega arith) (bridges ∙ sym (append-nil w.bridges.items)) variables (contexts ∙ ap (slice_set w.contexts.items k) is) refl
+        w' (omega arith) (omega arith) (bridges ∙ sym (append-nil w.bridges)) variables (contexts ∙ ap (slice_set w.contexts.items k) is) refl
 
     pub step-begins_item : IsSpokenOf before (BeginsItem n) → IsUseAllowed before (BeginsItem n) → (c' : ContextSeen) (x : ℕ) → x ≡ c.items + 1 → c' ≡ record c { items = x } → w'.contexts.items ≡ slice_set w.contexts.items k c' → IsWatch w' (before ++ BeginsItem n ∷ [])
     step-begins_item spoken allowed c' x more is contexts =
@@ -64,11 +64,11 @@ module _ (w : Watch) (before : List Use) (watch : IsWatch w before) (n : Name) (
           rules = seen.rules ∙ sym (count_by_push_no (names_target c.name) before (BeginsItem n) refl);
           defaults = seen.defaults ∙ sym (count_by_push_no (begins_default_of c.name) before (BeginsItem n) refl);
           items = more ∙ ap (λ (y : ℕ). y + 1) seen.items ∙ sym (count_by_push_yes (begins_item_of c.name) before (BeginsItem n) mine);
-          atoms = atoms-later before (BeginsItem n) c.name c.atoms.items (λ a e. cc) seen.atoms;
+          atoms = atoms-later before (BeginsItem n) c.name c.atoms (λ a e. cc) seen.atoms;
           inputs = inputs-later before (BeginsItem n) c.name c.inputs _ _ (λ d f e. cc) seen.inputs (λ j r at. at) (λ j r at was. at);
           few = (seen.few.0, seen.few.1, (let other : c.items ≡ 4096 → ⊥ = λ e. allowed (subst (λ (y : Name). count_by (begins_item_of y) before ≡ 4096) name (sym seen.items ∙ e)) in let less = seen.few.2 in omega arith), seen.few.3, seen.few.4);
         })
-        w' (omega arith) (omega arith) (bridges ∙ sym (append-nil w.bridges.items)) variables (contexts ∙ ap (slice_set w.contexts.items k) is) refl
+        w' (omega arith) (omega arith) (bridges ∙ sym (append-nil w.bridges)) variables (contexts ∙ ap (slice_set w.contexts.items k) is) refl
 
     pub step-begins_default : IsSpokenOf before (BeginsDefault n) → IsUseAllowed before (BeginsDefault n) → (c' : ContextSeen) (x : ℕ) → x ≡ c.defaults + 1 → c' ≡ record c { defaults = x } → w'.contexts.items ≡ slice_set w.contexts.items k c' → IsWatch w' (before ++ BeginsDefault n ∷ [])
     step-begins_default spoken allowed c' x more is contexts =
@@ -80,11 +80,11 @@ module _ (w : Watch) (before : List Use) (watch : IsWatch w before) (n : Name) (
           rules = seen.rules ∙ sym (count_by_push_no (names_target c.name) before (BeginsDefault n) refl);
           defaults = more ∙ ap (λ (y : ℕ). y + 1) seen.defaults ∙ sym (count_by_push_yes (begins_default_of c.name) before (BeginsDefault n) mine);
           items = seen.items ∙ sym (count_by_push_no (begins_item_of c.name) before (BeginsDefault n) refl);
-          atoms = atoms-later before (BeginsDefault n) c.name c.atoms.items (λ a e. cc) seen.atoms;
+          atoms = atoms-later before (BeginsDefault n) c.name c.atoms (λ a e. cc) seen.atoms;
           inputs = inputs-later before (BeginsDefault n) c.name c.inputs _ _ (λ d f e. cc) seen.inputs (λ j r at. at) (λ j r at was. at);
           few = (seen.few.0, (let other : c.defaults ≡ 10 → ⊥ = λ e. allowed (subst (λ (y : Name). count_by (begins_default_of y) before ≡ 10) name (sym seen.defaults ∙ e)) in let less = seen.few.1 in omega arith), seen.few.2, seen.few.3, seen.few.4);
         })
-        w' (omega arith) (omega arith) (bridges ∙ sym (append-nil w.bridges.items)) variables (contexts ∙ ap (slice_set w.contexts.items k) is) refl
+        w' (omega arith) (omega arith) (bridges ∙ sym (append-nil w.bridges)) variables (contexts ∙ ap (slice_set w.contexts.items k) is) refl
 
     pub step-names_target : IsUseAllowed before (NamesTarget n) → (c' : ContextSeen) (x : ℕ) → x ≡ c.rules + 1 → c' ≡ record c { rules = x } → w'.contexts.items ≡ slice_set w.contexts.items k c' → IsWatch w' (before ++ NamesTarget n ∷ [])
     step-names_target allowed c' x more is contexts =
@@ -96,16 +96,16 @@ module _ (w : Watch) (before : List Use) (watch : IsWatch w before) (n : Name) (
           rules = more ∙ ap (λ (y : ℕ). y + 1) seen.rules ∙ sym (count_by_push_yes (names_target c.name) before (NamesTarget n) mine);
           defaults = seen.defaults ∙ sym (count_by_push_no (begins_default_of c.name) before (NamesTarget n) refl);
           items = seen.items ∙ sym (count_by_push_no (begins_item_of c.name) before (NamesTarget n) refl);
-          atoms = atoms-later before (NamesTarget n) c.name c.atoms.items (λ a e. cc) seen.atoms;
+          atoms = atoms-later before (NamesTarget n) c.name c.atoms (λ a e. cc) seen.atoms;
           inputs = inputs-later before (NamesTarget n) c.name c.inputs _ _ (λ d f e. cc) seen.inputs (λ j r at. at) (λ j r at was. at);
           few = ((let other : c.rules ≡ 12 → ⊥ = λ e. allowed.1 (subst (λ (y : Name). count_by (names_target y) before ≡ 12) name (sym seen.rules ∙ e)) in let less = seen.few.0 in omega arith), seen.few.1, seen.few.2, seen.few.3, seen.few.4);
         })
-        w' (omega arith) (omega arith) (bridges ∙ sym (append-nil w.bridges.items)) variables (contexts ∙ ap (slice_set w.contexts.items k) is) refl
+        w' (omega arith) (omega arith) (bridges ∙ sym (append-nil w.bridges)) variables (contexts ∙ ap (slice_set w.contexts.items k) is) refl
 
     -- an atom, whose list is the same if it was there, and has it at its end if not
     module _ (a : Name) (c' : ContextSeen) (same : c'.name ≡ c.name) (program : c'.is_program ≡ c.is_program) (rules : c'.rules ≡ c.rules) (items : c'.items ≡ c.items) (defaults : c'.defaults ≡ c.defaults) (inputs : c'.inputs ≡ c.inputs)
         (spoken : IsSpokenOf before (AtomOf n a)) (allowed : IsUseAllowed before (AtomOf n a)) (contexts : w'.contexts.items ≡ slice_set w.contexts.items k c') where
-      step-atom : ListsEach c'.atoms.items (WasAtom (before ++ AtomOf n a ∷ []) c.name) → length c'.atoms.items ≤ 64 → IsWatch w' (before ++ AtomOf n a ∷ [])
+      step-atom : ListsEach c'.atoms (WasAtom (before ++ AtomOf n a ∷ []) c.name) → length c'.atoms ≤ 64 → IsWatch w' (before ++ AtomOf n a ∷ [])
       step-atom listed few =
           context-step w before watch (AtomOf n a) spoken allowed (λ t d f e. cc) k c c' here same
           (λ x differ. apart-atom n a x (λ e. differ (e ∙ sym name)))
@@ -115,31 +115,31 @@ module _ (w : Watch) (before : List Use) (watch : IsWatch w before) (n : Name) (
             rules = rules ∙ seen.rules ∙ ap (λ (y : Name). count_by (names_target y) before) (sym same) ∙ sym (count_by_push_no (names_target c'.name) before (AtomOf n a) refl);
             defaults = defaults ∙ seen.defaults ∙ ap (λ (y : Name). count_by (begins_default_of y) before) (sym same) ∙ sym (count_by_push_no (begins_default_of c'.name) before (AtomOf n a) refl);
             items = items ∙ seen.items ∙ ap (λ (y : Name). count_by (begins_item_of y) before) (sym same) ∙ sym (count_by_push_no (begins_item_of c'.name) before (AtomOf n a) refl);
-            atoms = subst (λ (y : Name). ListsEach c'.atoms.items (WasAtom (before ++ AtomOf n a ∷ []) y)) (sym same) listed;
+            atoms = subst (λ (y : Name). ListsEach c'.atoms (WasAtom (before ++ AtomOf n a ∷ []) y)) (sym same) listed;
             inputs = inputs-later before (AtomOf n a) c'.name c'.inputs _ _ (λ d f e. cc) (rw (same, inputs) seen.inputs) (λ j r at. at) (λ j r at was. at);
             few = (omega (arith, seen.few.0), omega (arith, seen.few.1), omega (arith, seen.few.2), few, rw inputs seen.few.4);
           })
-          w' (omega arith) (omega arith) (bridges ∙ sym (append-nil w.bridges.items)) variables contexts refl
+          w' (omega arith) (omega arith) (bridges ∙ sym (append-nil w.bridges)) variables contexts refl
 
-      pub step-atom_again : c'.atoms.items ≡ c.atoms.items → IsAmong a c.atoms.items → IsWatch w' (before ++ AtomOf n a ∷ [])
+      pub step-atom_again : c'.atoms ≡ c.atoms → IsAmong a c.atoms → IsWatch w' (before ++ AtomOf n a ∷ [])
       step-atom_again atoms there =
           let was : WasAtom before c.name a = (seen.atoms.1 a).0 there in
           let was' : IsAmong (AtomOf n a) before = subst (λ (y : Name). IsAmong (AtomOf y a) before) name was in
           step-atom
           (subst (λ (xs : List Name). ListsEach xs (WasAtom (before ++ AtomOf n a ∷ []) c.name)) (sym atoms)
-          (lists-same c.atoms.items (WasAtom before c.name) (WasAtom (before ++ AtomOf n a ∷ []) c.name) (λ b. (
+          (lists-same c.atoms (WasAtom before c.name) (WasAtom (before ++ AtomOf n a ∷ []) c.name) (λ b. (
             λ h. earlier before (AtomOf n a) (AtomOf c.name b) h,
             λ h. elim ((among_push (AtomOf c.name b) before (AtomOf n a)).0 h) [ inl h' ↦ h' | inr e ↦ subst (λ (u : Use). IsAmong u before) (sym e) was' ],
           )) seen.atoms))
           (omega (arith, ap length atoms, seen.few.3))
 
-      pub step-atom_new : c'.atoms.items ≡ c.atoms.items ++ a ∷ [] → ¬ IsAmong a c.atoms.items → IsWatch w' (before ++ AtomOf n a ∷ [])
+      pub step-atom_new : c'.atoms ≡ c.atoms ++ a ∷ [] → ¬ IsAmong a c.atoms → IsWatch w' (before ++ AtomOf n a ∷ [])
       step-atom_new atoms new =
           step-atom
           (subst (λ (xs : List Name). ListsEach xs (WasAtom (before ++ AtomOf n a ∷ []) c.name)) (sym atoms)
-          (lists-more c.atoms.items (WasAtom before c.name) (WasAtom (before ++ AtomOf n a ∷ []) c.name) a (λ b. (
+          (lists-more c.atoms (WasAtom before c.name) (WasAtom (before ++ AtomOf n a ∷ []) c.name) a (λ b. (
             λ h. elim ((among_push (AtomOf c.name b) before (AtomOf n a)).0 h) [ inl h' ↦ inl h' | inr e ↦ inr (let e' : b ≡ a = cc in e') ],
             λ h. elim h [ inl h' ↦ earlier before (AtomOf n a) (AtomOf c.name b) h' | inr e ↦ (among_push (AtomOf c.name b) before (AtomOf n a)).1 (inr (let e' = name in cc)) ],
           )) new seen.atoms))
-          (let many : length c.atoms.items ≡ 64 → ⊥ = λ e. allowed ((one-more c.atoms.items (WasAtom before n) 64 a (subst (λ (y : Name). ListsEach c.atoms.items (WasAtom before y)) name seen.atoms)).1 (e, new)) in
-          let few = seen.few.3 in let long = length-append c.atoms.items (a ∷ []) in omega (arith, ap length atoms))
+          (let many : length c.atoms ≡ 64 → ⊥ = λ e. allowed ((one-more c.atoms (WasAtom before n) 64 a (subst (λ (y : Name). ListsEach c.atoms (WasAtom before y)) name seen.atoms)).1 (e, new)) in
+          let few = seen.few.3 in let long = length-append c.atoms (a ∷ []) in omega (arith, ap length atoms))

@@ -121,18 +121,18 @@ module _ (w : Watch) (before : List Use) (m : Entry) (a : About) (s : Said) (ask
 
   -- ---- atoms
   module _ (c : ContextSeen) (here : slice_get w.contexts.items s.subject.context ≡ Some c) where
-    atoms-listed : ListsEach c.atoms.items (WasAtom before a.subject.context)
-    atoms-listed = subst (λ (n : Name). ListsEach c.atoms.items (WasAtom before n)) (seen-name w before asked.watch a.subject.context s.subject.context asked.subject_is.context c here)
+    atoms-listed : ListsEach c.atoms (WasAtom before a.subject.context)
+    atoms-listed = subst (λ (n : Name). ListsEach c.atoms (WasAtom before n)) (seen-name w before asked.watch a.subject.context s.subject.context asked.subject_is.context c here)
         (seen-here w before asked.watch a.subject.context s.subject.context asked.subject_is.context c here).atoms
 
-    pub few-atoms : length c.atoms.items < 64 → ¬ ExceedsLimit AtomsPerContext before m
+    pub few-atoms : length c.atoms < 64 → ¬ ExceedsLimit AtomsPerContext before m
     few-atoms few h =
-        let full = (one-more c.atoms.items _ 64 s.token.now atoms-listed).0 ((atoms-beyond w before m a s asked).0 h).1 in
+        let full = (one-more c.atoms _ 64 s.token.now atoms-listed).0 ((atoms-beyond w before m a s asked).0 h).1 in
         omega (arith, full.0)
 
-    pub atoms-told : (n : ℕ) (b : Bool) → s.uses.role ≡ roles.Atom n → IsTrue b ↔ IsAmong s.token.now c.atoms.items → 64 ≤ length c.atoms.items → IsTrue (not b) ↔ ExceedsLimit AtomsPerContext before m
+    pub atoms-told : (n : ℕ) (b : Bool) → s.uses.role ≡ roles.Atom n → IsTrue b ↔ IsAmong s.token.now c.atoms → 64 ≤ length c.atoms → IsTrue (not b) ↔ ExceedsLimit AtomsPerContext before m
     atoms-told n b role tells many =
-        let one = one-more c.atoms.items (WasAtom before a.subject.context) 64 s.token.now atoms-listed in
+        let one = one-more c.atoms (WasAtom before a.subject.context) 64 s.token.now atoms-listed in
         let few = (seen-here w before asked.watch a.subject.context s.subject.context asked.subject_is.context c here).few.3 in
         let beyond = atoms-beyond w before m a s asked in
         let tell = Decides-not b tells in (

@@ -14,8 +14,10 @@ pub mod ValidAtoms
 pub mod ValidTexts
 pub mod SaidLemmas
 pub mod DifferentLemmas
+pub mod NameTables
 pub mod WatchFacts
 pub mod LimitLemmas
+pub mod QuietTokens
 pub mod TellLemmas
 pub mod ReadLemmas
 pub mod InputLemmas

@@ -1,11 +1,9 @@
 -- The numbers of values in a list, as a search finds them.
-use Rattle.std.proofs.Common.{◌≡◌, ℕ, ◌+◌, ◌<◌, ◌≤◌, Bool, true, false, List, map, take, length, get_or, Some, refl, sym, ap, ◌∙◌, subst, inl, inr, true≢false}
-use Rattle.std.proofs.lemmas.List.{take_all, length-map, map-id}
-use Rattle.std.proofs.lemmas.Option.{slice_get_read}
+use Rattle.std.proofs.Common.{◌≡◌, ℕ, ◌<◌, ◌≤◌, Bool, true, false, List, map, take, length, get_or, Some, sym, ap, ◌∙◌, subst, inl, inr, true≢false}
+use Rattle.std.proofs.lemmas.List.{take_all, length-map}
 use Rattle.std.proofs.lemmas.Slice.Eq.{bytes_eq-Decides}
 use Rattle.std.specs.Str.{bytes_eq}
 use Rattle.mcs_base.specs.Listings.{IsAmong}
-use Rattle.mcs_base.proofs.Among.{no_image_more, among_get}
 use Rattle.mcs_base.proofs.Lists.{slice_get-map_at}
 use Rattle.mcs_grammar.specs.Entries.{Token}
 use Rattle.mcs_faults.specs.Watching.{IsNumberOf}
@@ -26,15 +24,3 @@ module _ {A B : Type 0} (f : A → B) where
   -- it is none
   pub number-none : (xs : List A) (k n' : ℕ) (n : B) → length xs ≤ k → n' ≡ length xs → ¬ IsAmong n (map f (take k xs)) → IsNumberOf (map f xs) n n'
   number-none xs k n' n past is none = inr (is ∙ sym (length-map xs f), subst (λ (ys : List A). ¬ IsAmong n (map f ys)) (take_all k xs past) none)
-
--- ---- whether it is one of them
-pub one-here : (xs : List Token) (k : ℕ) (d n : Token) → k < length xs → d ≡ get_or xs k d → n ≡ d → IsAmong n xs
-one-here xs k d n less is same = among_get n xs k (slice_get_read xs (length xs) k d refl less is ∙ ap (λ x. Some x) (sym same))
-
-pub none-more : (xs : List Token) (k : ℕ) (d n : Token) → k < length xs → d ≡ get_or xs k d → ¬ (n ≡ d) → ¬ IsAmong n (take k xs) → ¬ IsAmong n (take (k + 1) xs)
-none-more xs k d n less is differ none h =
-    no_image_more (λ (x : Token). x) xs k d n less is differ
-    (λ h'. none (subst (IsAmong n) (map-id (take k xs)) h')) (subst (IsAmong n) (sym (map-id (take (k + 1) xs))) h)
-
-pub none-at-all : (xs : List Token) (k : ℕ) (n : Token) → length xs ≤ k → ¬ IsAmong n (take k xs) → ¬ IsAmong n xs
-none-at-all xs k n past none = subst (λ (ys : List Token). ¬ IsAmong n ys) (take_all k xs past) none

@@ -50,12 +50,12 @@ module _ (w : Watch) (before : List Use) (watch : IsWatch w before) (n : Name) (
     few = (omega (arith, h.2), omega (arith, h.4), omega (arith, h.3), (let e = ap length h.5 in omega arith), (let e = ap size h.6 ∙ ap length members-empty in omega arith));
   }
 
-  pub step-names_context : (c : ContextSeen) → IsUnseenContext c n → (w' : Watch) → w'.contexts_begun ≡ w.contexts_begun → w'.bridges_begun ≡ w.bridges_begun → w'.bridges.items ≡ w.bridges.items → w'.variables.items ≡ w.variables.items
+  pub step-names_context : (c : ContextSeen) → IsUnseenContext c n → (w' : Watch) → w'.contexts_begun ≡ w.contexts_begun → w'.bridges_begun ≡ w.bridges_begun → w'.bridges ≡ w.bridges → w'.variables.items ≡ w.variables.items
       → w'.contexts.items ≡ w.contexts.items ++ c ∷ [] → IsWatch w' (before ++ NamesContext n ∷ [])
   step-names_context c fresh w' begun bridges_begun bridges variables contexts =
       watch-step w before watch (NamesContext n) tt new w' (omega arith) (omega arith)
       (ap (map (λ (s : ContextSeen). s.name)) contexts ∙ map-append (λ (s : ContextSeen). s.name) w.contexts.items (c ∷ []) ∙ ap (λ (x : Name). names_seen w ++ x ∷ []) fresh.0)
-      (bridges ∙ sym (append-nil w.bridges.items))
+      (bridges ∙ sym (append-nil w.bridges))
       (subst (λ (vs : List _). ListsEach (map named_read_of vs) (WasRead (before ++ NamesContext n ∷ []))) (sym variables) (reads-later before (NamesContext n) (map named_read_of w.variables.items) (λ t d f e. cc) watch.variables))
       (subst (λ (vs : List _). length vs ≤ 64) (sym variables) watch.few.2)
       (subst (λ (vs : List _). AllByRecursion (IsContextSeen (map named_read_of vs) (before ++ NamesContext n ∷ [])) w'.contexts.items) (sym variables)
@@ -187,12 +187,12 @@ module _ (w : Watch) (before : List Use) (watch : IsWatch w before) (t : Name) (
       let few : length zs ≤ 16 = few-values ys zs values long values' in
       omega arith
 
-  pub step-ends_read : (c' : ContextSeen) → c' ≡ record c { inputs = union c.inputs (single j) } → (w' : Watch) → w'.contexts_begun ≡ w.contexts_begun → w'.bridges_begun ≡ w.bridges_begun → w'.bridges.items ≡ w.bridges.items
+  pub step-ends_read : (c' : ContextSeen) → c' ≡ record c { inputs = union c.inputs (single j) } → (w' : Watch) → w'.contexts_begun ≡ w.contexts_begun → w'.bridges_begun ≡ w.bridges_begun → w'.bridges ≡ w.bridges
       → map named_read_of w'.variables.items ≡ now → w'.contexts.items ≡ slice_set w.contexts.items k c' → IsWatch w' after
   step-ends_read c' is w' begun bridges_begun bridges variables contexts =
       watch-step w before watch u spoken allowed w' (omega arith) (omega arith)
       (ap (map (λ (s : ContextSeen). s.name)) contexts ∙ names-set w.contexts.items k c c' here (ap (λ (s : ContextSeen). s.name) is) ∙ sym (append-nil (names_seen w)))
-      (bridges ∙ sym (append-nil w.bridges.items))
+      (bridges ∙ sym (append-nil w.bridges))
       (subst (λ (vs : List NamedRead). ListsEach vs (WasRead after)) (sym variables) listed)
       (omega (arith, ap length variables, length-map w'.variables.items named_read_of, few-variables))
       (subst (λ (vs : List NamedRead). AllByRecursion (IsContextSeen vs after) w'.contexts.items) (sym variables)
@@ -205,7 +205,7 @@ module _ (w : Watch) (before : List Use) (watch : IsWatch w before) (t : Name) (
         rules = seen.rules ∙ sym (count_by_push_no (names_target c.name) before u refl);
         defaults = seen.defaults ∙ sym (count_by_push_no (begins_default_of c.name) before u refl);
         items = seen.items ∙ sym (count_by_push_no (begins_item_of c.name) before u refl);
-        atoms = atoms-later before u c.name c.atoms.items (λ a e. cc) seen.atoms;
+        atoms = atoms-later before u c.name c.atoms (λ a e. cc) seen.atoms;
         inputs = inputs-now;
         few = (seen.few.0, seen.few.1, seen.few.2, seen.few.3, few-inputs);
       })

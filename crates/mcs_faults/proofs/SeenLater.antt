@@ -42,7 +42,7 @@ module _ (xs more : List NamedRead) (before : List Use) (u : Use) (longer : IsLo
     rules = s.rules ∙ sym (count_by_push_no (names_target c.name) before u apart.rules);
     defaults = s.defaults ∙ sym (count_by_push_no (begins_default_of c.name) before u apart.defaults);
     items = s.items ∙ sym (count_by_push_no (begins_item_of c.name) before u apart.items);
-    atoms = atoms-later before u c.name c.atoms.items apart.atoms s.atoms;
+    atoms = atoms-later before u c.name c.atoms apart.atoms s.atoms;
     inputs = inputs-later before u c.name c.inputs xs more apart.reads s.inputs longer.to (longer.from c.name);
     few = s.few;
   }

@@ -51,7 +51,7 @@ module _ (w : Watch) (before : List Use) (watch : IsWatch w before) (u : Use) (s
       go v new = let few = watch.few.1 in omega arith
 
   pub watch-step : (w' : Watch) → w'.contexts_begun ≡ w.contexts_begun + cond (begins_context u) 1 0 → w'.bridges_begun ≡ w.bridges_begun + cond (begins_bridge u) 1 0
-      → names_seen w' ≡ names_seen w ++ context_named u → w'.bridges.items ≡ w.bridges.items ++ bridge_named u
+      → names_seen w' ≡ names_seen w ++ context_named u → w'.bridges ≡ w.bridges ++ bridge_named u
       → ListsEach (map named_read_of w'.variables.items) (WasRead after) → length w'.variables.items ≤ 64
       → AllByRecursion (IsContextSeen (map named_read_of w'.variables.items) after) w'.contexts.items → IsWatch w' after
   watch-step w' begun bridges_begun names bridges variables few seen = record {
@@ -84,7 +84,7 @@ module _ (w : Watch) (before : List Use) (watch : IsWatch w before) (u : Use) (s
   module _ (no-read : (t c : Name) (f : Formula) → ¬ (EndsRead t c f ≡ u)) where
     -- nothing is said of a context
     pub plain-step : ((n : Name) → IsApart n u) → (w' : Watch) → w'.contexts_begun ≡ w.contexts_begun + cond (begins_context u) 1 0 → w'.bridges_begun ≡ w.bridges_begun + cond (begins_bridge u) 1 0
-        → w'.bridges.items ≡ w.bridges.items ++ bridge_named u → w'.variables.items ≡ w.variables.items → w'.contexts.items ≡ w.contexts.items → context_named u ≡ [] → IsWatch w' after
+        → w'.bridges ≡ w.bridges ++ bridge_named u → w'.variables.items ≡ w.variables.items → w'.contexts.items ≡ w.contexts.items → context_named u ≡ [] → IsWatch w' after
     plain-step apart w' begun bridges_begun bridges variables contexts none =
         watch-step w' begun bridges_begun
         (ap (map (λ (s : ContextSeen). s.name)) contexts ∙ sym (append-nil (names_seen w)) ∙ ap (λ (ns : List Name). names_seen w ++ ns) (sym none))
@@ -98,7 +98,7 @@ module _ (w : Watch) (before : List Use) (watch : IsWatch w before) (u : Use) (s
     -- more is said of the context at this place
     pub context-step : (k : ℕ) (c c' : ContextSeen) → slice_get w.contexts.items k ≡ Some c → c'.name ≡ c.name → ((n : Name) → ¬ (n ≡ c.name) → IsApart n u) → IsContextSeen (map named_read_of w.variables.items) after c'
         → (w' : Watch) → w'.contexts_begun ≡ w.contexts_begun + cond (begins_context u) 1 0 → w'.bridges_begun ≡ w.bridges_begun + cond (begins_bridge u) 1 0
-        → w'.bridges.items ≡ w.bridges.items ++ bridge_named u → w'.variables.items ≡ w.variables.items → w'.contexts.items ≡ slice_set w.contexts.items k c' → context_named u ≡ [] → IsWatch w' after
+        → w'.bridges ≡ w.bridges ++ bridge_named u → w'.variables.items ≡ w.variables.items → w'.contexts.items ≡ slice_set w.contexts.items k c' → context_named u ≡ [] → IsWatch w' after
     context-step k c c' here same apart new w' begun bridges_begun bridges variables contexts none =
         watch-step w' begun bridges_begun
         (ap (map (λ (s : ContextSeen). s.name)) contexts ∙ names-set w.contexts.items k c c' here same ∙ sym (append-nil (names_seen w)) ∙ ap (λ (ns : List Name). names_seen w ++ ns) (sym none))

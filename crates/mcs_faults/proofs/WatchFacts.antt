@@ -76,7 +76,7 @@ named-there w before watch n = (
   λ h. subst (IsAmong n) (sym watch.named) ((context-named n before).0 h),
 )
 
-pub bridge-there : (w : Watch) (before : List Use) → IsWatch w before → (n : Name) → IsAmong n w.bridges.items ↔ IsAmong (NamesBridge n) before
+pub bridge-there : (w : Watch) (before : List Use) → IsWatch w before → (n : Name) → IsAmong n w.bridges ↔ IsAmong (NamesBridge n) before
 bridge-there w before watch n = (
   λ h. (bridge-named n before).1 (subst (IsAmong n) watch.bridges h),
   λ h. subst (IsAmong n) (sym watch.bridges) ((bridge-named n before).0 h),

@@ -44,7 +44,7 @@ module _ (w : Watch) (uses : List Use) (watch : IsWatch w uses) where
         rules = subst (λ (n : ℕ). n ≤ 12) seen.rules few.0;
         defaults = subst (λ (n : ℕ). n ≤ 10) seen.defaults few.1;
         items = subst (λ (n : ℕ). n ≤ 4096) seen.items few.2;
-        atoms = λ names d each. let short = distinct_fits names s.atoms.items d (λ a h. (seen.atoms.1 a).1 (each a h)) in omega (arith, few.3);
+        atoms = λ names d each. let short = distinct_fits names s.atoms d (λ a h. (seen.atoms.1 a).1 (each a h)) in omega (arith, few.3);
         inputs = λ rs d each. let short = distinct_fits rs read.0 d (λ r h. (read.1.1 r).1 (each r h)) in omega (arith, few.4, read.2);
       }
 

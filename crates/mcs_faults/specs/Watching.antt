@@ -41,10 +41,10 @@ pub record IsContextSeen (variables : List NamedRead) (before : List Use) (c : C
   pub rules : c.rules ≡ count_by (names_target c.name) before
   pub defaults : c.defaults ≡ count_by (begins_default_of c.name) before
   pub items : c.items ≡ count_by (begins_item_of c.name) before
-  pub atoms : ListsEach c.atoms.items (WasAtom before c.name)
+  pub atoms : ListsEach c.atoms (WasAtom before c.name)
   -- the numbers, among the variables, of those that rules into the context read
   pub inputs : (k : ℕ) → IsTrue (has c.inputs k) ↔ ((r : NamedRead) × (slice_get variables k ≡ Some r) × WasReadInto before c.name r)
-  pub few : (c.rules ≤ most RulesPerContext) × (c.defaults ≤ most DefaultsPerContext) × (c.items ≤ most ItemsPerContext) × (length c.atoms.items ≤ most AtomsPerContext) × (size c.inputs ≤ most InputsPerContext)
+  pub few : (c.rules ≤ most RulesPerContext) × (c.defaults ≤ most DefaultsPerContext) × (c.items ≤ most ItemsPerContext) × (length c.atoms ≤ most AtomsPerContext) × (size c.inputs ≤ most InputsPerContext)
 
 -- ---- of all
 -- the names of the contexts that were named
@@ -58,7 +58,7 @@ pub record IsWatch (w : Watch) (before : List Use) : Type 0 where
   pub begun : w.contexts_begun ≡ count_by begins_context before
   pub bridges_begun : w.bridges_begun ≡ count_by begins_bridge before
   pub named : names_seen w ≡ contexts_named before
-  pub bridges : w.bridges.items ≡ bridges_named before
+  pub bridges : w.bridges ≡ bridges_named before
   pub different : AreDifferent (contexts_named before) × AreDifferent (bridges_named before)
   pub variables : ListsEach (map named_read_of w.variables.items) (WasRead before)
   pub seen : AllByRecursion (IsContextSeen (map named_read_of w.variables.items) before) w.contexts.items
@@ -115,7 +115,7 @@ IsUseAllowed before u = Unit {0}
 
 -- nothing but the name was seen of the context
 abbrev pub IsUnseenContext : ContextSeen → Name → Type 0
-IsUnseenContext c n = (c.name ≡ n) × (c.is_program ≡ false) × (c.rules ≡ 0) × (c.items ≡ 0) × (c.defaults ≡ 0) × (c.atoms.items ≡ []) × (c.inputs ≡ 0)
+IsUnseenContext c n = (c.name ≡ n) × (c.is_program ≡ false) × (c.rules ≡ 0) × (c.items ≡ 0) × (c.defaults ≡ 0) × (c.atoms ≡ []) × (c.inputs ≡ 0)
 
 -- the read is number j of the list now, to which it was added if it was not there
 pub record IsHeld (old now : List NamedRead) (r : NamedRead) (j : ℕ) : Type 0 where

@@ -3,6 +3,7 @@
 
 mod fault;
 mod limits;
+mod names;
 mod record;
 mod watch;
 

@@ -2,7 +2,6 @@
 
 ghost use Rattle.std.specs.Prelude.{◌≡◌, ◌<◌, ◌↔◌, List, Some, None, IsTrue, length, map};
 ghost use Rattle.std.specs.Option.{option_copied};
-ghost use Rattle.mcs_base.specs.Listings.{IsAmong};
 ghost use Rattle.mcs_sets.specs.Sets.{has};
 ghost use Rattle.mcs_grammar.specs.Entries.{Entry, Use};
 ghost use Rattle.mcs_grammar.specs.Faults as faults;
@@ -10,12 +9,13 @@ ghost use Rattle.mcs_grammar.specs.Faults.{Has, ExceedsLimit};
 ghost use Rattle.mcs_account.specs.Images.{About, named_read_of};
 ghost use Rattle.mcs_faults.specs.Watching.{IsEntryAsked, IsNumberOf, IsLowestFault, AnswersTest};
 ghost use Rattle.mcs_account.specs.declared.reader.NamedRead as code_read;
+ghost use Rattle.mcs_faults.specs.declared.watch.Watch.{Watch};
 
 use crate::fault::Fault;
 use crate::watch::{Said, Watch};
-use mcs_account::{NamedRead, Role, is_name_word, weight_of};
+use mcs_account::{NamedRead, Role, Uses, is_name_word, weight_of};
 use mcs_base::Vars;
-use mcs_system::{Limit, Name, same_formula};
+use mcs_system::{Limit, same_formula};
 
 /// The limits, in the order in which they are tested.
 const LIMITS: [Limit; 12] = [
@@ -33,18 +33,6 @@ const LIMITS: [Limit; 12] = [
     Limit::NameBytes,
 ];
 
-/// Whether the name is among these.
-pub(crate) fn is_one_of(names: &[Name], name: &[u8]) -> bool
-    ensures { IsTrue result ↔ IsAmong name.now names.now }
-{
-    for other in names {
-        if other.bytes() == name {
-            return true;
-        }
-    }
-    false
-}
-
 /// Whether both reads are of the same belief of the same context.
 fn same_read(read: &NamedRead, other: &NamedRead) -> bool
     ensures { IsTrue result ↔ (named_read_of read.now ≡ named_read_of other.now) }
@@ -59,12 +47,45 @@ pub(crate) fn is_input(inputs: Vars, number: usize) -> bool
     number < Limit::Variables.most() && inputs.has(number as u32)
 }
 
+/// Whether the token can have no fault, whatever was seen before. Most tokens of formulas can't.
+fn is_quiet(said: &Said) -> bool
+    ensures { (w : Watch) (before : List Use) (m : Entry) (a : About)
+        → IsEntryAsked w before m a said.now → IsTrue result
+        → (f : faults.TextFault) → ¬ Has f before m }
+{
+    let Uses {
+        role,
+        begins_item,
+        begins_belief,
+        ends_read,
+    } = said.uses;
+    if begins_item || begins_belief || ends_read {
+        return false;
+    }
+    if said.token.len() > Limit::NameBytes.most() {
+        return false;
+    }
+    match role {
+        Role::Nothing => true,
+        Role::Counted { number } => {
+            if number > Limit::FormulaSize.most() {
+                return false;
+            }
+            true
+        }
+        _ => false,
+    }
+}
+
 impl Watch {
     /// The lowest fault of the token, if it has one.
     pub(crate) fn fault_of(&self, said: &Said) -> Option<Fault>
         ensures { (before : List Use) (m : Entry) (a : About)
             → IsEntryAsked self.now before m a said.now → IsLowestFault result before m }
     {
+        if is_quiet(said) {
+            return None;
+        }
         if self.names_no_context(said) {
             return Some(Fault::NoContext);
         }
@@ -118,7 +139,7 @@ impl Watch {
     {
         match said.uses.role {
             Role::NamesContext => self.is_context(said.token),
-            Role::NamesBridge => is_one_of(&self.bridges, said.token),
+            Role::NamesBridge => self.bridges.has(said.token),
             _ => false,
         }
     }
@@ -128,10 +149,13 @@ impl Watch {
     fn begins_no_atom(&self, said: &Said) -> bool
         ensures { AnswersTest result (Has faults.NoAtom) self.now said.now }
     {
+        if !said.uses.begins_belief {
+            return false;
+        }
         if is_name_word(said.token) {
             return false;
         }
-        said.uses.begins_belief && self.is_program(said.subject.context)
+        self.is_program(said.subject.context)
     }
 
     /// The index of the read among the variables, or the number of variables if it is none of them.
@@ -219,7 +243,7 @@ impl Watch {
             return false;
         }
         match said.uses.role {
-            Role::Atom { .. } => !is_one_of(&context.atoms, said.token),
+            Role::Atom { .. } => !context.atoms.has(said.token),
             _ => false,
         }
     }
@@ -279,6 +303,6 @@ impl Watch {
     fn exceeds_bytes(&self, said: &Said) -> bool
         ensures { AnswersTest result (ExceedsLimit Limit.NameBytes) self.now said.now }
     {
-        is_name_word(said.token) && said.token.len() > Limit::NameBytes.most()
+        said.token.len() > Limit::NameBytes.most() && is_name_word(said.token)
     }
 }

@@ -14,7 +14,7 @@ ghost use Rattle.mcs_faults.specs.Watching.{HaveNoFault, IsUseAllowed, IsEntryAs
 ghost use Rattle.mcs_faults.specs.Watching.{IsUnseenContext, IsHeld, IsNumberOf};
 ghost use Rattle.mcs_faults.specs.Watching.{IsWatch, names_seen};
 
-use crate::limits::is_one_of;
+use crate::names::Names;
 use crate::watch::{ContextSeen, Said, Watch};
 use mcs_account::{NamedRead, Role};
 use mcs_base::{Memory, Vars};
@@ -51,7 +51,7 @@ fn fresh(alloc: Global, name: Name) -> ContextSeen
         rules: 0,
         items: 0,
         defaults: 0,
-        atoms: Vec::new(alloc),
+        atoms: Names::new(alloc),
         inputs: Vars::empty(),
     }
 }
@@ -144,9 +144,7 @@ impl Watch {
             → IsUseAllowed before (entries.NamesBridge token.now)
             → IfOk result (λ _. IsWatch self.new (before ++ entries.NamesBridge token.now ∷ [])) }
     {
-        if let Some(name) = Name::read(alloc, token)? {
-            self.bridges.push(name)?;
-        }
+        self.bridges.add(alloc, token)?;
         Ok(())
     }
 
@@ -209,12 +207,10 @@ impl Watch {
         let Some(context) = self.contexts.get_mut(number) else {
             return Ok(());
         };
-        if is_one_of(&context.atoms, token) {
+        if context.atoms.has(token) {
             return Ok(());
         }
-        if let Some(name) = Name::read(alloc, token)? {
-            context.atoms.push(name)?;
-        }
+        context.atoms.add(alloc, token)?;
         Ok(())
     }
 

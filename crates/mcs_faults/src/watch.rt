@@ -13,6 +13,7 @@ ghost use Rattle.mcs_faults.specs.Watching.{IsNumberOf, IsSaid, IsSubject};
 ghost use Rattle.mcs_faults.specs.Watching.{IsFaultVerdict, IsWatch, names_seen};
 
 use crate::fault::Fault;
+use crate::names::Names;
 use mcs_account::{NamedRead, Place, Uses};
 use mcs_base::{Memory, Vars};
 use mcs_system::Name;
@@ -28,7 +29,7 @@ pub(crate) struct ContextSeen {
     pub(crate) items: usize,
     pub(crate) defaults: usize,
     /// Its atoms, each once.
-    pub(crate) atoms: Vec<Name>,
+    pub(crate) atoms: Names,
     /// The indices of the variables that rules into it read.
     pub(crate) inputs: Vars,
 }
@@ -39,7 +40,7 @@ pub struct Watch {
     /// The contexts, in their order.
     pub(crate) contexts: Vec<ContextSeen>,
     /// The names of the bridge rules, in their order.
-    pub(crate) bridges: Vec<Name>,
+    pub(crate) bridges: Names,
     /// The variables: the beliefs that were read, each once.
     pub(crate) variables: Vec<NamedRead>,
     /// How many contexts were begun. The last one may have no name yet.
@@ -86,7 +87,7 @@ impl Watch {
     {
         Watch {
             contexts: Vec::new(alloc),
-            bridges: Vec::new(alloc),
+            bridges: Names::new(alloc),
             variables: Vec::new(alloc),
             contexts_begun: 0,
             bridges_begun: 0,

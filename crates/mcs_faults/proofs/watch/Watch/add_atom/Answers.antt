@@ -1,7 +1,6 @@
-use Rattle.std.proofs.Common.{refl, ap, ◌∙◌, ◌++◌, [], ◌∷◌}
+use Rattle.std.proofs.Common.{refl}
 use Rattle.std.proofs.lemmas.Bool.Decides.{not_from_Decides}
 use Rattle.mcs_base.proofs.Lists.{slice_get_read_as, slice_get_past_as}
-use Rattle.mcs_system.specs.Plain.{Name}
 use Rattle.mcs_faults.proofs.ContextSteps.{step-atom_again, step-atom_new}
 use Rattle.mcs_faults.proofs.WatchFacts.{seen-none}
 use Rattle.mcs_faults.proofs.watch.Watch.add_atom.Goals as goal
@@ -9,13 +8,14 @@ use Rattle.mcs_faults.proofs.watch.Watch.add_atom.Goals as goal
 pub returns-in_default : goal.returns-in_default
 returns-in_default c = λ before n watch number word spoken allowed. absurd (seen-none c.args.self.now before watch n c.args.number number (slice_get_past_as c.args.self.now.contexts.items c.args.self.now.contexts.items c.args.number refl c.in_default.ensures.item.3) spoken)
 
-pub returns-then-is_one_of : goal.returns-then-is_one_of
-returns-then-is_one_of c = λ before n watch number word spoken allowed.
+pub returns-then-has : goal.returns-then-has
+returns-then-has c = λ before n watch number word spoken allowed.
     let here = slice_get_read_as c.args.self.now.contexts.items c.args.self.now.contexts.items c.args.number c.in-Some.context.now refl c.in-Some.ensures.item.3.0 c.in-Some.ensures.value in
-    step-atom_again c.args.self.now before watch n c.args.number number c.in-Some.context.now here _ refl refl refl refl c.args.token.now _ refl refl refl refl refl refl spoken allowed refl refl ((rw c.deref.ensures.value at c.is_one_of.ensures).0 c.if-is_one_of.true)
+    step-atom_again c.args.self.now before watch n c.args.number number c.in-Some.context.now here _ refl refl refl refl c.args.token.now _ refl refl refl refl refl refl spoken allowed refl refl (c.has.ensures.0 c.if-has.true)
 
-pub returns-in_ok-push : goal.returns-in_ok-push
-returns-in_ok-push c = λ before n watch number word spoken allowed.
+pub returns : goal.returns
+returns c = λ before n watch number word spoken allowed.
+    let new = not_from_Decides c.has.result c.has.ensures c.if-has.false in
     let here = slice_get_read_as c.args.self.now.contexts.items c.args.self.now.contexts.items c.args.number c.in-Some.context.now refl c.in-Some.ensures.item.3.0 c.in-Some.ensures.value in
     step-atom_new c.args.self.now before watch n c.args.number number c.in-Some.context.now here _ refl refl refl refl c.args.token.now _ refl refl refl refl refl refl spoken allowed refl
-    (c.in_ok-push.ensures.items ∙ ap (λ (x : Name). c.in-Some.context.now.atoms.items ++ x ∷ []) (rw c.in-Some-2.is at c.in_ok-name.ensures.some)) (not_from_Decides c.is_one_of.result (rw c.deref.ensures.value at c.is_one_of.ensures) c.if-is_one_of.false)
+    (c.in_ok-add.ensures.new new) new

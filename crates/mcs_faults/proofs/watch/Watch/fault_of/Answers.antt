@@ -2,6 +2,9 @@ use Rattle.std.proofs.lemmas.Bool.Decides.{not_from_Decides}
 use Rattle.mcs_grammar.proofs.RankLemmas.{from-context, from-twin, from-atom, from-limit, none-at-all, none-more}
 use Rattle.mcs_faults.proofs.watch.Watch.fault_of.Goals as goal
 
+pub returns-then-is_quiet : goal.returns-then-is_quiet
+returns-then-is_quiet c = λ before m a asked. c.is_quiet.ensures c.args.self.now before m a asked c.if-is_quiet.true
+
 pub returns-then-names_no_context : goal.returns-then-names_no_context
 returns-then-names_no_context c = λ before m a asked. ((c.names_no_context.ensures before m a asked).0 c.if-names_no_context.true, from-context before m)
 

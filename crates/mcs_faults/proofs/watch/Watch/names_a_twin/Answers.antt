@@ -17,7 +17,7 @@ returns-in-NamesContext c = λ before m a asked.
 pub returns-in-NamesBridge : goal.returns-in-NamesBridge
 returns-in-NamesBridge c = λ before m a asked.
     let named = bridge-there c.args.self.now before asked.watch c.args.said.now.token.now in
-    let same = rw c.deref.ensures.value at c.is_one_of.ensures in
+    let same = c.has.ensures in
     Decides-like _ (twin-is c.args.self.now before m a c.args.said.now asked).1 (twin-is c.args.self.now before m a c.args.said.now asked).0 (
       λ h. inr (c.in-NamesBridge.is, named.0 (same.0 h)),
       λ h. elim h [ inl e ↦ let no-such : roles.NamesBridge ≡ roles.NamesContext = sym c.in-NamesBridge.is ∙ e.0 in cc | inr e ↦ same.1 (named.1 e.1) ],

@@ -20,7 +20,7 @@ returns-in-Some c = λ before t watch number spoken allowed.
     let below = number-below c.args.self.now before watch t (named_read_of c.args.read.now) spoken allowed c.args.target number c.in-Some.context.now here now j held in
     step-ends_read c.args.self.now before watch t (named_read_of c.args.read.now) spoken allowed c.args.target number c.in-Some.context.now here now j held _
     (ap (λ (s : Set Variable). with_inputs c.in-Some.context.now s) (c.with_input-context.ensures below)) _
-    (ap (λ (w : Watch). w.contexts_begun) rest) (ap (λ (w : Watch). w.bridges_begun) rest) (ap (λ (w : Watch). w.bridges.items) rest) refl
+    (ap (λ (w : Watch). w.contexts_begun) rest) (ap (λ (w : Watch). w.bridges_begun) rest) (ap (λ (w : Watch). w.bridges) rest) refl
     (ap (λ (cs : List ContextSeen). slice_set cs c.args.target (with_inputs c.in-Some.context.now c.with_input-context.result)) contexts)
 
 pub returns-in_default : goal.returns-in_default
