@@ -1,0 +1,17 @@
+pub mod Counting
+pub mod Programs
+pub mod Reduced
+pub mod Beliefs
+pub mod Heads
+pub mod Accepted
+pub mod Shown
+pub mod Needed
+pub mod Deriving
+pub mod Alike
+pub mod Choosing
+pub mod Dropping
+pub mod Choices
+pub mod Pairs
+pub mod Alone
+pub mod GroundedLaws
+pub mod Decided
