@@ -1,0 +1,103 @@
+-- What contexts derive, by the kind of their knowledge base; and what was found of classical ones.
+use Rattle.std.proofs.Common.{◌≡◌, ℕ, ◌<◌, false, List, [], ◌∷◌, ◌++◌, length, Some, slice_get, slice_set, refl, sym, ap, ◌∙◌, subst, inl, inr, arith, true≢false}
+use Rattle.std.proofs.lemmas.Bool.{cases_eq}
+use Rattle.std.proofs.lemmas.Cmp.{ranked}
+use Rattle.std.proofs.lemmas.Option.{same_Some, get_or_from_slice_get}
+use Rattle.std.specs.BTreeMap.{BTreeMap, get, is_at, IsEmpty}
+use Rattle.std.specs.Map.{lookup}
+use Rattle.std.specs.Ordering.{MatchOrdering, is_eq, nat_cmp}
+use Rattle.std.specs.declared.cmp.Ordering.{Ordering}
+use Rattle.std.specs.declared.cmp.Ordering.TheVariants.{Less, Equal, Greater}
+use Rattle.mcs_sets.specs.Sets.{common}
+use Rattle.mcs_sets.specs.Orders.{StateBefore}
+use Rattle.mcs_base.specs.Listings.{IsListing}
+use Rattle.mcs_base.proofs.Lists.{slice_get-map_some}
+use Rattle.mcs_base.proofs.Written.{slice_get-slice_set, length-slice_set}
+use Rattle.mcs_system.specs.Plain.{Formula, Item, ProgramRule, Kb, Classical, DefaultTheory, Program, Context, System}
+use Rattle.mcs_system.specs.Atoms.{atoms_of}
+use Rattle.mcs_system.specs.Imports.{rules_into}
+use Rattle.mcs_system.specs.Logic.{Accepts, with_heads, true_names}
+use Rattle.mcs_system.specs.Systems.{heads_into, IsAcceptedPart}
+use Rattle.mcs_laws.proofs.Classical.{classical_part, following, has-following}
+use Rattle.mcs_laws.proofs.Questions.{heads-own}
+use Rattle.mcs_reduct.specs.Plain.{is_plain, IsPlain}
+use Rattle.mcs_grounded.specs.Derivations.{Derives, atoms_at}
+use Rattle.mcs_grounded.specs.Parts.{IsProgramAt, IsClassicalContext, IsConeOf, IsConeFor, AreConesOf, cones_of, AreFoundOf, AreAllFound}
+use Rattle.mcs_grounded.specs.declared.cone.Cone.{Cone}
+
+-- ---- by kind
+pub classical_derives : (m : System) (i x τ cone names : ℕ) → IsClassicalContext m i → IsAcceptedPart m i x τ → (d : Context) → slice_get m.contexts i ≡ Some d
+    → Derives m i (true_names 0 (atoms_of m i) cone) (true_names 0 (atoms_of m i) names) d.kb x τ
+classical_derives m i x τ cone names (fs, c, is, kb) part d there =
+    let same : c ≡ d = same_Some c d (sym is ∙ there) in
+    subst (λ (k : Kb). Derives m i (true_names 0 (atoms_of m i) cone) (true_names 0 (atoms_of m i) names) k x τ) (sym kb ∙ ap (λ (e : Context). e.kb) same) ((classical_part m i x τ c fs is kb).0 part)
+
+pub program_derives : (m : System) (i x τ against : ℕ) (cones : List Cone) (cone : Cone) (rules : List ProgramRule) → AreConesOf m cones → slice_get cones i ≡ Some cone → IsProgramAt m i rules
+    → (IsConeOf m i rules cone → Derives m i (true_names 0 (atoms_of m i) cone.places) (true_names 0 (atoms_of m i) against) (Program rules) x τ)
+    → (d : Context) → slice_get m.contexts i ≡ Some d → Derives m i (atoms_at m (cones_of cones) i) (true_names 0 (atoms_of m i) against) d.kb x τ
+program_derives m i x τ against cones cone rules are own (c, is, kb) derives d there =
+    let same : c ≡ d = same_Some c d (sym is ∙ there) in
+    subst (λ (k : Kb). Derives m i (atoms_at m (cones_of cones) i) (true_names 0 (atoms_of m i) against) k x τ) (sym kb ∙ ap (λ (e : Context). e.kb) same)
+    (subst (λ (z : ℕ). Derives m i (true_names 0 (atoms_of m i) z) (true_names 0 (atoms_of m i) against) (Program rules) x τ) (sym (get_or_from_slice_get (cones_of cones) i cone.places 0 (slice_get-map_some (λ (c : Cone). c.places) cones i cone own)))
+    (derives ((are.own i cone own).of_program rules (c, is, kb))))
+
+pub cone_for : (m : System) (i : ℕ) (rules : List ProgramRule) (cone : Cone) → IsProgramAt m i rules → IsConeOf m i rules cone → IsConeFor m i cone
+cone_for m i rules cone (c, is, kb) of_these = record {
+  of_program = λ others (d, there, kb'). (
+      let same : c ≡ d = same_Some c d (sym is ∙ there) in
+      let one : rules ≡ others = (let e : Program rules ≡ Program others = sym kb ∙ ap (λ (e : Context). e.kb) same ∙ kb' in cc) in
+      subst (λ (rs : List ProgramRule). IsConeOf m i rs cone) one of_these);
+  or_none = inl (rules, (c, is, kb));
+}
+
+pub no_cone : (m : System) (i : ℕ) (fs : List Formula) (cone : Cone) (c : Context) → slice_get m.contexts i ≡ Some c → c.kb ≡ Classical fs → cone.places ≡ 0 → IsConeFor m i cone
+no_cone m i fs cone c is kb none = record {
+  of_program = λ others (d, there, kb'). (
+      let same : c ≡ d = same_Some c d (sym is ∙ there) in
+      let e : Classical fs ≡ Program others = sym kb ∙ ap (λ (e : Context). e.kb) same ∙ kb' in absurd (cc));
+  or_none = inr none;
+}
+
+pub no_default : (m : System) (i : ℕ) (c : Context) (items : List Item) → IsPlain m → slice_get m.contexts i ≡ Some c → c.kb ≡ DefaultTheory items → ⊥
+no_default m i c items plain is kb = true≢false (sym (plain i c is) ∙ ap is_plain kb)
+
+-- ---- a classical context has one part
+pub some_part : (m : System) (i x : ℕ) (parts : List ℕ) → IsClassicalContext m i → IsListing (IsAcceptedPart m i x) StateBefore parts → 0 < length parts
+some_part m i x [] (fs, c, is, kb) listed = absurd ((listed.exactly (following m i (fs ++ heads_into m i x))).1 ((classical_part m i x (following m i (fs ++ heads_into m i x)) c fs is kb).1 (has-following m i (fs ++ heads_into m i x))))
+some_part m i x (τ ∷ parts) context listed = omega arith
+
+-- what is accepted depends on the rules into the context
+pub part_with : (m : System) (i x τ : ℕ) → IsAcceptedPart m i (common x (rules_into m i)) τ → IsAcceptedPart m i x τ
+part_with m i x τ h = let (c, is, accepts) = h.accepted in record {
+  belief = h.belief;
+  accepted = (c, is, subst (λ (hs : List Formula). Accepts (with_heads c.kb hs) h.belief) (sym (heads-own m i x)) accepts);
+  part = h.part;
+}
+
+-- ---- what was found
+apart_at : (x y : ℕ) → ¬ (x ≡ y) → is_at (nat_cmp x) y ≡ false
+apart_at x y differ = at (nat_cmp x y) (ranked x y _ refl)
+  where
+    at : (o : Ordering) → MatchOrdering o (x < y) (x ≡ y) (y < x) → is_eq o ≡ false
+    at Less h = refl
+    at Equal h = absurd (differ h)
+    at Greater h = refl
+
+pub none_found_of : (m : System) (i : ℕ) (found : BTreeMap ℕ ℕ) → IsEmpty found → AreFoundOf m i found
+none_found_of m i found empty x τ is = let e : lookup (is_at (nat_cmp x)) [] ≡ Some τ = subst (λ (es : List (ℕ × ℕ)). lookup (is_at (nat_cmp x)) es ≡ Some τ) empty is in cc
+
+pub found_more : (m : System) (i x τ : ℕ) (old new : BTreeMap ℕ ℕ) → get nat_cmp new x ≡ Some τ → ((y : ℕ) → is_at (nat_cmp x) y ≡ false → get nat_cmp new y ≡ get nat_cmp old y) → IsAcceptedPart m i x τ → AreFoundOf m i old → AreFoundOf m i new
+found_more m i x τ old new now others part are y υ is = elim (cases_eq x y) [
+  | inl same ↦ subst (λ (z : ℕ). IsAcceptedPart m i z υ) same (subst (IsAcceptedPart m i x) (same_Some τ υ (sym now ∙ ap (get nat_cmp new) same ∙ is)) part)
+  | inr differ ↦ are y υ (sym (others y (apart_at x y differ)) ∙ is)
+]
+
+-- of one context more was found
+pub all_found_set : (m : System) (all : List (BTreeMap ℕ ℕ)) (i : ℕ) (found : BTreeMap ℕ ℕ) → AreAllFound m all → AreFoundOf m i found → AreAllFound m (slice_set all i found)
+all_found_set m all i found are of_i = record {
+  one_each = length-slice_set all i found ∙ are.one_each;
+  own = λ j f is. elim (slice_get-slice_set all i j found f is) [
+    | inl (same, now) ↦ subst (AreFoundOf m j) (sym now) (subst (λ (k : ℕ). AreFoundOf m k found) (sym same) of_i)
+    | inr (other, before) ↦ are.own j f before
+  ];
+}

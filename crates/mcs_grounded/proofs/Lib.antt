@@ -1,0 +1,11 @@
+pub mod Least
+pub mod Derived
+pub mod Loops
+pub mod Places
+pub mod Cones
+pub mod Gathering
+pub mod Derivers
+pub mod Telling
+pub mod Viewing
+pub mod Candidates
+pub mod Listed

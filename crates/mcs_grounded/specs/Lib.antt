@@ -1,0 +1,4 @@
+pub mod Derivations
+pub mod Parts
+pub mod Views
+pub mod Searches
