@@ -104,6 +104,8 @@ pub data Request : Type 0 where
   check : Word → Word → Request
   -- to solve the system that is generated for a number: the number, a budget of questions, a number of workers
   make : ℕ → ℕ → ℕ → Request
+  -- to list the grounded equilibria of the system that a file has: the file, a budget of questions, a number of workers
+  grounded : Word → ℕ → ℕ → Request
 
 -- the name of a file: not empty, and not `-`
 abbrev pub IsFile : Word → Type 0
@@ -125,6 +127,8 @@ AsksFor c (check file report) =
     × (c.plain ≡ codes "check" ∷ file ∷ report ∷ []) × IsFile file × IsFile report × HasSettings c budget workers proof
 AsksFor c (make number budget workers) =
     (proof : Bool) × (digits : Word) × (c.plain ≡ codes "make" ∷ digits ∷ []) × IsNumber 0 most_made digits number × HasSettings c budget workers proof
+AsksFor c (grounded file budget workers) =
+    (proof : Bool) × (c.plain ≡ codes "grounded" ∷ file ∷ []) × IsFile file × HasSettings c budget workers proof
 
 -- the words ask for the job
 abbrev pub IsJobOf : List Word → Request → Type 0

@@ -63,6 +63,14 @@ pub(crate) fn job(alloc: Global, given: &Given) -> Result<Job, WordsFault>
                 workers,
             })
         }
+        Task::Grounded => {
+            let file = one_file(alloc, given)?;
+            Ok(Job::Grounded {
+                file,
+                budget,
+                workers,
+            })
+        }
     }
 }
 

@@ -34,6 +34,12 @@ pub enum Job {
         budget: u64,
         workers: u32,
     },
+    /// To list the grounded equilibria of the system in the file.
+    Grounded {
+        file: String,
+        budget: u64,
+        workers: u32,
+    },
 }
 
 /// Why words ask for no job.

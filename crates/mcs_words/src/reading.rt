@@ -27,7 +27,8 @@ pub(crate) enum Place {
 
 /// The job that the words ask for. `words` are those after the program's name.
 ///
-/// - The job is `equilibria FILE`, `solve FILE`, `check FILE REPORT` or `make NUMBER`.
+/// - The job is `equilibria FILE`, `solve FILE`, `grounded FILE`, `check FILE REPORT` or
+///   `make NUMBER`.
 /// - The options `--budget N` and `--workers N` and the flag `--proof` may be anywhere before `--`,
 ///   each at most once. An option may also be written `--budget=N`. After `--` every word is plain.
 /// - FILE and REPORT are not empty and not `-`.

@@ -14,6 +14,8 @@ pub(crate) enum Task {
     Check,
     /// `make`.
     Make,
+    /// `grounded`.
+    Grounded,
 }
 
 /// The job that the word names.
@@ -29,6 +31,8 @@ pub(crate) fn task_of(word: &str) -> Option<Task>
         Some(Task::Check)
     } else if word == "make" {
         Some(Task::Make)
+    } else if word == "grounded" {
+        Some(Task::Grounded)
     } else {
         None
     }

@@ -4,7 +4,7 @@ use Rattle.std.proofs.lemmas.Slice.Eq.{bytes_eq-Decides}
 use Rattle.mcs_words.specs.Commands.{Word}
 use Rattle.mcs_words.specs.Reading.{task_name}
 use Rattle.mcs_words.specs.declared.task.Task.{Task}
-use Rattle.mcs_words.specs.declared.task.Task.TheVariants.{Equilibria, Solve, Check, Make}
+use Rattle.mcs_words.specs.declared.task.Task.TheVariants.{Equilibria, Solve, Check, Make, Grounded}
 use Rattle.mcs_words.proofs.task.task_of.Goals as goal
 
 differs : (word name : Word) → bytes_eq word name ≡ false → ¬ (word ≡ name)
@@ -12,11 +12,12 @@ differs word name other same = true≢false (sym ((bytes_eq-Decides word name).1
 
 -- the word is the name of no job
 unnamed : (word : Word) → bytes_eq word (codes "equilibria") ≡ false → bytes_eq word (codes "solve") ≡ false
-    → bytes_eq word (codes "check") ≡ false → bytes_eq word (codes "make") ≡ false → (t : Task) → ¬ (word ≡ task_name t)
-unnamed word e s c m Equilibria = differs word (codes "equilibria") e
-unnamed word e s c m Solve = differs word (codes "solve") s
-unnamed word e s c m Check = differs word (codes "check") c
-unnamed word e s c m Make = differs word (codes "make") m
+    → bytes_eq word (codes "check") ≡ false → bytes_eq word (codes "make") ≡ false → bytes_eq word (codes "grounded") ≡ false → (t : Task) → ¬ (word ≡ task_name t)
+unnamed word e s c m g Equilibria = differs word (codes "equilibria") e
+unnamed word e s c m g Solve = differs word (codes "solve") s
+unnamed word e s c m g Check = differs word (codes "check") c
+unnamed word e s c m g Make = differs word (codes "make") m
+unnamed word e s c m g Grounded = differs word (codes "grounded") g
 
 pub returns-then-eq : goal.returns-then-eq
 returns-then-eq c = (bytes_eq-Decides c.args.word.now (codes "equilibria")).0 (sym c.eq.ensures ∙ c.if-eq.true)
@@ -30,6 +31,9 @@ returns-then-eq-3 c = (bytes_eq-Decides c.args.word.now (codes "check")).0 (sym 
 pub returns-then-eq-4 : goal.returns-then-eq-4
 returns-then-eq-4 c = (bytes_eq-Decides c.args.word.now (codes "make")).0 (sym c.eq-else-eq-3.ensures ∙ c.if-eq-4.true)
 
-pub returns-else-eq-4 : goal.returns-else-eq-4
-returns-else-eq-4 c = unnamed c.args.word.now (sym c.eq.ensures ∙ c.if-eq.false) (sym c.eq-else-eq.ensures ∙ c.if-eq-2.false)
-    (sym c.eq-else-eq-2.ensures ∙ c.if-eq-3.false) (sym c.eq-else-eq-3.ensures ∙ c.if-eq-4.false)
+pub returns-then-eq-5 : goal.returns-then-eq-5
+returns-then-eq-5 c = (bytes_eq-Decides c.args.word.now (codes "grounded")).0 (sym c.eq-else-eq-4.ensures ∙ c.if-eq-5.true)
+
+pub returns-else-eq-5 : goal.returns-else-eq-5
+returns-else-eq-5 c = unnamed c.args.word.now (sym c.eq.ensures ∙ c.if-eq.false) (sym c.eq-else-eq.ensures ∙ c.if-eq-2.false)
+    (sym c.eq-else-eq-2.ensures ∙ c.if-eq-3.false) (sym c.eq-else-eq-3.ensures ∙ c.if-eq-4.false) (sym c.eq-else-eq-4.ensures ∙ c.if-eq-5.false)
