@@ -7,7 +7,7 @@ use Rattle.mcs_system.specs.Plain.{System}
 use Rattle.mcs_system.specs.Naming.{IsSystemNamed}
 use Rattle.mcs_system.specs.Systems.{variables, applicable}
 use Rattle.mcs_diagnosis.specs.declared.diagnosis.Diagnosis as code
-use Rattle.mcs_report.specs.Listing.{heading, equilibrium_line, verdict_line}
+use Rattle.mcs_report.specs.Listing.{heading, state_line, equilibrium_line, verdict_line}
 use Rattle.mcs_report.specs.Members.{name_of_rule, state_text, rules_text}
 use Rattle.mcs_report.specs.Repairs.{mark_text, marks_text, diagnosis_line, first_alone, reason_text, reasons_text, explanation_line, end_line}
 use Rattle.mcs_proof_text.specs.Lines.{with_feed}
@@ -80,7 +80,7 @@ heading_inner m =
 
 module _ (m : System) (named : IsSystemNamed m) where
   pub equilibrium_inner : (k σ : ℕ) → IsInnerLine (equilibrium_line m k σ)
-  unfolding equilibrium_line
+  unfolding state_line
   equilibrium_inner k σ =
       inner_line (codes "equilibrium " ∷ decimal k ∷ codes ": " ∷ state_text m σ ∷ codes " applicable " ∷ rules_text m (applicable m σ) ∷ [])
       (told_free (codes "equilibrium ") refl, (decimal_free k, (told_free (codes ": ") refl, (state_free m named σ, (told_free (codes " applicable ") refl, (rules_free m named (applicable m σ), tt))))))

@@ -14,15 +14,29 @@ heading m =
     codes "mcs 1: " ++ (decimal (length m.contexts) ++ (codes " contexts, " ++ (decimal (length m.bridges)
     ++ (codes " rules, " ++ (decimal (length (variables m)) ++ (codes " variables\n"))))))
 
--- equilibrium K: STATE applicable RULES
-unfoldable pub equilibrium_line : System → ℕ → ℕ → List ℕ
-equilibrium_line m k σ =
-    codes "equilibrium " ++ (decimal k ++ (codes ": " ++ (state_text m σ ++ (codes " applicable " ++ (rules_text m (applicable m σ) ++ codes "\n")))))
+-- WORD K: STATE applicable RULES
+unfoldable pub state_line : List ℕ → System → ℕ → ℕ → List ℕ
+state_line word m k σ =
+    word ++ (decimal k ++ (codes ": " ++ (state_text m σ ++ (codes " applicable " ++ (rules_text m (applicable m σ) ++ codes "\n")))))
 
 -- a line for each state, numbered from k on
+abbrev pub state_lines : List ℕ → System → ℕ → List ℕ → List ℕ
+state_lines word m k [] = []
+state_lines word m k (σ ∷ σs) = state_line word m k σ ++ state_lines word m (k + 1) σs
+
+-- equilibrium K: STATE applicable RULES
+abbrev pub equilibrium_line : System → ℕ → ℕ → List ℕ
+equilibrium_line m k σ = state_line (codes "equilibrium ") m k σ
+
 abbrev pub equilibrium_lines : System → ℕ → List ℕ → List ℕ
-equilibrium_lines m k [] = []
-equilibrium_lines m k (σ ∷ σs) = equilibrium_line m k σ ++ equilibrium_lines m (k + 1) σs
+equilibrium_lines m k σs = state_lines (codes "equilibrium ") m k σs
+
+-- grounded K: STATE applicable RULES
+abbrev pub grounded_line : System → ℕ → ℕ → List ℕ
+grounded_line m k σ = state_line (codes "grounded ") m k σ
+
+abbrev pub grounded_lines : System → ℕ → List ℕ → List ℕ
+grounded_lines m k σs = state_lines (codes "grounded ") m k σs
 
 -- whether there is an equilibrium
 abbrev pub verdict_line : Bool → List ℕ
@@ -31,6 +45,11 @@ verdict_line consistent = cond consistent (codes "consistent\n") (codes "inconsi
 -- end: E equilibria, need Q
 unfoldable pub short_end_line : ℕ → ℕ → List ℕ
 short_end_line count need = codes "end: " ++ (decimal count ++ (codes " equilibria, need " ++ (decimal need ++ codes "\n")))
+
+-- end: G grounded of E equilibria, need Q
+unfoldable pub grounded_end_line : ℕ → ℕ → ℕ → List ℕ
+grounded_end_line grounded count need =
+    codes "end: " ++ (decimal grounded ++ (codes " grounded of " ++ (decimal count ++ (codes " equilibria, need " ++ (decimal need ++ codes "\n")))))
 
 -- what comes after the heading where these are the projected equilibria, and so many questions are needed
 abbrev pub after_heading : System → List ℕ → ℕ → List ℕ

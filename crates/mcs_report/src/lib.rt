@@ -11,6 +11,8 @@ pub use laws::{
     summaries_are_one, summaries_end_as_listings, whole_listings_are_unambiguous,
     whole_listings_at_the_extremes, whole_listings_exist,
 };
-pub use lines::{equilibrium_line, heading, short_end_line, verdict_line};
+pub use lines::{
+    equilibrium_line, grounded_end_line, grounded_line, heading, short_end_line, verdict_line,
+};
 pub use members::{Member, push_set};
 pub use repair_lines::{diagnosis_line, end_line, explanation_line};

@@ -4,7 +4,8 @@
 ghost use Rattle.std.specs.Prelude.{◌≡◌, ◌++◌, OnOk, OnErr};
 ghost use Rattle.mcs_sets.specs.Sets.{Within};
 ghost use Rattle.mcs_system.specs.Systems.{all_variables};
-ghost use Rattle.mcs_report.specs.Listing.{heading, equilibrium_line, verdict_line, short_end_line};
+ghost use Rattle.mcs_report.specs.Listing.{heading, state_line, equilibrium_line, verdict_line};
+ghost use Rattle.mcs_report.specs.Listing.{short_end_line, grounded_line, grounded_end_line};
 
 use crate::members::{Member, push_set};
 use mcs_base::{Memory, Text, Vars};
@@ -29,7 +30,6 @@ pub fn heading(system: &System, out: &mut Text) -> Result<(), Memory>
 
 /// Appends the line of the equilibrium with this number: the state and the rules that apply in it.
 /// The variables of the state have to be of the system.
-#[tactic(auto, unfolding(crate::specs::Listing::equilibrium_line))]
 pub fn equilibrium_line(
     system: &System,
     number: u64,
@@ -40,8 +40,39 @@ pub fn equilibrium_line(
     ensures ok { OnOk result (out.new ≡ out.old ++ equilibrium_line system.now number state) }
     ensures err { OnErr result (out.new ≡ out.old) }
 {
+    push_state_line(b"equilibrium ", system, number, state, out)
+}
+
+/// Appends the line of the grounded equilibrium with this number: the state and the rules that
+/// apply in it. The variables of the state have to be of the system.
+pub fn grounded_line(
+    system: &System,
+    number: u64,
+    state: Vars,
+    out: &mut Text,
+) -> Result<(), Memory>
+    requires { Within state (all_variables system.now) }
+    ensures ok { OnOk result (out.new ≡ out.old ++ grounded_line system.now number state) }
+    ensures err { OnErr result (out.new ≡ out.old) }
+{
+    push_state_line(b"grounded ", system, number, state, out)
+}
+
+/// Appends the line of a state: the word, the number, the state and the rules that apply in it.
+#[tactic(auto, unfolding(crate::specs::Listing::state_line))]
+fn push_state_line(
+    word: &[u8],
+    system: &System,
+    number: u64,
+    state: Vars,
+    out: &mut Text,
+) -> Result<(), Memory>
+    requires { Within state (all_variables system.now) }
+    ensures ok { OnOk result (out.new ≡ out.old ++ state_line word.now system.now number state) }
+    ensures err { OnErr result (out.new ≡ out.old) }
+{
     let mut line = out.empty_like();
-    line.push(b"equilibrium ")?;
+    line.push(word)?;
     line.push_number(number)?;
     line.push(b": ")?;
     push_set(&mut line, system, Member::Variable, state.members())?;
@@ -73,6 +104,29 @@ pub fn short_end_line(equilibria: u64, need: u64, out: &mut Text) -> Result<(), 
 {
     let mut line = out.empty_like();
     line.push(b"end: ")?;
+    line.push_number(equilibria)?;
+    line.push(b" equilibria, need ")?;
+    line.push_number(need)?;
+    line.push(b"\n")?;
+    out.push(line.bytes())
+}
+
+/// Appends the end line of a listing of grounded equilibria: how many there are, how many
+/// equilibria, and the number of questions.
+#[tactic(auto, unfolding(crate::specs::Listing::grounded_end_line))]
+pub fn grounded_end_line(
+    grounded: u64,
+    equilibria: u64,
+    need: u64,
+    out: &mut Text,
+) -> Result<(), Memory>
+    ensures ok { OnOk result (out.new ≡ out.old ++ grounded_end_line grounded equilibria need) }
+    ensures err { OnErr result (out.new ≡ out.old) }
+{
+    let mut line = out.empty_like();
+    line.push(b"end: ")?;
+    line.push_number(grounded)?;
+    line.push(b" grounded of ")?;
     line.push_number(equilibria)?;
     line.push(b" equilibria, need ")?;
     line.push_number(need)?;

@@ -1,4 +1,5 @@
 pub mod StateLemmas
 pub mod StopLemmas
 pub mod CourseLemmas
-pub mod EquilibriumLemmas
+pub mod LowestLemmas
+pub mod GroundedLaws

@@ -20,7 +20,7 @@ use Rattle.mcs_states.proofs.Causes.{rest_kept, rest_same, unanswered_before, to
 use Rattle.mcs_work.specs.Tasks.{opening, IsTaskText, IsTaskStage, IsTaskUpTo, TakesLevel, IsLastTaken, stop_for_halt, stop_for_line}
 use Rattle.mcs_work.specs.Work.{LeavesStage, IsDone, IsSpent, HasStopped, Proceeds, Works}
 use Rattle.mcs_work.specs.declared.task.Task.{Task}
-use Rattle.mcs_work.specs.declared.task.Task.TheVariants.{Equilibria, Solve, Make}
+use Rattle.mcs_work.specs.declared.task.Task.TheVariants.{Equilibria, Grounded, Solve, Make}
 use Rattle.mcs_work.specs.declared.task.WorkStop.{WorkStop}
 use Rattle.mcs_work.specs.declared.task.WorkStop.TheVariants as stops
 use Rattle.mcs_work.proofs.StateLemmas.{rest_back, beyond_before, found_beyond}
@@ -169,18 +169,21 @@ module _ (task : Task) (so_far text : List ℕ) (e e' : EvaluatorState) (kept : 
       at halts.Memory h = (w.quiet, left_after task e.system so_far text before.written now.written stage w.whole)
 
 -- ---- what comes before the first question, and then the equilibria
-opening_stage : (task : Task) (m n : System) → m ≡ n → IsTaskStage task m (opening task n)
+pub opening_stage : (task : Task) (m n : System) → m ≡ n → IsTaskStage task m (opening task n)
 opening_stage Equilibria m n same = inl (ap heading (sym same))
+opening_stage Grounded m n same = inl (ap heading (sym same))
 opening_stage Solve m n same = first (ap heading (sym same))
 opening_stage Make m n same = inl refl
 
 opening_up_to : (task : Task) (m n : System) → m ≡ n → IsTaskUpTo task m 0 (opening task n)
 opening_up_to Equilibria m n same = ap heading (sym same)
+opening_up_to Grounded m n same = ap heading (sym same)
 opening_up_to Solve m n same = ap heading (sym same)
 opening_up_to Make m n same = refl
 
 lowest_taken : (task : Task) (m : System) → TakesLevel task m 0
 lowest_taken Equilibria m = refl
+lowest_taken Grounded m = refl
 lowest_taken Solve m = inl refl
 lowest_taken Make m = inl refl
 

@@ -1,3 +1,4 @@
+pub mod Grounded
 pub mod Tasks
 pub mod Work
 pub mod Course

@@ -2,6 +2,7 @@
 #![tactic(auto)]
 
 mod extent;
+mod laws;
 mod line;
 mod printing;
 mod repairing;
@@ -9,5 +10,8 @@ mod states;
 mod task;
 mod working;
 
+pub use laws::grounded_texts_are_unambiguous;
+pub use printing::print_grounded;
+pub use states::find_states;
 pub use task::{Task, WorkStop};
 pub use working::work;

@@ -1,27 +1,40 @@
 //! The lines of a listing, and how one is printed.
 
 ghost use Rattle.std.specs.Prelude.{◌≡◌, ◌++◌, OnOk};
+ghost use Rattle.mcs_sets.specs.Sets.{Within};
+ghost use Rattle.mcs_system.specs.Systems.{all_variables};
+ghost use Rattle.mcs_report.specs.Listing.{state_line};
 ghost use Rattle.mcs_text.specs.Writes.{Writes};
-ghost use Rattle.mcs_work.specs.Printed.{line_text, IsLineOf};
+ghost use Rattle.mcs_work.specs.Printed.{line_text, sort_word, IsLineOf};
 
 use mcs_base::{Marks, Memory, Text, Vars};
 use mcs_diagnosis::Diagnosis;
 use mcs_ports::Sink;
 use mcs_report::{
-    diagnosis_line, end_line, equilibrium_line, explanation_line, heading, short_end_line,
-    verdict_line,
+    diagnosis_line, end_line, equilibrium_line, explanation_line, grounded_end_line, grounded_line,
+    heading, short_end_line, verdict_line,
 };
 use mcs_system::System;
 use mcs_text::{Unwritten, write_line};
 use std::alloc::Global;
+
+/// Which states a listing names.
+#[derive(Clone, Copy)]
+pub(crate) enum Sort {
+    /// The projected equilibria.
+    Equilibrium,
+    /// The grounded ones among them.
+    Grounded,
+}
 
 /// A line of a listing.
 #[derive(Clone, Copy)]
 pub(crate) enum Line<'a> {
     /// How many contexts, rules and variables the system has.
     Heading,
-    /// An equilibrium, with its number.
-    Equilibrium {
+    /// A state of this sort, with its number.
+    State {
+        sort: Sort,
         number: u64,
         state: Vars,
     },
@@ -31,6 +44,13 @@ pub(crate) enum Line<'a> {
     },
     /// How many equilibria there are, and how many questions were asked.
     ShortEnd {
+        equilibria: u64,
+        need: u64,
+    },
+    /// How many grounded equilibria and how many equilibria there are, and how many questions were
+    /// asked.
+    GroundedEnd {
+        grounded: u64,
         equilibria: u64,
         need: u64,
     },
@@ -62,9 +82,18 @@ fn push_line(system: &System, line: &Line<'_>, text: &mut Text) -> Result<(), Me
 {
     match *line {
         Line::Heading => heading(system, text),
-        Line::Equilibrium { number, state } => equilibrium_line(system, number, state, text),
+        Line::State {
+            sort,
+            number,
+            state,
+        } => push_state(system, sort, number, state, text),
         Line::Verdict { consistent } => verdict_line(consistent, text),
         Line::ShortEnd { equilibria, need } => short_end_line(equilibria, need, text),
+        Line::GroundedEnd {
+            grounded,
+            equilibria,
+            need,
+        } => grounded_end_line(grounded, equilibria, need, text),
         Line::Diagnosis { number, diagnosis } => diagnosis_line(system, number, diagnosis, text),
         Line::Explanation {
             number,
@@ -77,6 +106,24 @@ fn push_line(system: &System, line: &Line<'_>, text: &mut Text) -> Result<(), Me
             explanations,
             need,
         } => end_line(equilibria, diagnoses, explanations, need, text),
+    }
+}
+
+/// Appends the line of a state of this sort.
+fn push_state(
+    system: &System,
+    sort: Sort,
+    number: u64,
+    state: Vars,
+    text: &mut Text,
+) -> Result<(), Memory>
+    requires { Within state (all_variables system.now) }
+    ensures { OnOk result (text.new ≡ text.old ++ state_line (sort_word sort) system.now number
+        state) }
+{
+    match sort {
+        Sort::Equilibrium => equilibrium_line(system, number, state, text),
+        Sort::Grounded => grounded_line(system, number, state, text),
     }
 }
 

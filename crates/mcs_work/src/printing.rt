@@ -4,15 +4,16 @@ ghost use Rattle.std.specs.Prelude.{◌+◌, ◌<◌, ◌^◌, length};
 ghost use Rattle.std.specs.List.{AllByRecursion};
 ghost use Rattle.mcs_sets.specs.Sets.{Within};
 ghost use Rattle.mcs_system.specs.Systems.{all_variables};
-ghost use Rattle.mcs_report.specs.Listing.{equilibrium_lines, after_heading};
+ghost use Rattle.mcs_report.specs.Listing.{state_lines, after_heading};
 ghost use Rattle.mcs_report.specs.Solutions.{equilibria_part, diagnosis_lines, explanation_lines};
 ghost use Rattle.mcs_text.specs.Writes.{Writes};
 ghost use Rattle.mcs_work.specs.Extents.{states_part, diagnoses_part, explanations_part, rest_part};
-ghost use Rattle.mcs_work.specs.Printed.{IsOfSystem, IsCauseOf};
+ghost use Rattle.mcs_work.specs.Grounded.{after_grounded};
+ghost use Rattle.mcs_work.specs.Printed.{sort_word, IsOfSystem, IsCauseOf};
 ghost use Rattle.mcs_work.specs.Tasks.{opening};
 
 use crate::extent::Extent;
-use crate::line::{Line, print_line};
+use crate::line::{Line, Sort, print_line};
 use crate::task::Task;
 use mcs_base::{Marks, Vars};
 use mcs_diagnosis::Diagnosis;
@@ -31,7 +32,9 @@ pub(crate) fn print_opening<K: Sink>(
     ensures { Writes (opening task system.now) (K.device sink.old) (K.device sink.new) result }
 {
     match task {
-        Task::Equilibria | Task::Solve => print_line(alloc, system, &Line::Heading, sink),
+        Task::Equilibria | Task::Grounded | Task::Solve => {
+            print_line(alloc, system, &Line::Heading, sink)
+        }
         Task::Make => Ok(()),
     }
 }
@@ -49,7 +52,7 @@ pub(crate) fn print_listing<K: Sink>(
     ensures { Writes (after_heading system.now states.now need) (K.device sink.old)
         (K.device sink.new) result }
 {
-    print_states(alloc, system, states, sink)?;
+    print_states(alloc, system, Sort::Equilibrium, states, sink)?;
     let consistent = !states.is_empty();
     print_line(alloc, system, &Line::Verdict { consistent }, sink)?;
     let equilibria = states.len() as u64;
@@ -85,30 +88,55 @@ fn print_equilibria_part<K: Sink>(
     ensures { Writes (equilibria_part system.now states.now) (K.device sink.old)
         (K.device sink.new) result }
 {
-    print_states(alloc, system, states, sink)?;
+    print_states(alloc, system, Sort::Equilibrium, states, sink)?;
     let consistent = !states.is_empty();
     print_line(alloc, system, &Line::Verdict { consistent }, sink)
 }
 
-/// Prints a line for each state, numbered from 1.
+/// Prints a line for each state of this sort, numbered from 1.
 fn print_states<K: Sink>(
     alloc: Global,
     system: &System,
+    sort: Sort,
     states: &[Vars],
     sink: &mut K,
 ) -> Result<(), Unwritten>
     requires { AllByRecursion (λ σ. Within σ (all_variables system.now)) states.now }
-    ensures { Writes (equilibrium_lines system.now 1 states.now) (K.device sink.old)
+    ensures { Writes (state_lines (sort_word sort) system.now 1 states.now) (K.device sink.old)
         (K.device sink.new) result }
 {
     for (k, state) in states.iter().enumerate() {
-        let line = Line::Equilibrium {
+        let line = Line::State {
+            sort,
             number: k as u64 + 1,
             state: *state,
         };
         print_line(alloc, system, &line, sink)?;
     }
     Ok(())
+}
+
+/// Prints what comes after the heading in a listing of grounded equilibria: a line for each, and the
+/// end line with their number, that of the equilibria and that of the questions.
+pub fn print_grounded<K: Sink>(
+    alloc: Global,
+    system: &System,
+    grounded: &[Vars],
+    equilibria: u64,
+    need: u64,
+    sink: &mut K,
+) -> Result<(), Unwritten>
+    requires { AllByRecursion (λ σ. Within σ (all_variables system.now)) grounded.now }
+    ensures { Writes (after_grounded system.now grounded.now equilibria need) (K.device sink.old)
+        (K.device sink.new) result }
+{
+    print_states(alloc, system, Sort::Grounded, grounded, sink)?;
+    let line = Line::GroundedEnd {
+        grounded: grounded.len() as u64,
+        equilibria,
+        need,
+    };
+    print_line(alloc, system, &line, sink)
 }
 
 /// Prints the part of some diagnoses, as `extent` has it: a line for each, numbered from `first`

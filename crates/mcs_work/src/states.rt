@@ -18,7 +18,7 @@ use std::alloc::Global;
 /// Prints what comes before the first question, and then finds the projected equilibria of the
 /// system, in the order of states. The evaluator has to be one of this system that has done no
 /// level yet.
-pub(crate) fn find_states<E: Evaluator, K: Sink>(
+pub fn find_states<E: Evaluator, K: Sink>(
     alloc: Global,
     evaluator: &mut E,
     task: Task,

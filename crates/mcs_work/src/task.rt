@@ -14,6 +14,8 @@ use std::alloc::AllocError;
 pub enum Task {
     /// Its projected equilibria.
     Equilibria,
+    /// Its grounded equilibria. The system has to be plain.
+    Grounded,
     /// Its projected equilibria, its minimal diagnoses and its minimal explanations.
     Solve,
     /// Whether it is consistent, and how many projected equilibria, minimal diagnoses and minimal

@@ -3,6 +3,7 @@
 ghost use Rattle.std.specs.Prelude.{[]};
 ghost use Rattle.std.specs.Arc.{arc_value};
 ghost use Rattle.mcs_states.specs.Calls.{CanBegin};
+ghost use Rattle.mcs_work.specs.Tasks.{TakesAnswersAlone};
 ghost use Rattle.mcs_work.specs.Work.{Works};
 
 use crate::extent::Extent;
@@ -19,6 +20,7 @@ use std::sync::Arc;
 /// The heading comes before the first question. For `Solve` the equilibria and the verdict come
 /// before diagnoses are searched for, and the diagnoses of a level before the next level is asked.
 /// For `Make` nothing is printed before all is known, and then the verdict and the end line alone.
+/// For `Grounded` a solver is needed beside the evaluator, so that task is not done here.
 ///
 /// The evaluator has to be one of this system that has done no level yet. It is handed back, and
 /// shows what was done. If the whole text was written, its greatest level done is the last one of
@@ -38,7 +40,8 @@ pub fn work<E: Evaluator, K: Sink>(
     task: Task,
     sink: &mut K,
 ) -> (Result<(), WorkStop>, E)
-    requires { CanBegin (arc_value system) (E.stands evaluator) }
+    requires begin { CanBegin (arc_value system) (E.stands evaluator) }
+    requires alone { TakesAnswersAlone task }
     ensures { Works task [] (E.stands evaluator) (E.stands result.1) (K.device sink.old)
         (K.device sink.new) result.0 }
 {
@@ -48,6 +51,7 @@ pub fn work<E: Evaluator, K: Sink>(
             let result = list_equilibria(alloc, &mut evaluator, &system, sink);
             (result, evaluator)
         }
+        Task::Grounded => unreachable!(),
         Task::Solve => solve(alloc, Extent::Whole, evaluator, system, sink),
         Task::Make => solve(alloc, Extent::Counts, evaluator, system, sink),
     }

@@ -4,6 +4,7 @@ use Rattle.std.proofs.lemmas.List.{drop_more, drop_all}
 use Rattle.mcs_sets.specs.Sets.{Within}
 use Rattle.mcs_system.specs.Systems.{all_variables}
 use Rattle.mcs_report.proofs.LineLemmas.{lines_more}
+use Rattle.mcs_work.specs.Printed.{sort_word}
 use Rattle.mcs_text.proofs.WriteLaws.{goes_on, goes_cut, writes_nothing}
 use Rattle.mcs_work.proofs.printing.print_states.Goals as goal
 
@@ -14,13 +15,13 @@ print_line-requires g c =
 
 pub returns-in_err-print_line : goal.returns-in_err-print_line
 returns-in_err-print_line g c = goes_cut _ _ _ _ _ _ _ _ _ c.loop-k.invariant.goes
-    (lines_more c.args.system.now c.args.states.now c.loop-k.k c.index-states-k.result c.loop-k-test.true c.index-states-k.is)
+    (lines_more (sort_word c.args.sort) c.args.system.now c.args.states.now c.loop-k.k c.index-states-k.result c.loop-k-test.true c.index-states-k.is)
     c.from_residual.ensures.1 c.in_err-print_line.ensures
 
 pub loop-k-preserved : goal.loop-k-preserved
 loop-k-preserved g c = record {
   goes = goes_on _ _ _ _ _ _ _ _ c.loop-k.invariant.goes
-      (lines_more c.args.system.now c.args.states.now c.loop-k.k c.index-states-k.result c.loop-k-test.true c.index-states-k.is)
+      (lines_more (sort_word c.args.sort) c.args.system.now c.args.states.now c.loop-k.k c.index-states-k.result c.loop-k-test.true c.index-states-k.is)
       c.in_ok-print_line.ensures;
   within = (subst (AllByRecursion (λ σ. Within σ (all_variables c.args.system.now))) (drop_more c.args.states.now c.loop-k.k c.index-states-k.result c.loop-k-test.true) c.loop-k.invariant.within).1;
 }
