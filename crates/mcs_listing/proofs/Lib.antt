@@ -1,4 +1,5 @@
 pub mod JobLemmas
+pub mod PlainLemmas
 pub mod WorkLemmas
 pub mod WorkedLemmas
 pub mod LineLemmas

@@ -14,7 +14,7 @@ use Rattle.mcs_report.specs.Solutions.{first}
 use Rattle.mcs_work.specs.Tasks.{IsTaskText, IsTaskStage, IsTaskUpTo, TakesLevel, opening}
 use Rattle.mcs_work.specs.Work.{LeavesStage, IsDone, IsSpent, HasStopped}
 use Rattle.mcs_work.specs.declared.task.Task.{Task}
-use Rattle.mcs_work.specs.declared.task.Task.TheVariants.{Equilibria, Solve, Make}
+use Rattle.mcs_work.specs.declared.task.Task.TheVariants.{Equilibria, Grounded, Solve, Make}
 use Rattle.mcs_work.specs.declared.task.WorkStop.{WorkStop}
 use Rattle.mcs_work.specs.declared.task.WorkStop.TheVariants as works
 use Rattle.mcs_listing.specs.Endings.{stop_for_work, stop_for_unwritten}
@@ -28,6 +28,7 @@ use Rattle.mcs_text.specs.declared.unwritten.Unwritten.TheVariants as unwritten
 -- what is printed before the first question is a stage
 opening_stage : (task : Task) (m : System) → IsTaskStage task m (opening task m)
 opening_stage Equilibria m = inl refl
+opening_stage Grounded m = inl refl
 opening_stage Solve m = first refl
 opening_stage Make m = inl refl
 

@@ -7,6 +7,7 @@ use Rattle.mcs_work.specs.declared.task.WorkStop.TheVariants as works
 use Rattle.mcs_text.specs.declared.unwritten.Unwritten.{Unwritten}
 use Rattle.mcs_text.specs.declared.unwritten.Unwritten.TheVariants as unwritten
 use Rattle.mcs_system.specs.declared.limit.Limit.{Limit}
+use Rattle.mcs_system.specs.Plain.{Name}
 use Rattle.mcs_system.specs.Limits.{limit_words}
 use Rattle.mcs_faults.specs.declared.fault.TextFault.{TextFault}
 use Rattle.mcs_faults.specs.declared.fault.TextFault.TheVariants as texts
@@ -39,11 +40,16 @@ told_limit (Some limit) = codes ": " ++ limit_words limit
 unfoldable pub fault_line : ℕ → ℕ → Option Limit → List ℕ
 fault_line number offset limit = codes "mcs: refused: F" ++ (decimal number ++ (codes " at " ++ (decimal offset ++ (told_limit limit ++ codes "\n"))))
 
+-- mcs: refused: not plain: NAME
+unfoldable pub not_plain_line : Name → List ℕ
+not_plain_line name = codes "mcs: refused: not plain: " ++ (name ++ codes "\n")
+
 -- the line that is noted for a refusal, with its line feed
 abbrev pub refusal_line : Refusal → List ℕ
 refusal_line refusals.TooLong = codes "mcs: refused: file longer than 1048576\n"
 refusal_line refusals.ReportTooLong = codes "mcs: refused: report longer than 268435456\n"
 refusal_line (refusals.Text number offset limit) = fault_line number offset limit
+refusal_line (refusals.NotPlain name) = not_plain_line name
 
 -- mcs: unfinished at level K, budget N
 unfoldable pub unfinished_line : ℕ → ℕ → List ℕ

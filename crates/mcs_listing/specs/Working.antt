@@ -8,6 +8,7 @@ use Rattle.mcs_states.specs.declared.halt.Halt.{Halt}
 use Rattle.mcs_node.specs.Nodes.{NodeData}
 use Rattle.mcs_mesh.specs.Players.{AreNodesOf, oracles_of}
 use Rattle.mcs_mesh.specs.Rounds.{AreFresh, AreNew, HasLastRound, HasShown, IsHaltOfRound, IsLastRound, evaluator_state_of}
+use Rattle.mcs_work.specs.Tasks.{IsDefinedFor}
 use Rattle.mcs_work.specs.Work.{Works}
 use Rattle.mcs_work.specs.declared.task.Task.{Task}
 use Rattle.mcs_work.specs.declared.task.WorkStop.{WorkStop}
@@ -18,6 +19,11 @@ pub record Begins (m plan : System) (budget : ℕ) (nodes : List NodeData) : Typ
   pub plan_is : plan ≡ m
   pub new : AreNew m budget (oracles_of nodes) nodes
   pub fresh : AreFresh m (oracles_of nodes)
+
+-- the same, and the task is defined for the system
+pub record CanWork (task : Task) (m plan : System) (budget : ℕ) (nodes : List NodeData) : Type 0 where
+  pub begins : Begins m plan budget nodes
+  pub defined : IsDefinedFor task m
 
 -- ---- what the work leaves
 -- the task was worked on, within the budget, by an evaluation that so many workers play, over oracles of which none was asked; these came of them

@@ -2,6 +2,7 @@
 
 ghost use Rattle.std.specs.Prelude.{◌≡◌, ◌++◌, OnOk};
 ghost use Rattle.mcs_listing.specs.Endings.{line_of, refusal_line, unfinished_line, fault_line};
+ghost use Rattle.mcs_listing.specs.Endings.{not_plain_line};
 ghost use Rattle.mcs_listing.specs.Endings.{told_limit, status_of, stop_for_words, stop_for_text};
 ghost use Rattle.mcs_listing.specs.Endings.{stop_for_unwritten, stop_for_work, IsEndingTold};
 ghost use Rattle.mcs_listing.specs.Endings.{IsToldAs};
@@ -11,14 +12,14 @@ use crate::status::Status;
 use mcs_base::{Memory, Text};
 use mcs_language::TextFault;
 use mcs_ports::Sink;
-use mcs_system::Limit;
+use mcs_system::{Limit, Name};
 use mcs_text::Unwritten;
 use mcs_words::WordsFault;
 use mcs_work::WorkStop;
 use std::alloc::{AllocError, Global};
 
 /// Why a file is refused.
-#[derive(Clone, Copy, Debug, PartialEq, Eq)]
+#[derive(Drop)]
 pub enum Refusal {
     /// The file is longer than a system text may be.
     TooLong,
@@ -30,10 +31,12 @@ pub enum Refusal {
         offset: usize,
         limit: Option<Limit>,
     },
+    /// The system is not plain: the name of its lowest context that is not.
+    NotPlain(Name),
 }
 
 /// Why a run stops before its end.
-#[derive(Clone, Copy, Debug, PartialEq, Eq)]
+#[derive(Drop)]
 pub enum Stop {
     /// The words ask for no job.
     Usage,
@@ -120,8 +123,8 @@ pub fn stop_for_work(stop: WorkStop, budget: u64) -> Stop
 
 impl Stop {
     /// The status of a run that stops for this reason.
-    fn status(self) -> Status
-        ensures { result ≡ status_of self }
+    fn status(&self) -> Status
+        ensures { result ≡ status_of self.now }
     {
         match self {
             Stop::Usage => Status::Usage,
@@ -134,15 +137,15 @@ impl Stop {
     }
 
     /// Appends the line that is noted, with its line feed.
-    fn push_line(self, line: &mut Text) -> Result<(), Memory>
-        ensures { OnOk result (line.new ≡ line.old ++ line_of self) }
+    fn push_line(&self, line: &mut Text) -> Result<(), Memory>
+        ensures { OnOk result (line.new ≡ line.old ++ line_of self.now) }
     {
         match self {
             Stop::Usage => line.push(
                 b"mcs: usage: mcs JOB FILE [REPORT] [--budget N] [--workers N] [--proof]\n",
             ),
             Stop::Refused(why) => push_refusal(line, why),
-            Stop::Unfinished { level, budget } => push_unfinished(line, level, budget),
+            Stop::Unfinished { level, budget } => push_unfinished(line, *level, *budget),
             Stop::ReadFault => line.push(b"mcs: read fault\n"),
             Stop::WriteFault => line.push(WRITE_FAULT),
             Stop::Memory => line.push(OUT_OF_MEMORY),
@@ -157,8 +160,8 @@ const WRITE_FAULT: &[u8] = b"mcs: write fault\n";
 const OUT_OF_MEMORY: &[u8] = b"mcs: out of memory\n";
 
 /// Appends the line of a refusal.
-fn push_refusal(line: &mut Text, why: Refusal) -> Result<(), Memory>
-    ensures { OnOk result (line.new ≡ line.old ++ refusal_line why) }
+fn push_refusal(line: &mut Text, why: &Refusal) -> Result<(), Memory>
+    ensures { OnOk result (line.new ≡ line.old ++ refusal_line why.now) }
 {
     match why {
         Refusal::TooLong => line.push(b"mcs: refused: file longer than 1048576\n"),
@@ -167,7 +170,8 @@ fn push_refusal(line: &mut Text, why: Refusal) -> Result<(), Memory>
             number,
             offset,
             limit,
-        } => push_fault(line, number, offset, limit),
+        } => push_fault(line, *number, *offset, *limit),
+        Refusal::NotPlain(name) => push_not_plain(line, name),
     }
 }
 
@@ -198,6 +202,17 @@ fn push_fault(
     line.push(b" at ")?;
     line.push_number(offset as u64)?;
     push_limit(line, limit)?;
+    line.push(b"\n")
+}
+
+/// Appends the line of a system that is not plain. The name is that of its lowest context that is
+/// not.
+#[tactic(auto, unfolding(crate::specs::Endings::not_plain_line))]
+fn push_not_plain(line: &mut Text, name: &Name) -> Result<(), Memory>
+    ensures { OnOk result (line.new ≡ line.old ++ not_plain_line name.now) }
+{
+    line.push(b"mcs: refused: not plain: ")?;
+    line.push(name.bytes())?;
     line.push(b"\n")
 }
 

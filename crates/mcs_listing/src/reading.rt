@@ -4,13 +4,20 @@ ghost use Rattle.std.specs.Prelude.{◌≡◌, ◌≤◌, [], ◌∷◌, length,
 ghost use Rattle.mcs_ports.specs.Causes.{Rose};
 ghost use Rattle.mcs_listing.specs.Jobs.{told_all, OfOneFile};
 ghost use Rattle.mcs_proof_text.specs.Reports.{most_report_bytes};
-ghost use Rattle.mcs_listing.specs.Texts.{most_text_bytes, IsTextOf, StopsReading, StopsReport};
-ghost use Rattle.mcs_listing.specs.Texts.{StopsText};
+ghost use Rattle.mcs_reduct.specs.Plain.{IsPlain, IsLowestNotPlain};
+ghost use Rattle.mcs_work.specs.Tasks.{IsDefinedFor};
+ghost use Rattle.mcs_listing.specs.Texts.{most_text_bytes, IsTextOf, IsPlainTextOf, IsTextFor};
+ghost use Rattle.mcs_listing.specs.Texts.{IsNotPlainAt};
+ghost use Rattle.mcs_listing.specs.Texts.{IsRefusedFor, IsRefusedPlain, IsRefusedTask};
+ghost use Rattle.mcs_listing.specs.Texts.{StopsReading, StopsReport, StopsText};
 
 use crate::ending::{Refusal, Stop};
+use mcs_base::Memory;
 use mcs_language::read_system;
 use mcs_ports::{ReadAnswer, Shelf, read_whole};
-use mcs_system::System;
+use mcs_reduct::not_plain;
+use mcs_system::{Name, System};
+use mcs_work::Task;
 use std::alloc::Global;
 
 /// The greatest length of a system text, in bytes.
@@ -26,7 +33,7 @@ pub fn system_in<H: Shelf>(alloc: Global, file: &str, shelf: &mut H) -> Result<S
     ensures held { H.held shelf.new ≡ H.held shelf.old }
     ensures system { IfOk result (λ system. IfSome (told_all (H.held shelf.old) (file.now ∷ []))
         (OfOneFile (IsTextOf system))) }
-    ensures stop { IfErr result (λ stop. StopsReading stop
+    ensures stop { IfErr result (λ stop. StopsReading IsRefusedFor stop
         (Rose (H.faults shelf.old) (H.faults shelf.new))
         (Rose (H.failures shelf.old) (H.failures shelf.new))
         (told_all (H.held shelf.old) (file.now ∷ []))) }
@@ -47,6 +54,55 @@ fn system_of(alloc: Global, bytes: &[u8]) -> Result<System, Stop>
     ensures stop { IfErr result (λ stop. StopsText stop bytes.now) }
 {
     Ok(read_system(alloc, bytes)?)
+}
+
+/// The system whose text is in the file, if the task is defined for it.
+pub fn system_for<H: Shelf>(
+    alloc: Global,
+    task: Task,
+    file: &str,
+    shelf: &mut H,
+) -> Result<System, Stop>
+    ensures later { H.faults shelf.old ≤ H.faults shelf.new }
+    ensures system { IfOk result (λ system. IfSome (told_all (H.held shelf.old) (file.now ∷ []))
+        (OfOneFile (IsTextFor task system))) }
+    ensures defined { IfOk result (IsDefinedFor task) }
+    ensures stop { IfErr result (λ stop. StopsReading (IsRefusedTask task) stop
+        (Rose (H.faults shelf.old) (H.faults shelf.new))
+        (Rose (H.failures shelf.old) (H.failures shelf.new))
+        (told_all (H.held shelf.old) (file.now ∷ []))) }
+{
+    match task {
+        Task::Equilibria | Task::Solve | Task::Make => system_in(alloc, file, shelf),
+        Task::Grounded => plain_system_in(alloc, file, shelf),
+    }
+}
+
+/// The system whose text is in the file, if it is plain.
+fn plain_system_in<H: Shelf>(alloc: Global, file: &str, shelf: &mut H) -> Result<System, Stop>
+    ensures later { H.faults shelf.old ≤ H.faults shelf.new }
+    ensures system { IfOk result (λ system. IfSome (told_all (H.held shelf.old) (file.now ∷ []))
+        (OfOneFile (IsPlainTextOf system))) }
+    ensures plain { IfOk result IsPlain }
+    ensures stop { IfErr result (λ stop. StopsReading IsRefusedPlain stop
+        (Rose (H.faults shelf.old) (H.faults shelf.new))
+        (Rose (H.failures shelf.old) (H.failures shelf.new))
+        (told_all (H.held shelf.old) (file.now ∷ []))) }
+{
+    let system = system_in(alloc, file, shelf)?;
+    if let Some(context) = not_plain(&system) {
+        let name = name_of(alloc, &system, context)?;
+        return Err(Stop::Refused(Refusal::NotPlain(name)));
+    }
+    Ok(system)
+}
+
+/// The name of the context, which has to be the lowest one that is not plain.
+fn name_of(alloc: Global, system: &System, context: u32) -> Result<Name, Memory>
+    requires { IsLowestNotPlain system.now context }
+    ensures { IfOk result (λ name. IsNotPlainAt name system.now) }
+{
+    system.contexts()[context as usize].name.copy(alloc)
 }
 
 /// The bytes of the report in the file.

@@ -12,7 +12,8 @@ pub enum Status {
     NotValid,
     /// The words ask for no job.
     Usage,
-    /// A file is too long, or the text is not the text of a system.
+    /// A file is too long, the text is not the text of a system, or the system is not plain where
+    /// it has to be.
     Refused,
     /// The system has more questions than the budget.
     Unfinished,

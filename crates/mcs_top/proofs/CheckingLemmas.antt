@@ -34,9 +34,10 @@ first_refused : (why : Refusal) (files : List File) → OfFirstFile (IsRefusedFo
 first_refused refusals.TooLong files h = h
 first_refused refusals.ReportTooLong files h = absurd (never_first files h)
 first_refused (refusals.Text number offset limit) files h = h
+first_refused (refusals.NotPlain name) files h = absurd (never_first files h)
 
 module _ (held : Option (Word → File)) (file report : Word) where
-  pub check_read_cause : (shelf-rose failed sink-rose : Type 0) (stop : Stop) → StopsReading stop shelf-rose failed (told_all held (file ∷ [])) → IsStopCause stop shelf-rose failed sink-rose (meaning (check file report)) (told_all held (file ∷ report ∷ []))
+  pub check_read_cause : (shelf-rose failed sink-rose : Type 0) (stop : Stop) → StopsReading IsRefusedFor stop shelf-rose failed (told_all held (file ∷ [])) → IsStopCause stop shelf-rose failed sink-rose (meaning (check file report)) (told_all held (file ∷ report ∷ []))
   check_read_cause shelf-rose failed sink-rose stops.Usage h = h
   check_read_cause shelf-rose failed sink-rose (stops.Refused why) h = told_also (told_all held (file ∷ report ∷ [])) _ _ (first_refused why) (told_first held file report (IsRefusedFor why) h)
   check_read_cause shelf-rose failed sink-rose (stops.Unfinished level limit) h = absurd h
@@ -55,6 +56,7 @@ module _ (held : Option (Word → File)) (file report : Word) where
     report_cause shelf-rose failed sink-rose more-rose more-failed up higher (stops.Refused refusals.TooLong) h = absurd h
     report_cause shelf-rose failed sink-rose more-rose more-failed up higher (stops.Refused refusals.ReportTooLong) h = too_long h
     report_cause shelf-rose failed sink-rose more-rose more-failed up higher (stops.Refused (refusals.Text number offset limit)) h = absurd h
+    report_cause shelf-rose failed sink-rose more-rose more-failed up higher (stops.Refused (refusals.NotPlain name)) h = absurd h
     report_cause shelf-rose failed sink-rose more-rose more-failed up higher (stops.Unfinished level limit) h = absurd h
     report_cause shelf-rose failed sink-rose more-rose more-failed up higher stops.ReadFault h = (up h.0, lacks_second held file report (IsTextOf m) (λ bytes. (n : System) × IsTextOf n bytes) failed more-failed (λ bytes spelled. (m, spelled)) higher read h.1)
     report_cause shelf-rose failed sink-rose more-rose more-failed up higher stops.WriteFault h = absurd h

@@ -11,7 +11,7 @@ use Rattle.mcs_listing.specs.declared.status.Status.TheVariants as statuses
 use Rattle.mcs_listing.specs.Jobs.{File}
 use Rattle.mcs_listing.specs.Endings.{line_of, status_of, refusal_line, unfinished_line, stop_for_words, IsEndingTold, IsToldAs}
 use Rattle.mcs_top.specs.Meaning.{JobMeaning}
-use Rattle.mcs_top.specs.Promise.{IsRefusal, LacksBudget, WritesBeyond, StopsBeyond, LacksFile, CanBeDone, CanBeRejected, EndsSo, WritesOutput, WritesRejection, WritesStage, TellsRefusal, Notes, IsUnlessMemory, CannotBeRead, IsStopCause, LeavesText, as_done}
+use Rattle.mcs_top.specs.Promise.{IsRefusal, LacksBudget, WritesBeyond, StopsBeyond, LacksFile, CanBeDone, CanBeRejected, EndsSo, WritesOutput, WritesRejection, WritesStage, TellsRefusal, Notes, IsUnlessMemory, CannotBeRead, IsStopCause, LeavesText}
 use Rattle.mcs_top.specs.declared.outcome.Outcome.TheVariants as outcomes
 use Rattle.mcs_top.proofs.RefusalLemmas.{KeepsApart, whole_front}
 
@@ -337,7 +337,3 @@ module _ (status : Status) (job : JobMeaning) (first last : Option (List ℕ)) (
   pub rejected_writes : (files : Option (List File)) → IfSome files (EndsSo outcomes.NotValid first last job) → IfSome files (WritesRejection first last job)
   rejected_writes None h = tt
   rejected_writes (Some fs) h = h.writes
-
--- ---- unless a write fault is told, no write failed
-pub done_unfailed : (P : Type 0) (r : Result (Unit {0}) Stop) → (¬ (r ≡ Err stops.WriteFault) → P) → ¬ (as_done r ≡ Err stops.WriteFault) → P
-done_unfailed P r f other = f (λ is. other (ap as_done is))

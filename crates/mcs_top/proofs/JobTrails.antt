@@ -11,15 +11,15 @@ use Rattle.mcs_crew.specs.Trails.{IsNoTrail, TrailData}
 use Rattle.mcs_words.specs.Commands.{Word, Request, IsJobOf}
 use Rattle.mcs_words.proofs.JobLemmas.{asked_once}
 use Rattle.mcs_listing.specs.Jobs.{File, told_all, OfOneFile}
-use Rattle.mcs_listing.specs.Texts.{IsTextOf, StopsReading}
+use Rattle.mcs_listing.specs.Texts.{IsTextFor, StopsReading}
 use Rattle.mcs_listing.specs.Endings.{line_of, unfinished_line, status_of, IsEndingTold}
-use Rattle.mcs_listing.specs.Listings.{OfSystem}
+use Rattle.mcs_listing.specs.declared.ending.Refusal.{Refusal}
 use Rattle.mcs_listing.specs.declared.ending.Stop.{Stop}
 use Rattle.mcs_listing.specs.declared.ending.Stop.TheVariants as stops
 use Rattle.mcs_listing.specs.declared.status.Status.{Status}
 use Rattle.mcs_listing.specs.declared.status.Status.TheVariants as statuses
 use Rattle.mcs_listing.proofs.JobLemmas.{told_also}
-use Rattle.mcs_top.specs.Meaning.{JobMeaning, IfJob, file_job, report_job, made_job, meaning, files_in}
+use Rattle.mcs_top.specs.Meaning.{JobMeaning, IfJob, OfTask, file_job, report_job, made_job, meaning, files_in}
 use Rattle.mcs_top.specs.Promise.{IsStopCause, as_done}
 use Rattle.mcs_top.specs.declared.outcome.Outcome.{Outcome}
 use Rattle.mcs_top.specs.declared.outcome.Outcome.TheVariants as outcomes
@@ -28,6 +28,7 @@ use Rattle.mcs_top.specs.Trails.{IsUnevaluated, JobUsesFew, KeepsTrail, LeavesTr
 use Rattle.mcs_top.proofs.EndingLemmas.{own_line}
 use Rattle.mcs_top.proofs.PromiseLemmas.{if_job}
 use Rattle.mcs_top.proofs.StageLemmas.{spelled}
+use Rattle.mcs_top.proofs.RefusalLemmas.{text_of_task}
 use Rattle.mcs_top.proofs.TrailLemmas.{alone_few, few_end}
 
 -- ---- nothing was evaluated
@@ -48,16 +49,16 @@ module _ (job : JobMeaning) (files : Option (List File)) (t : TrailData) (none :
   nothing_left_of stop other = record { alone = λ less. none; few = if_told files _ (λ fs less. none); ending = nothing_ending job files t none stop other }
 
 -- a file could not be read
-reading_not_spent : (stop : Stop) (rose failed : Type 0) (files : Option (List File)) → StopsReading stop rose failed files → (level limit : ℕ) → ¬ (stop ≡ stops.Unfinished level limit)
-reading_not_spent stops.Usage rose failed files h level limit is = absurd h
-reading_not_spent (stops.Refused why) rose failed files h level limit is = cc
-reading_not_spent (stops.Unfinished l b) rose failed files h level limit is = absurd h
-reading_not_spent stops.ReadFault rose failed files h level limit is = cc
-reading_not_spent stops.WriteFault rose failed files h level limit is = absurd h
-reading_not_spent stops.Memory rose failed files h level limit is = cc
+reading_not_spent : (Refuses : Refusal → List ℕ → Type 0) (stop : Stop) (rose failed : Type 0) (files : Option (List File)) → StopsReading Refuses stop rose failed files → (level limit : ℕ) → ¬ (stop ≡ stops.Unfinished level limit)
+reading_not_spent Refuses stops.Usage rose failed files h level limit is = absurd h
+reading_not_spent Refuses (stops.Refused why) rose failed files h level limit is = cc
+reading_not_spent Refuses (stops.Unfinished l b) rose failed files h level limit is = absurd h
+reading_not_spent Refuses stops.ReadFault rose failed files h level limit is = cc
+reading_not_spent Refuses stops.WriteFault rose failed files h level limit is = absurd h
+reading_not_spent Refuses stops.Memory rose failed files h level limit is = cc
 
-pub unread_left : (job : JobMeaning) (told files : Option (List File)) (t : TrailData) (rose failed : Type 0) (stop : Stop) → IsNoTrail t → StopsReading stop rose failed told → LeavesTrail job files t (Err stop)
-unread_left job told files t rose failed stop none h = nothing_left_of job files t none stop (reading_not_spent stop rose failed told h)
+pub unread_left : (job : JobMeaning) (Refuses : Refusal → List ℕ → Type 0) (told files : Option (List File)) (t : TrailData) (rose failed : Type 0) (stop : Stop) → IsNoTrail t → StopsReading Refuses stop rose failed told → LeavesTrail job files t (Err stop)
+unread_left job Refuses told files t rose failed stop none h = nothing_left_of job files t none stop (reading_not_spent Refuses stop rose failed told h)
 
 -- the same, of what comes of this stop
 pub err_left : (job : JobMeaning) (files : Option (List File)) (t : TrailData) (stop : Stop) (r : Result (Unit {0}) Stop) → IsErrAnd r (λ s. s ≡ stop) → LeavesTrail job files t (Err stop) → LeavesTrail job files t (as_done r)
@@ -66,35 +67,35 @@ err_left job files t stop (Err own) is h = subst (λ (s : Stop). LeavesTrail job
 
 -- ---- the task for the system of a file
 -- what does not hold of the system that was read does not hold of the one that the file spells
-back : (m : System) (files : Option (List File)) → IfSome files (OfOneFile (IsTextOf m)) → (P : System → Type 0) (Q : Type 0) → (P m → Q) → IfSome files (λ fs. OfOneFile (OfSystem P) fs → Q)
-back m files read P Q f = told_also files _ _ at read
+back : (task : Task) (m : System) (files : Option (List File)) → IfSome files (OfOneFile (IsTextFor task m)) → (P : System → Type 0) (Q : Type 0) → (P m → Q) → IfSome files (λ fs. OfOneFile (OfTask task P) fs → Q)
+back task m files read P Q f = told_also files _ _ at read
   where
-    at : (fs : List File) → OfOneFile (IsTextOf m) fs → OfOneFile (OfSystem P) fs → Q
+    at : (fs : List File) → OfOneFile (IsTextFor task m) fs → OfOneFile (OfTask task P) fs → Q
     at [] h k = absurd h
     at (None ∷ fs) h k = absurd h
-    at (Some bytes ∷ []) h (n, again, holds) = f (subst P (texts-unambiguous bytes n m again.spelled h.spelled) holds)
+    at (Some bytes ∷ []) h (n, again, holds) = f (subst P (texts-unambiguous bytes n m (text_of_task task n bytes again).spelled (text_of_task task m bytes h).spelled) holds)
     at (Some bytes ∷ (file ∷ fs)) h k = absurd h
 
-module _ (IsText IsPart : System → List ℕ → Type 0) (task : Task) (name : Word) (budget workers : ℕ) (m : System) (files : Option (List File)) (read : IfSome files (OfOneFile (IsTextOf m))) (t : TrailData) where
+module _ (IsText IsPart : System → List ℕ → Type 0) (task : Task) (name : Word) (budget workers : ℕ) (m : System) (files : Option (List File)) (read : IfSome files (OfOneFile (IsTextFor task m))) (t : TrailData) where
   abbrev file_means : JobMeaning
   file_means = file_job IsText IsPart task name budget workers
 
   file_stopped : (stop : Stop) → ShowsStop budget workers m t stop → ShowsEnding file_means files t (Err stop)
   file_stopped stops.Usage h = h
   file_stopped (stops.Refused why) h = h
-  file_stopped (stops.Unfinished level limit) h = spelled m files read (λ n. ShowsBeyond level budget workers n t) h
+  file_stopped (stops.Unfinished level limit) h = spelled task m files read (λ n. ShowsBeyond level budget workers n t) h
   file_stopped stops.ReadFault h = h
   file_stopped stops.WriteFault h = tt
   file_stopped stops.Memory h = tt
 
   file_ended : (r : Result (Unit {0}) Stop) → ShowsEnd task budget workers m t r → ShowsEnding file_means files t (as_done r)
-  file_ended (Ok x) h = spelled m files read (λ n. ShowsTask task workers n t) h
+  file_ended (Ok x) h = spelled task m files read (λ n. ShowsTask task workers n t) h
   file_ended (Err stop) h = file_stopped stop h
 
   pub file_left : (r : Result (Unit {0}) Stop) → ShowsEnd task budget workers m t r → LeavesTrail file_means files t (as_done r)
   file_left r shows = record {
     alone = λ less. few_end budget workers m t (alone_few workers m less) task r shows;
-    few = back m files read (UsesFew workers) (IsNoTrail t) (λ less. few_end budget workers m t less task r shows);
+    few = back task m files read (UsesFew workers) (IsNoTrail t) (λ less. few_end budget workers m t less task r shows);
     ending = file_ended r shows;
   }
 

@@ -1,6 +1,7 @@
 pub mod RefusalLemmas
 pub mod EndingLemmas
 pub mod StageLemmas
+pub mod DoingLemmas
 pub mod ProvingLemmas
 pub mod CheckingLemmas
 pub mod PromiseLemmas

@@ -1,5 +1,5 @@
 -- What of a job excludes what: one that can be done is refused for nothing, lacks no file, and does not stop at a level.
-use Rattle.std.proofs.Common.{◌≡◌, ℕ, zero, suc, Bool, true, false, List, [], ◌∷◌, Option, Some, None, inl, inr, subst}
+use Rattle.std.proofs.Common.{◌≡◌, ℕ, zero, suc, Bool, true, false, List, [], ◌∷◌, Option, Some, None, inl, inr, subst, sym, ◌∙◌, true≢false}
 use Rattle.std.proofs.lemmas.List.{append-nil}
 use Rattle.mcs_ports.specs.Pieces.{appended}
 use Rattle.mcs_text.specs.Writes.{WritesFront}
@@ -10,13 +10,13 @@ use Rattle.mcs_report.specs.Solutions.{first, below}
 use Rattle.mcs_generator.specs.Generated.{generated_system}
 use Rattle.mcs_work.specs.Tasks.{IsTaskText, IsTaskStage, IsTaskUpTo}
 use Rattle.mcs_work.specs.declared.task.Task.{Task}
-use Rattle.mcs_work.specs.declared.task.Task.TheVariants.{Equilibria, Solve, Make}
-use Rattle.mcs_words.specs.Commands.{Word, Request, equilibria, solve, check, make}
+use Rattle.mcs_work.specs.declared.task.Task.TheVariants.{Equilibria, Grounded, Solve, Make}
+use Rattle.mcs_words.specs.Commands.{Word, Request, equilibria, grounded, solve, check, make}
 use Rattle.mcs_check.specs.Validity.{IsValidReport}
 use Rattle.mcs_listing.specs.Jobs.{File, OfOneFile, OfFirstFile, OfTwoFiles, LacksOneOfTwo}
-use Rattle.mcs_listing.specs.Texts.{IsTextOf, IsRefusedFor}
-use Rattle.mcs_top.specs.Meaning.{JobMeaning, OfReport, IsReportTooLong, IsToldValid, IsToldFailing, FailsATest, IsSolution, IsSolutionStage, IsCheckRefusal, IsWithinBudget, file_job, report_job, made_job, meaning}
-use Rattle.mcs_listing.specs.Listings.{Suffices, IsShort, OfSystem, IsListedBefore}
+use Rattle.mcs_listing.specs.Texts.{IsTextOf, IsTextFor, IsNotPlainAt, IsRefusedFor, IsRefusedTask}
+use Rattle.mcs_top.specs.Meaning.{JobMeaning, OfReport, IsReportTooLong, IsToldValid, IsToldFailing, FailsATest, IsSolution, IsSolutionStage, IsCheckRefusal, IsWithinBudget, OfTask, file_job, report_job, made_job, meaning}
+use Rattle.mcs_listing.specs.Listings.{Suffices, IsShort, IsListedBefore}
 use Rattle.mcs_listing.specs.declared.ending.Refusal.{Refusal}
 use Rattle.mcs_listing.specs.declared.ending.Refusal.TheVariants as refusals
 use Rattle.mcs_listing.proofs.JobLemmas.{apart_of_file, of_file, of_two, apart_of_two, apart_of_first}
@@ -28,19 +28,42 @@ whole_front text before now is = record { front = text; rest = []; parts = appen
 not_refused : (bytes : List ℕ) (m : System) (why : Refusal) → IsTextOf m bytes → IsRefusedFor why bytes → ⊥
 not_refused bytes m refusals.TooLong text long = long text.fits
 not_refused bytes m refusals.ReportTooLong text h = h
+not_refused bytes m (refusals.NotPlain name) text h = h
 not_refused bytes m (refusals.Text number offset limit) text h = no-fault bytes m number limit offset text.spelled h.1
 
--- the text of a system is refused for nothing
-of_system_apart : (P : System → Type 0) (why : Refusal) (files : List File) → OfOneFile (OfSystem P) files → OfOneFile (IsRefusedFor why) files → ⊥
-of_system_apart P why files = apart_of_file (OfSystem P) (IsRefusedFor why) (λ bytes (m, read, holds). not_refused bytes m why read) files
+-- a text for a task is the text of a system
+pub text_of_task : (task : Task) (m : System) (bytes : List ℕ) → IsTextFor task m bytes → IsTextOf m bytes
+text_of_task Equilibria m bytes text = text
+text_of_task Grounded m bytes text = text.text
+text_of_task Solve m bytes text = text
+text_of_task Make m bytes text = text
+
+same_system : (task : Task) (m n : System) (bytes : List ℕ) → IsTextFor task m bytes → IsTextFor task n bytes → n ≡ m
+same_system task m n bytes text other = texts-unambiguous bytes n m (text_of_task task n bytes other).spelled (text_of_task task m bytes text).spelled
+
+-- it is refused for nothing
+not_refused_task : (task : Task) (bytes : List ℕ) (m : System) (why : Refusal) → IsTextFor task m bytes → IsRefusedTask task why bytes → ⊥
+not_refused_task Equilibria bytes m why text h = not_refused bytes m why text h
+not_refused_task Solve bytes m why text h = not_refused bytes m why text h
+not_refused_task Make bytes m why text h = not_refused bytes m why text h
+not_refused_task Grounded bytes m refusals.TooLong text h = not_refused bytes m refusals.TooLong text.text h
+not_refused_task Grounded bytes m refusals.ReportTooLong text h = h
+not_refused_task Grounded bytes m (refusals.Text number offset limit) text h = not_refused bytes m (refusals.Text number offset limit) text.text h
+not_refused_task Grounded bytes m (refusals.NotPlain name) text (n, other, unplain) =
+    let at : IsNotPlainAt name m = subst (IsNotPlainAt name) (texts-unambiguous bytes n m other.spelled text.text.spelled) unplain in
+    true≢false (sym (text.plain at.place at.lowest.context at.lowest.is_its) ∙ at.lowest.not_plain)
+
+of_task_apart : (task : Task) (P : System → Type 0) (why : Refusal) (files : List File) → OfOneFile (OfTask task P) files → OfOneFile (IsRefusedTask task why) files → ⊥
+of_task_apart task P why files = apart_of_file (OfTask task P) (IsRefusedTask task why) (λ bytes (m, read, holds). not_refused_task task bytes m why read) files
 
 -- of one text it can't be that the budget suffices and that it does not
-two_systems_apart : (P Q : System → Type 0) → ((m : System) → P m → Q m → ⊥) → (files : List File) → OfOneFile (OfSystem P) files → OfOneFile (OfSystem Q) files → ⊥
-two_systems_apart P Q apart files = apart_of_file (OfSystem P) (OfSystem Q) (λ bytes (m, read, holds) (n, again, other). apart m holds (subst Q (texts-unambiguous bytes n m again.spelled read.spelled) other)) files
+two_systems_apart : (task : Task) (P Q : System → Type 0) → ((m : System) → P m → Q m → ⊥) → (files : List File) → OfOneFile (OfTask task P) files → OfOneFile (OfTask task Q) files → ⊥
+two_systems_apart task P Q apart files = apart_of_file (OfTask task P) (OfTask task Q) (λ bytes (m, read, holds) (n, again, other). apart m holds (subst Q (same_system task m n bytes read again) other)) files
 
 -- what is printed before a level is a stage
 up_to_stage : (task : Task) (m : System) (level : ℕ) (text : List ℕ) → IsTaskUpTo task m level text → IsTaskStage task m text
 up_to_stage Equilibria m level text is = inl is
+up_to_stage Grounded m level text is = inl is
 up_to_stage Solve m zero text is = first is
 up_to_stage Solve m (suc level) text h = below (suc level) h
 up_to_stage Make m level text is = inl is
@@ -63,6 +86,7 @@ module _ (task : Task) (budget : ℕ) (m : System) where
 report_not_refused : (P : System → List ℕ → Type 0) (why : Refusal) (files : List File) → OfTwoFiles (OfReport P) files → IsCheckRefusal why files → ⊥
 report_not_refused P refusals.TooLong files = apart_of_first (OfReport P) (IsRefusedFor refusals.TooLong) (λ bytes more (m, read, few, holds). not_refused bytes m refusals.TooLong read) files
 report_not_refused P refusals.ReportTooLong files = apart_of_two (OfReport P) IsReportTooLong (λ bytes more (m, read, few, holds) (n, again, long). long few) files
+report_not_refused P (refusals.NotPlain name) files = λ h k. k
 report_not_refused P (refusals.Text number offset limit) files =
     apart_of_first (OfReport P) (IsRefusedFor (refusals.Text number offset limit)) (λ bytes more (m, read, few, holds). not_refused bytes m (refusals.Text number offset limit) read) files
 
@@ -87,6 +111,7 @@ first_lacks P Q f (Some bytes ∷ (Some more ∷ files)) h k = k
 check_refusal_not_missing : (why : Refusal) (files : List File) → IsCheckRefusal why files → LacksOneOfTwo (λ bytes. (m : System) × IsTextOf m bytes) files → ⊥
 check_refusal_not_missing refusals.TooLong files = first_lacks (IsRefusedFor refusals.TooLong) (λ bytes. (m : System) × IsTextOf m bytes) (λ bytes refused (m, read). not_refused bytes m refusals.TooLong read refused) files
 check_refusal_not_missing refusals.ReportTooLong files = both_there IsReportTooLong (λ bytes. (m : System) × IsTextOf m bytes) files
+check_refusal_not_missing (refusals.NotPlain name) files = λ h k. h
 check_refusal_not_missing (refusals.Text number offset limit) files = first_lacks (IsRefusedFor (refusals.Text number offset limit)) (λ bytes. (m : System) × IsTextOf m bytes)
     (λ bytes refused (m, read). not_refused bytes m (refusals.Text number offset limit) read refused) files
 
@@ -121,28 +146,28 @@ pub record KeepsApart (job : JobMeaning) : Type 1 where
 abbrev AnySystem : System → Type 0
 AnySystem m = Unit {0}
 
-any_system : (P : System → Type 0) (files : List File) → OfOneFile (OfSystem P) files → OfOneFile (OfSystem AnySystem) files
-any_system P files = of_file (OfSystem P) (OfSystem AnySystem) (λ bytes (m, read, holds). (m, read, tt)) files
+any_system : (task : Task) (P : System → Type 0) (files : List File) → OfOneFile (OfTask task P) files → OfOneFile (OfTask task AnySystem) files
+any_system task P files = of_file (OfTask task P) (OfTask task AnySystem) (λ bytes (m, read, holds). (m, read, tt)) files
 
 file_apart : (IsText IsPart : System → List ℕ → Type 0) (task : Task) → ((m : System) (level : ℕ) (text : List ℕ) → IsTaskUpTo task m level text → IsPart m text) → (file : Word) (budget workers : ℕ)
     → KeepsApart (file_job IsText IsPart task file budget workers)
 file_apart IsText IsPart task up_to file budget workers = record {
-  fits = OfOneFile (OfSystem AnySystem);
-  output_fits = λ text files h. any_system (IsWithinBudget IsText task budget text) files h;
+  fits = OfOneFile (OfTask task AnySystem);
+  output_fits = λ text files h. any_system task (IsWithinBudget IsText task budget text) files h;
   rejection_fits = λ text files h. absurd h;
-  stage_fits = λ text files h. any_system (λ m. IsPart m text) files h;
-  beyond_fits = λ text level files h. any_system (IsListedBefore task budget level text) files h;
-  short_fits = λ files h. any_system (IsShort task budget) files h;
-  possible_fits = λ files h. any_system (Suffices task budget) files h;
+  stage_fits = λ text files h. any_system task (λ m. IsPart m text) files h;
+  beyond_fits = λ text level files h. any_system task (IsListedBefore task budget level text) files h;
+  short_fits = λ files h. any_system task (IsShort task budget) files h;
+  possible_fits = λ files h. any_system task (Suffices task budget) files h;
   invalid_fits = λ files h. absurd h;
-  not_refused = λ why files h k. of_system_apart AnySystem why files h k;
-  not_lacking = λ files h k. missing (OfSystem AnySystem) files k h;
-  refusal_not_lacking = λ why files h k. missing (IsRefusedFor why) files k h;
-  output_not_short = λ text files h k. two_systems_apart (IsWithinBudget IsText task budget text) (IsShort task budget) (λ m printed short. short_apart task budget m printed.0 short) files h k;
+  not_refused = λ why files h k. of_task_apart task AnySystem why files h k;
+  not_lacking = λ files h k. missing (OfTask task AnySystem) files k h;
+  refusal_not_lacking = λ why files h k. missing (IsRefusedTask task why) files k h;
+  output_not_short = λ text files h k. two_systems_apart task (IsWithinBudget IsText task budget text) (IsShort task budget) (λ m printed short. short_apart task budget m printed.0 short) files h k;
   rejection_not_short = λ text files h k. h;
-  possible_not_beyond = λ text level files h k. two_systems_apart (Suffices task budget) (IsListedBefore task budget level text) (λ m. before_apart task budget m level text) files h k;
+  possible_not_beyond = λ text level files h k. two_systems_apart task (Suffices task budget) (IsListedBefore task budget level text) (λ m. before_apart task budget m level text) files h k;
   invalid_not_beyond = λ text level files h k. h;
-  beyond_is_stage = λ text level files h. of_file (OfSystem (IsListedBefore task budget level text)) (OfSystem (λ m. IsPart m text)) (λ bytes (m, read, before). (m, read, up_to m level text before.1)) files h;
+  beyond_is_stage = λ text level files h. of_file (OfTask task (IsListedBefore task budget level text)) (OfTask task (λ m. IsPart m text)) (λ bytes (m, read, before). (m, read, up_to m level text before.1)) files h;
 }
 
 -- ---- a job that checks a report
@@ -196,6 +221,7 @@ made_apart number budget workers = record {
 -- ---- each job; one to come adds its case here
 pub apart : (job : Request) → KeepsApart (meaning job)
 apart (equilibria file budget workers) = file_apart (IsTaskText Equilibria) (IsTaskStage Equilibria) Equilibria (up_to_stage Equilibria) file budget workers
+apart (grounded file budget workers) = file_apart (IsTaskText Grounded) (IsTaskStage Grounded) Grounded (up_to_stage Grounded) file budget workers
 apart (solve file budget workers proof) = file_apart (IsSolution proof) (IsSolutionStage proof) Solve (solution_up_to proof) file budget workers
 apart (check file report) = report_apart IsToldValid file report
 apart (make number budget workers) = made_apart number budget workers

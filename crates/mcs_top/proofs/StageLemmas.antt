@@ -5,34 +5,35 @@ use Rattle.mcs_work.specs.declared.task.Task.{Task}
 use Rattle.mcs_work.specs.declared.task.Task.TheVariants.{Make}
 use Rattle.mcs_words.specs.Commands.{Word}
 use Rattle.mcs_listing.specs.Jobs.{File, OfOneFile}
-use Rattle.mcs_listing.specs.Texts.{IsTextOf, StopsReading}
-use Rattle.mcs_top.specs.Meaning.{JobMeaning, IsWithinBudget, file_job, made_job}
+use Rattle.mcs_listing.specs.Texts.{IsTextFor, IsRefusedTask, StopsReading}
+use Rattle.mcs_top.specs.Meaning.{JobMeaning, IsWithinBudget, OfTask, file_job, made_job}
 use Rattle.mcs_top.specs.Promise.{WritesOutput, WritesStage, IsStopCause, LeavesText, Excludes, EndsSo, as_done}
-use Rattle.mcs_listing.specs.Listings.{OfSystem, IsListingText, IsListedBefore, AfterNumber, Prints, PrintsFront, StopsStages, StopsGenerated}
+use Rattle.mcs_listing.specs.Listings.{IsListingText, IsListedBefore, AfterNumber, Prints, PrintsFront, StopsStages, StopsGenerated}
 use Rattle.mcs_top.specs.declared.outcome.Outcome.TheVariants as outcomes
+use Rattle.mcs_listing.specs.declared.ending.Refusal.{Refusal}
 use Rattle.mcs_listing.specs.declared.ending.Stop.{Stop}
 use Rattle.mcs_listing.specs.declared.ending.Stop.TheVariants as stops
 use Rattle.mcs_listing.proofs.JobLemmas.{told_also, of_file}
 
 -- ---- a file that could not be read, whatever the job
-pub read_left : (job : JobMeaning) (shelf-rose failed : Type 0) (told files : Option (List File)) (now : Option (List ℕ)) (stop : Stop) → StopsReading stop shelf-rose failed told → LeavesText stop job files now now
-read_left job shelf-rose failed told files now stops.Usage h = refl
-read_left job shelf-rose failed told files now (stops.Refused why) h = refl
-read_left job shelf-rose failed told files now (stops.Unfinished level limit) h = absurd h
-read_left job shelf-rose failed told files now stops.ReadFault h = refl
-read_left job shelf-rose failed told files now stops.WriteFault h = absurd h
-read_left job shelf-rose failed told files now stops.Memory h = inl refl
+pub read_left : (job : JobMeaning) (Refuses : Refusal → List ℕ → Type 0) (shelf-rose failed : Type 0) (told files : Option (List File)) (now : Option (List ℕ)) (stop : Stop) → StopsReading Refuses stop shelf-rose failed told → LeavesText stop job files now now
+read_left job Refuses shelf-rose failed told files now stops.Usage h = refl
+read_left job Refuses shelf-rose failed told files now (stops.Refused why) h = refl
+read_left job Refuses shelf-rose failed told files now (stops.Unfinished level limit) h = absurd h
+read_left job Refuses shelf-rose failed told files now stops.ReadFault h = refl
+read_left job Refuses shelf-rose failed told files now stops.WriteFault h = absurd h
+read_left job Refuses shelf-rose failed told files now stops.Memory h = inl refl
 
 -- what holds of the system that was read holds of the one that the file spells
-pub spelled : (m : System) (files : Option (List File)) → IfSome files (OfOneFile (IsTextOf m)) → (P : System → Type 0) → P m → IfSome files (OfOneFile (OfSystem P))
-spelled m files read P holds = told_also files (OfOneFile (IsTextOf m)) (OfOneFile (OfSystem P)) (of_file (IsTextOf m) (OfSystem P) (λ bytes is. (m, is, holds))) read
+pub spelled : (task : Task) (m : System) (files : Option (List File)) → IfSome files (OfOneFile (IsTextFor task m)) → (P : System → Type 0) → P m → IfSome files (OfOneFile (OfTask task P))
+spelled task m files read P holds = told_also files (OfOneFile (IsTextFor task m)) (OfOneFile (OfTask task P)) (of_file (IsTextFor task m) (OfTask task P) (λ bytes is. (m, is, holds))) read
 
 -- ---- a job for the system of one file
 module _ (IsText IsPart : System → List ℕ → Type 0) (task : Task) (name : Word) (budget workers : ℕ) where
   abbrev means : JobMeaning
   means = file_job IsText IsPart task name budget workers
 
-  pub read_cause : (shelf-rose failed sink-rose : Type 0) (files : Option (List File)) (stop : Stop) → StopsReading stop shelf-rose failed files → IsStopCause stop shelf-rose failed sink-rose means files
+  pub read_cause : (shelf-rose failed sink-rose : Type 0) (files : Option (List File)) (stop : Stop) → StopsReading (IsRefusedTask task) stop shelf-rose failed files → IsStopCause stop shelf-rose failed sink-rose means files
   read_cause shelf-rose failed sink-rose files stops.Usage h = h
   read_cause shelf-rose failed sink-rose files (stops.Refused why) h = h
   read_cause shelf-rose failed sink-rose files (stops.Unfinished level limit) h = absurd h
@@ -40,13 +41,13 @@ module _ (IsText IsPart : System → List ℕ → Type 0) (task : Task) (name : 
   read_cause shelf-rose failed sink-rose files stops.WriteFault h = absurd h
   read_cause shelf-rose failed sink-rose files stops.Memory h = tt
 
-  module _ (m : System) (files : Option (List File)) (read : IfSome files (OfOneFile (IsTextOf m))) where
+  module _ (m : System) (files : Option (List File)) (read : IfSome files (OfOneFile (IsTextFor task m))) where
     stage_written : (before now : Option (List ℕ)) → PrintsFront (IsPart m) before now → IfSome files (WritesStage before now means)
-    stage_written before now p = told_also files _ _ (λ fs h. record { text = p.text; holds = h; front = p.front }) (spelled m files read (λ n. IsPart n p.text) p.holds)
+    stage_written before now p = told_also files _ _ (λ fs h. record { text = p.text; holds = h; front = p.front }) (spelled task m files read (λ n. IsPart n p.text) p.holds)
 
     pub file_listed : (before now : Option (List ℕ)) (r : Result (Unit {0}) Stop) → OnOk r (Prints (λ text. IsWithinBudget IsText task budget text m) before now) → OnOk r (IfSome files (WritesOutput before now means))
     file_listed before now (Err stop) p = tt
-    file_listed before now (Ok x) p = told_also files _ _ (λ fs h. record { text = p.text; holds = h; written = p.written }) (spelled m files read (IsWithinBudget IsText task budget p.text) p.holds)
+    file_listed before now (Ok x) p = told_also files _ _ (λ fs h. record { text = p.text; holds = h; written = p.written }) (spelled task m files read (IsWithinBudget IsText task budget p.text) p.holds)
 
     file_cause : (shelf-rose failed sink-rose : Type 0) (before now : Option (List ℕ)) (stop : Stop) → StopsStages IsPart stop task budget m sink-rose before now → IsStopCause stop shelf-rose failed sink-rose means files
     file_cause shelf-rose failed sink-rose before now stops.Usage h = h
@@ -60,7 +61,7 @@ module _ (IsText IsPart : System → List ℕ → Type 0) (task : Task) (name : 
     file_left sink-rose before now stops.Usage h = absurd h
     file_left sink-rose before now (stops.Refused why) h = absurd h
     file_left sink-rose before now (stops.Unfinished level limit) h =
-        told_also files _ _ (λ fs k. record { text = h.1.text; holds = k; written = h.1.written }) (spelled m files read (IsListedBefore task budget level h.1.text) h.1.holds)
+        told_also files _ _ (λ fs k. record { text = h.1.text; holds = k; written = h.1.written }) (spelled task m files read (IsListedBefore task budget level h.1.text) h.1.holds)
     file_left sink-rose before now stops.ReadFault h = absurd h
     file_left sink-rose before now stops.WriteFault h = stage_written before now h.1
     file_left sink-rose before now stops.Memory h = inr (stage_written before now h)

@@ -12,7 +12,7 @@ use Rattle.mcs_mesh.specs.Rounds.{IsHaltOfRound, IsLastRound, evaluator_state_of
 use Rattle.mcs_work.specs.Tasks.{IsLastTaken}
 use Rattle.mcs_work.specs.Work.{HasStopped, IsDone, IsSpent}
 use Rattle.mcs_work.specs.declared.task.Task.{Task}
-use Rattle.mcs_work.specs.declared.task.Task.TheVariants.{Equilibria, Solve, Make}
+use Rattle.mcs_work.specs.declared.task.Task.TheVariants.{Equilibria, Grounded, Solve, Make}
 use Rattle.mcs_work.specs.declared.task.WorkStop.{WorkStop}
 use Rattle.mcs_work.specs.declared.task.WorkStop.TheVariants as works
 use Rattle.mcs_crew.specs.Trails.{IsNoTrail, IsTrail, TrailData, group_count, trail_of}
@@ -127,6 +127,7 @@ module _ (task : Task) (m : System) (budget workers : ℕ) (first : List OracleS
 
       taken : (task' : Task) → IsLastTaken task' m level → (l : ℕ) → h.last ≡ Some l → l ≤ level → h.last ≡ Some level
       taken Equilibria none l there less = there ∙ ap (λ (n : ℕ). Some n) (zeroth l none less)
+      taken Grounded none l there less = there ∙ ap (λ (n : ℕ). Some n) (zeroth l none less)
       taken Solve (inl (consistent, none)) l there less = there ∙ ap (λ (n : ℕ). Some n) (zeroth l none less)
       taken Solve (inr (not, same)) l there less = greatest same
       taken Make (inl (consistent, none)) l there less = there ∙ ap (λ (n : ℕ). Some n) (zeroth l none less)

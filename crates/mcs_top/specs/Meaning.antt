@@ -4,17 +4,17 @@ use Rattle.mcs_system.specs.Plain.{System}
 use Rattle.mcs_generator.specs.Generated.{generated_system}
 use Rattle.mcs_work.specs.Tasks.{IsTaskText, IsTaskStage}
 use Rattle.mcs_work.specs.declared.task.Task.{Task}
-use Rattle.mcs_work.specs.declared.task.Task.TheVariants.{Equilibria, Solve, Make}
+use Rattle.mcs_work.specs.declared.task.Task.TheVariants.{Equilibria, Grounded, Solve, Make}
 use Rattle.mcs_crew.specs.Trails.{IsNoTrail, TrailData}
-use Rattle.mcs_words.specs.Commands.{Word, Request, equilibria, solve, check, make, IsJobOf}
+use Rattle.mcs_words.specs.Commands.{Word, Request, equilibria, grounded, solve, check, make, IsJobOf}
 use Rattle.mcs_check.specs.Validity.{IsProvedListing, IsValidReport, IsFailure}
 use Rattle.mcs_check.specs.Findings.{finding_line}
 use Rattle.mcs_check.specs.declared.finding.Reason.{Reason}
 use Rattle.mcs_check.specs.declared.finding.Finding.TheVariants.{Valid, Fails}
 use Rattle.mcs_proof_text.specs.Reports.{most_report_bytes}
 use Rattle.mcs_listing.specs.Jobs.{File, told_all, OfOneFile, OfFirstFile, OfTwoFiles, LacksOneOfTwo}
-use Rattle.mcs_listing.specs.Texts.{IsTextOf, IsRefusedFor}
-use Rattle.mcs_listing.specs.Listings.{Suffices, IsShort, OfSystem, IsListingText, IsListedBefore, AfterNumber}
+use Rattle.mcs_listing.specs.Texts.{IsTextOf, IsTextFor, IsRefusedFor, IsRefusedTask}
+use Rattle.mcs_listing.specs.Listings.{Suffices, IsShort, IsListingText, IsListedBefore, AfterNumber}
 use Rattle.mcs_listing.specs.declared.ending.Refusal.{Refusal}
 use Rattle.mcs_listing.specs.declared.ending.Refusal.TheVariants as refusals
 use Rattle.mcs_top.specs.TaskTrails.{UsesFew, ShowsTask, ShowsBeyond}
@@ -94,11 +94,16 @@ abbrev pub IsCheckRefusal : Refusal → List File → Type 0
 IsCheckRefusal refusals.TooLong files = OfFirstFile (IsRefusedFor refusals.TooLong) files
 IsCheckRefusal refusals.ReportTooLong files = OfTwoFiles IsReportTooLong files
 IsCheckRefusal (refusals.Text number offset limit) files = OfFirstFile (IsRefusedFor (refusals.Text number offset limit)) files
+IsCheckRefusal (refusals.NotPlain name) files = ⊥
 
 -- ---- jobs that are alike
 -- the text of a system for which the budget suffices
 abbrev pub IsWithinBudget : (System → List ℕ → Type 0) → Task → ℕ → List ℕ → System → Type 0
 IsWithinBudget IsText task budget text m = Suffices task budget m × IsText m text
+
+-- the file spells a system for which the task is defined, and for which this holds
+abbrev pub OfTask : Task → (System → Type 0) → List ℕ → Type 0
+OfTask task P bytes = (m : System) × IsTextFor task m bytes × P m
 
 -- a job that does a task for the system of one file: which text it prints, and in which stages
 abbrev pub file_job : (System → List ℕ → Type 0) → (System → List ℕ → Type 0) → Task → Word → ℕ → ℕ → JobMeaning
@@ -106,18 +111,18 @@ file_job IsText IsPart task file budget workers = record {
   files = file ∷ [];
   budget = budget;
   workers = workers;
-  output = λ text. OfOneFile (OfSystem (IsWithinBudget IsText task budget text));
+  output = λ text. OfOneFile (OfTask task (IsWithinBudget IsText task budget text));
   rejection = λ text files. ⊥;
-  stage = λ text. OfOneFile (OfSystem (λ m. IsPart m text));
-  beyond = λ text level. OfOneFile (OfSystem (IsListedBefore task budget level text));
-  short = OfOneFile (OfSystem (IsShort task budget));
-  refusal = λ why. OfOneFile (IsRefusedFor why);
+  stage = λ text. OfOneFile (OfTask task (λ m. IsPart m text));
+  beyond = λ text level. OfOneFile (OfTask task (IsListedBefore task budget level text));
+  short = OfOneFile (OfTask task (IsShort task budget));
+  refusal = λ why. OfOneFile (IsRefusedTask task why);
   lacking = λ files. files ≡ None ∷ [];
-  possible = OfOneFile (OfSystem (Suffices task budget));
+  possible = OfOneFile (OfTask task (Suffices task budget));
   invalid = λ files. ⊥;
-  uses_few = OfOneFile (OfSystem (UsesFew workers));
-  shows = λ t. OfOneFile (OfSystem (λ m. ShowsTask task workers m t));
-  shows_beyond = λ t level. OfOneFile (OfSystem (λ m. ShowsBeyond level budget workers m t));
+  uses_few = OfOneFile (OfTask task (UsesFew workers));
+  shows = λ t. OfOneFile (OfTask task (λ m. ShowsTask task workers m t));
+  shows_beyond = λ t level. OfOneFile (OfTask task (λ m. ShowsBeyond level budget workers m t));
 }
 
 -- one that prints the text of the task
@@ -167,6 +172,7 @@ made_job number budget workers = record {
 -- ---- the jobs; each job to come adds its definition here
 abbrev pub meaning : Request → JobMeaning
 meaning (equilibria file budget workers) = task_job Equilibria file budget workers
+meaning (grounded file budget workers) = task_job Grounded file budget workers
 meaning (solve file budget workers proof) = file_job (IsSolution proof) (IsSolutionStage proof) Solve file budget workers
 meaning (check file report) = report_job IsToldValid file report
 meaning (make number budget workers) = made_job number budget workers

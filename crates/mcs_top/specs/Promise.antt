@@ -1,11 +1,11 @@
 -- What a run promises of the job that its words ask for.
-use Rattle.std.specs.Prelude.{◌≡◌, ◌⊎◌, ℕ, ◌≤◌, List, [], Option, Result, Ok, Err, IfSome}
+use Rattle.std.specs.Prelude.{◌≡◌, ◌⊎◌, ℕ, ◌≤◌, List, [], Option, Result, Ok, Err, IfSome, IfOk, IfErr, IsErrOf}
 use Rattle.mcs_ports.specs.Causes.{Rose}
 use Rattle.mcs_ports.specs.Pieces.{Device, noted}
 use Rattle.mcs_words.specs.Commands.{Word, Request, IsJobOf}
 use Rattle.mcs_check.specs.declared.finding.Finding.{Finding}
 use Rattle.mcs_check.specs.declared.finding.Finding.TheVariants.{Valid, Fails}
-use Rattle.mcs_listing.specs.Jobs.{File}
+use Rattle.mcs_listing.specs.Jobs.{File, told_all}
 use Rattle.mcs_listing.specs.Endings.{refusal_line, unfinished_line, line_of}
 use Rattle.mcs_listing.specs.Listings.{Prints, PrintsFront}
 use Rattle.mcs_top.specs.Meaning.{JobMeaning, files_in, OfJob, IfJob}
@@ -191,3 +191,18 @@ LeavesText (stops.Unfinished level budget) job files before now = IfSome files (
 LeavesText stops.ReadFault job files before now = now ≡ before
 LeavesText stops.WriteFault job files before now = IfSome files (WritesStage before now job)
 LeavesText stops.Memory job files before now = (now ≡ before) ⊎ IfSome files (WritesStage before now job)
+
+-- ---- what a part of a run does
+-- it uses the device: the count did not fall, no write failed unless that is told, and nothing was noted
+pub record UsesSink {T : Type 0} (before now : Device) (r : Result T Stop) : Type 0 where
+  pub later : before.faults ≤ now.faults
+  pub unfailed : ¬ IsErrOf r stops.WriteFault → now.faults ≡ before.faults
+  pub notes : now.notes ≡ before.notes
+
+-- it does the job, by what the shelf holds by name, within its counts of faults and of failures before and after
+pub record DoesJob (job : JobMeaning) (held : Option (Word → File)) (faults faults' failures failures' : ℕ) (before now : Device) (r : Result Outcome Stop) : Type 0 where
+  pub shelf_later : faults ≤ faults'
+  pub sink : UsesSink before now r
+  pub ok : IfOk r (λ outcome. IfSome (told_all held job.files) (EndsSo outcome before.written now.written job))
+  pub cause : IfErr r (λ stop. IsStopCause stop (Rose faults faults') (Rose failures failures') (Rose before.faults now.faults) job (told_all held job.files))
+  pub leaves : IfErr r (λ stop. LeavesText stop job (told_all held job.files) before.written now.written)

@@ -1,13 +1,11 @@
 //! The check of a report: from the two files to the line with the finding.
 
-ghost use Rattle.std.specs.Prelude.{◌≡◌, ◌≤◌, [], ◌∷◌, IfSome, IfOk, IfErr, IsErrOf};
-ghost use Rattle.mcs_ports.specs.Causes.{Rose};
+ghost use Rattle.std.specs.Prelude.{◌≡◌};
 ghost use Rattle.mcs_text.specs.Writes.{Writes};
 ghost use Rattle.mcs_words.specs.Commands as commands;
 ghost use Rattle.mcs_check.specs.Findings.{finding_line};
-ghost use Rattle.mcs_listing.specs.Jobs.{told_all};
 ghost use Rattle.mcs_top.specs.Meaning.{meaning};
-ghost use Rattle.mcs_top.specs.Promise.{EndsSo, IsStopCause, LeavesText, outcome_of};
+ghost use Rattle.mcs_top.specs.Promise.{DoesJob, outcome_of};
 
 use crate::outcome::Outcome;
 use mcs_base::Text;
@@ -26,25 +24,9 @@ pub(crate) fn check<H: Shelf, K: Sink>(
     shelf: &mut H,
     sink: &mut K,
 ) -> Result<Outcome, Stop>
-    ensures shelf_later { H.faults shelf.old ≤ H.faults shelf.new }
-    ensures sink_later { (K.device sink.old).faults ≤ (K.device sink.new).faults }
-    ensures unfailed { ¬ IsErrOf result Stop.WriteFault
-        → (K.device sink.new).faults ≡ (K.device sink.old).faults }
-    ensures notes { (K.device sink.new).notes ≡ (K.device sink.old).notes }
-    ensures ok { IfOk result (λ outcome. IfSome (told_all (H.held shelf.old)
-        (file.now ∷ report.now ∷ []))
-        (EndsSo outcome (K.device sink.old).written (K.device sink.new).written
-        (meaning (commands.check file.now report.now)))) }
-    ensures cause { IfErr result (λ stop. IsStopCause stop
-        (Rose (H.faults shelf.old) (H.faults shelf.new))
-        (Rose (H.failures shelf.old) (H.failures shelf.new))
-        (Rose (K.device sink.old).faults (K.device sink.new).faults)
-        (meaning (commands.check file.now report.now))
-        (told_all (H.held shelf.old) (file.now ∷ report.now ∷ []))) }
-    ensures leaves { IfErr result (λ stop. LeavesText stop
-        (meaning (commands.check file.now report.now))
-        (told_all (H.held shelf.old) (file.now ∷ report.now ∷ []))
-        (K.device sink.old).written (K.device sink.new).written) }
+    ensures { DoesJob (meaning (commands.check file.now report.now)) (H.held shelf.old)
+        (H.faults shelf.old) (H.faults shelf.new) (H.failures shelf.old) (H.failures shelf.new)
+        (K.device sink.old) (K.device sink.new) result }
 {
     let read = system_in(alloc, file, shelf)?;
     let system = shared(alloc, read)?;

@@ -23,6 +23,8 @@ use std::thread::Threads;
 /// - `solve FILE` prints its minimal diagnoses and its minimal explanations too, in the order of
 ///   pairs. With `--proof` it also prints the answers on which these depend, each with a
 ///   certificate.
+/// - `grounded FILE` prints those projected equilibria that are grounded. It is refused if the system
+///   is not plain, that is, if a context is neither classical nor a normal program.
 /// - `check FILE REPORT` prints whether REPORT has such a listing with its proof.
 /// - `make NUMBER` reads no file. It prints how many members each list of the generated system of
 ///   that number has.

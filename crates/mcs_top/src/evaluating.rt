@@ -1,13 +1,15 @@
 //! The evaluation of a system: by one worker or by several.
 
-ghost use Rattle.std.specs.Prelude.{◌≡◌, ◌≤◌, ℕ, IfOk, IfErr, IsErrOf, OnOk};
+ghost use Rattle.std.specs.Prelude.{ℕ, IfOk, IfErr, OnOk};
 ghost use Rattle.std.specs.Arc.{arc_value};
 ghost use Rattle.mcs_ports.specs.Causes.{Rose};
 ghost use Rattle.mcs_mesh.specs.Players.{oracles_of};
 ghost use Rattle.mcs_crew.specs.Trails.{IsNoTrail, trail_of};
 ghost use Rattle.mcs_listing.specs.Listings.{IsListingText, Prints, StopsWork};
-ghost use Rattle.mcs_listing.specs.Working.{Begins, IsWorked};
+ghost use Rattle.mcs_work.specs.Tasks.{IsDefinedFor};
+ghost use Rattle.mcs_listing.specs.Working.{CanWork, IsWorked};
 ghost use Rattle.mcs_top.specs.Evaluating.{HasListed, ShowsWork};
+ghost use Rattle.mcs_top.specs.Promise.{UsesSink};
 ghost use Rattle.mcs_top.specs.TaskTrails.{ShowsEnd};
 
 use crate::assignment::Assignment;
@@ -23,9 +25,9 @@ use std::alloc::Global;
 use std::sync::{Arc, Wait};
 use std::thread::Threads;
 
-/// Does the task for the system. No level may have more questions than the budget. The nodes come
-/// back with what their solvers were asked. What the last round of several workers leaves to be
-/// seen is put into `trail`.
+/// Does the task, which has to be defined for the system. No level may have more questions than the
+/// budget. The nodes come back with what their solvers were asked. What the last round of several
+/// workers leaves to be seen is put into `trail`.
 ///
 /// Stops if a level has more questions, if a write fails, or for want of memory. Then the contract
 /// says how much was printed.
@@ -38,10 +40,8 @@ pub(crate) fn evaluate_system<K: Sink, G: Gate + Sync, R: Threads + Wait + Sync>
     gate: &G,
     trail: &mut Trail,
 ) -> Result<Nodes<LocalSolver>, Stop>
-    ensures later { (K.device sink.old).faults ≤ (K.device sink.new).faults }
-    ensures unfailed { ¬ IsErrOf result Stop.WriteFault
-        → (K.device sink.new).faults ≡ (K.device sink.old).faults }
-    ensures notes { (K.device sink.new).notes ≡ (K.device sink.old).notes }
+    requires { IsDefinedFor assignment.task (arc_value system.now) }
+    ensures sink { UsesSink (K.device sink.old) (K.device sink.new) result }
     ensures ok { IfOk result (λ nodes. HasListed assignment.task assignment.budget assignment.keep
         (arc_value system.now) (oracles_of nodes.list.items) (K.device sink.old).written
         (K.device sink.new).written) }
@@ -85,7 +85,7 @@ fn work_on<K: Sink, G: Gate + Sync, R: Threads + Wait + Sync>(
     sink: &mut K,
     gate: &G,
 ) -> Worked<LocalSolver>
-    requires { Begins (arc_value system) (arc_value beginning.plan) beginning.budget
+    requires { CanWork task (arc_value system) (arc_value beginning.plan) beginning.budget
         beginning.nodes.list.items }
     ensures worked { (by : ℕ) × IsWorked by task (arc_value system) beginning.budget
         (oracles_of beginning.nodes.list.items) (oracles_of result.nodes.list.items)
@@ -104,8 +104,8 @@ fn work_on<K: Sink, G: Gate + Sync, R: Threads + Wait + Sync>(
     }
 }
 
-/// Does the task for the system, and lets go of it. No level may have more questions than the
-/// budget. What the last round of several workers leaves to be seen is put into `trail`.
+/// Does the task, which has to be defined for the system, and lets go of the system. No level may
+/// have more questions than the budget. What the last round of several workers leaves to be seen is put into `trail`.
 ///
 /// Stops if a level has more questions, if a write fails, or for want of memory. Then the contract
 /// says how much was printed.
@@ -118,10 +118,8 @@ pub(crate) fn list_system<K: Sink, G: Gate + Sync, R: Threads + Wait + Sync>(
     gate: &G,
     trail: &mut Trail,
 ) -> Result<(), Stop>
-    ensures later { (K.device sink.old).faults ≤ (K.device sink.new).faults }
-    ensures unfailed { ¬ IsErrOf result Stop.WriteFault
-        → (K.device sink.new).faults ≡ (K.device sink.old).faults }
-    ensures notes { (K.device sink.new).notes ≡ (K.device sink.old).notes }
+    requires { IsDefinedFor assignment.task system }
+    ensures sink { UsesSink (K.device sink.old) (K.device sink.new) result }
     ensures ok { OnOk result (Prints (λ text. IsListingText assignment.task assignment.budget text
         system) (K.device sink.old).written (K.device sink.new).written) }
     ensures stop { IfErr result (λ stop. StopsWork stop assignment.task assignment.budget system

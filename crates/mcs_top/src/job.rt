@@ -1,12 +1,11 @@
 //! The jobs: from the files that a job names to its output.
 
-ghost use Rattle.std.specs.Prelude.{◌≡◌, ◌≤◌, [], IfSome, IfOk, IfErr, IsErrOf};
-ghost use Rattle.mcs_ports.specs.Causes.{Rose};
+ghost use Rattle.std.specs.Prelude.{◌≡◌, []};
 ghost use Rattle.mcs_words.specs.Reading.{request_of};
 ghost use Rattle.mcs_listing.specs.Jobs.{told_all};
 ghost use Rattle.mcs_crew.specs.Trails.{IsNoTrail, trail_of};
 ghost use Rattle.mcs_top.specs.Meaning.{files_in, meaning};
-ghost use Rattle.mcs_top.specs.Promise.{EndsSo, IsStopCause, LeavesText, as_done};
+ghost use Rattle.mcs_top.specs.Promise.{DoesJob, as_done};
 ghost use Rattle.mcs_top.specs.Trails.{LeavesTrail};
 
 use crate::assignment::Assignment;
@@ -35,25 +34,10 @@ pub(crate) fn do_job<H: Shelf, K: Sink, G: Gate + Sync, R: Threads + Wait + Sync
     gate: &G,
     trail: &mut Trail,
 ) -> Result<Outcome, Stop>
-    ensures shelf_later { H.faults shelf.old ≤ H.faults shelf.new }
+    ensures does { DoesJob (meaning (request_of job.now)) (H.held shelf.old) (H.faults shelf.old)
+        (H.faults shelf.new) (H.failures shelf.old) (H.failures shelf.new) (K.device sink.old)
+        (K.device sink.new) result }
     ensures unread { files_in (request_of job.now) ≡ [] → shelf.new ≡ shelf.old }
-    ensures sink_later { (K.device sink.old).faults ≤ (K.device sink.new).faults }
-    ensures unfailed { ¬ IsErrOf result Stop.WriteFault
-        → (K.device sink.new).faults ≡ (K.device sink.old).faults }
-    ensures notes { (K.device sink.new).notes ≡ (K.device sink.old).notes }
-    ensures ok { IfOk result (λ outcome. IfSome (told_all (H.held shelf.old)
-        (files_in (request_of job.now)))
-        (EndsSo outcome (K.device sink.old).written (K.device sink.new).written
-        (meaning (request_of job.now)))) }
-    ensures cause { IfErr result (λ stop. IsStopCause stop
-        (Rose (H.faults shelf.old) (H.faults shelf.new))
-        (Rose (H.failures shelf.old) (H.failures shelf.new))
-        (Rose (K.device sink.old).faults (K.device sink.new).faults)
-        (meaning (request_of job.now)) (told_all (H.held shelf.old)
-        (files_in (request_of job.now)))) }
-    ensures leaves { IfErr result (λ stop. LeavesText stop
-        (meaning (request_of job.now)) (told_all (H.held shelf.old) (files_in (request_of job.now)))
-        (K.device sink.old).written (K.device sink.new).written) }
     ensures trail { IsNoTrail (trail_of trail.old)
         → LeavesTrail (meaning (request_of job.now))
         (told_all (H.held shelf.old) (files_in (request_of job.now))) (trail_of trail.new) result }
@@ -79,6 +63,14 @@ pub(crate) fn do_job<H: Shelf, K: Sink, G: Gate + Sync, R: Threads + Wait + Sync
                 let assignment = plain(Task::Solve, *budget, *workers);
                 done(evaluate(rt, alloc, assignment, file, shelf, sink, gate, trail))
             }
+        }
+        Job::Grounded {
+            file,
+            budget,
+            workers,
+        } => {
+            let assignment = plain(Task::Grounded, *budget, *workers);
+            done(evaluate(rt, alloc, assignment, file, shelf, sink, gate, trail))
         }
         Job::Check { file, report } => check(alloc, file, report, shelf, sink),
         Job::Make {

@@ -1,11 +1,12 @@
 //! The counts of a generated system.
 
-ghost use Rattle.std.specs.Prelude.{◌≡◌, ◌≤◌, OnOk, IfErr, IsErrOf};
+ghost use Rattle.std.specs.Prelude.{OnOk, IfErr};
 ghost use Rattle.mcs_ports.specs.Causes.{Rose};
 ghost use Rattle.mcs_work.specs.declared.task.Task.TheVariants.{Make};
 ghost use Rattle.mcs_generator.specs.Generated.{generated_system};
 ghost use Rattle.mcs_crew.specs.Trails.{IsNoTrail, trail_of};
 ghost use Rattle.mcs_listing.specs.Listings.{AfterNumber, IsListingText, Prints, StopsGenerated};
+ghost use Rattle.mcs_top.specs.Promise.{UsesSink};
 ghost use Rattle.mcs_top.specs.TaskTrails.{ShowsEnd};
 
 use crate::assignment::Assignment;
@@ -36,10 +37,7 @@ pub(crate) fn generated<K: Sink, G: Gate + Sync, R: Threads + Wait + Sync>(
     gate: &G,
     trail: &mut Trail,
 ) -> Result<(), Stop>
-    ensures sink_later { (K.device sink.old).faults ≤ (K.device sink.new).faults }
-    ensures unfailed { ¬ IsErrOf result Stop.WriteFault
-        → (K.device sink.new).faults ≡ (K.device sink.old).faults }
-    ensures notes { (K.device sink.new).notes ≡ (K.device sink.old).notes }
+    ensures sink { UsesSink (K.device sink.old) (K.device sink.new) result }
     ensures ok { OnOk result (Prints (AfterNumber (IsListingText Make budget) number)
         (K.device sink.old).written (K.device sink.new).written) }
     ensures stop { IfErr result (λ stop. StopsGenerated stop number budget

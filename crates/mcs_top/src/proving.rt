@@ -1,6 +1,6 @@
 //! The listing of a system with its proof.
 
-ghost use Rattle.std.specs.Prelude.{◌≡◌, ◌≤◌, true, [], ◌∷◌, IfSome, OnOk, IfErr, IsErrOf};
+ghost use Rattle.std.specs.Prelude.{true, [], ◌∷◌, OnOk, IfErr};
 ghost use Rattle.mcs_ports.specs.Causes.{Rose};
 ghost use Rattle.mcs_words.specs.Commands.{solve};
 ghost use Rattle.mcs_listing.specs.Jobs.{told_all};
@@ -9,7 +9,7 @@ ghost use Rattle.mcs_crew.specs.Trails.{IsNoTrail, trail_of};
 ghost use Rattle.mcs_check.specs.Validity.{IsProvedListing};
 ghost use Rattle.mcs_listing.specs.Listings.{Prints, StopsStages};
 ghost use Rattle.mcs_top.specs.Meaning.{IsSolutionStage, IsWithinBudget, meaning};
-ghost use Rattle.mcs_top.specs.Promise.{IsStopCause, LeavesText, WritesOutput, as_done};
+ghost use Rattle.mcs_top.specs.Promise.{DoesJob, UsesSink, as_done};
 ghost use Rattle.mcs_top.specs.TaskTrails.{ShowsEnd};
 ghost use Rattle.mcs_top.specs.Trails.{LeavesTrail};
 
@@ -38,23 +38,9 @@ pub(crate) fn prove<H: Shelf, K: Sink, G: Gate + Sync, R: Threads + Wait + Sync>
     gate: &G,
     trail: &mut Trail,
 ) -> Result<(), Stop>
-    ensures shelf_later { H.faults shelf.old ≤ H.faults shelf.new }
-    ensures sink_later { (K.device sink.old).faults ≤ (K.device sink.new).faults }
-    ensures unfailed { ¬ IsErrOf result Stop.WriteFault
-        → (K.device sink.new).faults ≡ (K.device sink.old).faults }
-    ensures notes { (K.device sink.new).notes ≡ (K.device sink.old).notes }
-    ensures ok { OnOk result (IfSome (told_all (H.held shelf.old) (file.now ∷ []))
-        (WritesOutput (K.device sink.old).written (K.device sink.new).written
-        (meaning (solve file.now budget workers true)))) }
-    ensures cause { IfErr result (λ stop. IsStopCause stop
-        (Rose (H.faults shelf.old) (H.faults shelf.new))
-        (Rose (H.failures shelf.old) (H.failures shelf.new))
-        (Rose (K.device sink.old).faults (K.device sink.new).faults)
-        (meaning (solve file.now budget workers true))
-        (told_all (H.held shelf.old) (file.now ∷ []))) }
-    ensures leaves { IfErr result (λ stop. LeavesText stop
-        (meaning (solve file.now budget workers true)) (told_all (H.held shelf.old) (file.now ∷ []))
-        (K.device sink.old).written (K.device sink.new).written) }
+    ensures does { DoesJob (meaning (solve file.now budget workers true)) (H.held shelf.old)
+        (H.faults shelf.old) (H.faults shelf.new) (H.failures shelf.old) (H.failures shelf.new)
+        (K.device sink.old) (K.device sink.new) (as_done result) }
     ensures trail { IsNoTrail (trail_of trail.old)
         → LeavesTrail (meaning (solve file.now budget workers true))
         (told_all (H.held shelf.old) (file.now ∷ [])) (trail_of trail.new) (as_done result) }
@@ -77,10 +63,7 @@ fn prove_system<K: Sink, G: Gate + Sync, R: Threads + Wait + Sync>(
     gate: &G,
     trail: &mut Trail,
 ) -> Result<(), Stop>
-    ensures later { (K.device sink.old).faults ≤ (K.device sink.new).faults }
-    ensures unfailed { ¬ IsErrOf result Stop.WriteFault
-        → (K.device sink.new).faults ≡ (K.device sink.old).faults }
-    ensures notes { (K.device sink.new).notes ≡ (K.device sink.old).notes }
+    ensures sink { UsesSink (K.device sink.old) (K.device sink.new) result }
     ensures ok { OnOk result (Prints (λ text. IsWithinBudget IsProvedListing Solve budget text
         system) (K.device sink.old).written (K.device sink.new).written) }
     ensures stop { IfErr result (λ stop. StopsStages (IsSolutionStage true) stop Solve budget system

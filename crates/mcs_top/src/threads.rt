@@ -5,7 +5,7 @@ ghost use Rattle.std.specs.Arc.{arc_value};
 ghost use Rattle.std.specs.Thread.{IsSend, IsSync};
 ghost use Rattle.mcs_mesh.specs.Players.{IsPlayed, IsReadyRound, oracles_of};
 ghost use Rattle.mcs_crew.specs.Trails.{IsTrail, trail_of};
-ghost use Rattle.mcs_listing.specs.Working.{Begins, IsWorked};
+ghost use Rattle.mcs_listing.specs.Working.{CanWork, IsWorked};
 ghost use Rattle.mcs_top.specs.Evaluating.{ShowsWork};
 
 use mcs_crew::{CrewPlayer, Trail, play_in_threads};
@@ -28,7 +28,7 @@ pub(crate) struct Worked<O: Oracle> {
     pub(crate) trail: Trail,
 }
 
-/// Does the task with so many workers, but at most one for each context, of which each may be a
+/// Does the task, which has to be defined for the system, with so many workers, but at most one for each context, of which each may be a
 /// thread of its own. It may wait for them.
 pub(crate) fn work_in_threads<O: Fork + Send, K: Sink, G: Gate + Sync, R: Threads + Wait + Sync>(
     rt: &R,
@@ -40,7 +40,7 @@ pub(crate) fn work_in_threads<O: Fork + Send, K: Sink, G: Gate + Sync, R: Thread
     sink: &mut K,
     gate: &G,
 ) -> Worked<O>
-    requires { Begins (arc_value system) (arc_value beginning.plan) beginning.budget
+    requires { CanWork task (arc_value system) (arc_value beginning.plan) beginning.budget
         beginning.nodes.list.items }
     ensures worked { IsWorked workers task (arc_value system) beginning.budget
         (oracles_of beginning.nodes.list.items) (oracles_of result.nodes.list.items)

@@ -21,8 +21,8 @@ returns-in-Err-clause-kept g c =
 pub returns-in-Ok-Done-clause-kept : goal.returns-in-Ok-Done-clause-kept
 returns-in-Ok-Done-clause-kept g c =
     done_kept (texts_of c.args.words.now) (g.H.Shelf.held c.args.shelf.now) (g.H.Shelf.faults c.args.shelf.now) (g.H.Shelf.faults c.do_job.new.shelf) (g.H.Shelf.failures c.args.shelf.now) (g.H.Shelf.failures c.do_job.new.shelf)
-    (g.K.Sink.device c.args.sink.now) (g.K.Sink.device c.do_job.new.sink) c.in-Ok-Done.ensures.shelf_later (request_of c.in-Ok.job) c.in-Ok.ensures c.in-Ok-Done.ensures.notes (c.in-Ok-Done.ensures.unfailed (λ is. cc))
-    (rw c.in-Ok-Done.field-0-is at c.in-Ok-Done.ensures.ok)
+    (g.K.Sink.device c.args.sink.now) (g.K.Sink.device c.do_job.new.sink) c.in-Ok-Done.ensures.does.shelf_later (request_of c.in-Ok.job) c.in-Ok.ensures c.in-Ok-Done.ensures.does.sink.notes (c.in-Ok-Done.ensures.does.sink.unfailed (λ is. cc))
+    (rw c.in-Ok-Done.field-0-is at c.in-Ok-Done.ensures.does.ok)
 
 pub returns-in-Ok-Done-clause-unread : goal.returns-in-Ok-Done-clause-unread
 returns-in-Ok-Done-clause-unread g c none = c.in-Ok-Done.ensures.unread (none (request_of c.in-Ok.job) c.in-Ok.ensures)
@@ -31,8 +31,8 @@ returns-in-Ok-Done-clause-unread g c none = c.in-Ok-Done.ensures.unread (none (r
 pub returns-in-Ok-NotValid-clause-kept : goal.returns-in-Ok-NotValid-clause-kept
 returns-in-Ok-NotValid-clause-kept g c =
     rejected_kept (texts_of c.args.words.now) (g.H.Shelf.held c.args.shelf.now) (g.H.Shelf.faults c.args.shelf.now) (g.H.Shelf.faults c.do_job.new.shelf) (g.H.Shelf.failures c.args.shelf.now) (g.H.Shelf.failures c.do_job.new.shelf)
-    (g.K.Sink.device c.args.sink.now) (g.K.Sink.device c.do_job.new.sink) c.in-Ok-NotValid.ensures.shelf_later (request_of c.in-Ok.job) c.in-Ok.ensures c.in-Ok-NotValid.ensures.notes (c.in-Ok-NotValid.ensures.unfailed (λ is. cc))
-    (rw c.in-Ok-NotValid.field-0-is at c.in-Ok-NotValid.ensures.ok)
+    (g.K.Sink.device c.args.sink.now) (g.K.Sink.device c.do_job.new.sink) c.in-Ok-NotValid.ensures.does.shelf_later (request_of c.in-Ok.job) c.in-Ok.ensures c.in-Ok-NotValid.ensures.does.sink.notes (c.in-Ok-NotValid.ensures.does.sink.unfailed (λ is. cc))
+    (rw c.in-Ok-NotValid.field-0-is at c.in-Ok-NotValid.ensures.does.ok)
 
 pub returns-in-Ok-NotValid-clause-unread : goal.returns-in-Ok-NotValid-clause-unread
 returns-in-Ok-NotValid-clause-unread g c none = c.in-Ok-NotValid.ensures.unread (none (request_of c.in-Ok.job) c.in-Ok.ensures)
@@ -49,12 +49,12 @@ returns-clause-kept g c =
     let failed = Rose (g.H.Shelf.failures c.args.shelf.now) (g.H.Shelf.failures c.do_job.new.shelf) in
     let stop = c.in-Err-do_job.stop in
     stop_kept (texts_of c.args.words.now) (g.H.Shelf.held c.args.shelf.now) (g.H.Shelf.faults c.args.shelf.now) (g.H.Shelf.faults c.do_job.new.shelf) (g.H.Shelf.failures c.args.shelf.now) (g.H.Shelf.failures c.do_job.new.shelf)
-    before now c.in-Err-do_job.ensures.shelf_later job c.in-Ok.ensures stop c.tell-in-Err-do_job.result
-    (told_since stop c.tell-in-Err-do_job.result before mid now c.in-Err-do_job.ensures.notes c.tell-in-Err-do_job.ensures.told)
-    (subst (λ (n : ℕ). IsStopCause stop rose failed (Rose before.faults n) (meaning job) files) (sym c.tell-in-Err-do_job.ensures.faults) c.in-Err-do_job.ensures.cause)
-    (subst (λ (w : Option (List ℕ)). LeavesText stop (meaning job) files before.written w) (sym c.tell-in-Err-do_job.ensures.written) c.in-Err-do_job.ensures.leaves)
-    (subst (λ (n : ℕ). before.faults ≤ n) (sym c.tell-in-Err-do_job.ensures.faults) c.in-Err-do_job.ensures.sink_later)
-    (λ other. c.tell-in-Err-do_job.ensures.faults ∙ c.in-Err-do_job.ensures.unfailed (λ is. other (c.tell-in-Err-do_job.ensures.fault (cc is))))
+    before now c.in-Err-do_job.ensures.does.shelf_later job c.in-Ok.ensures stop c.tell-in-Err-do_job.result
+    (told_since stop c.tell-in-Err-do_job.result before mid now c.in-Err-do_job.ensures.does.sink.notes c.tell-in-Err-do_job.ensures.told)
+    (subst (λ (n : ℕ). IsStopCause stop rose failed (Rose before.faults n) (meaning job) files) (sym c.tell-in-Err-do_job.ensures.faults) c.in-Err-do_job.ensures.does.cause)
+    (subst (λ (w : Option (List ℕ)). LeavesText stop (meaning job) files before.written w) (sym c.tell-in-Err-do_job.ensures.written) c.in-Err-do_job.ensures.does.leaves)
+    (subst (λ (n : ℕ). before.faults ≤ n) (sym c.tell-in-Err-do_job.ensures.faults) c.in-Err-do_job.ensures.does.sink.later)
+    (λ other. c.tell-in-Err-do_job.ensures.faults ∙ c.in-Err-do_job.ensures.does.sink.unfailed (λ is. other (c.tell-in-Err-do_job.ensures.fault (cc is))))
 
 pub returns-clause-unread : goal.returns-clause-unread
 returns-clause-unread g c none = c.in-Err-do_job.ensures.unread (none (request_of c.in-Ok.job) c.in-Ok.ensures)
@@ -82,4 +82,4 @@ returns-clause-trail g c =
     let mid = g.K.Sink.device c.do_job.new.sink in
     let now = g.K.Sink.device c.tell-in-Err-do_job.new.sink in
     trails.stop_kept (texts_of c.args.words.now) (g.H.Shelf.held c.args.shelf.now) before now (trail_of c.do_job.new.trail) (request_of c.in-Ok.job) c.in-Ok.ensures c.in-Err-do_job.stop c.tell-in-Err-do_job.result
-    (told_since c.in-Err-do_job.stop c.tell-in-Err-do_job.result before mid now c.in-Err-do_job.ensures.notes c.tell-in-Err-do_job.ensures.told) _ _ _ c.in-Err-do_job.ensures.cause (c.in-Err-do_job.ensures.trail c.requires)
+    (told_since c.in-Err-do_job.stop c.tell-in-Err-do_job.result before mid now c.in-Err-do_job.ensures.does.sink.notes c.tell-in-Err-do_job.ensures.told) _ _ _ c.in-Err-do_job.ensures.does.cause (c.in-Err-do_job.ensures.trail c.requires)

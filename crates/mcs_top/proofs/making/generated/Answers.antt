@@ -1,7 +1,6 @@
-use Rattle.std.proofs.Common.{◌∙◌}
 use Rattle.mcs_listing.specs.Listings.{StopsGenerated}
 use Rattle.mcs_listing.proofs.WorkLemmas.{made_done, made_stops, line_stopped}
-use Rattle.mcs_listing.proofs.LineLemmas.{line_unfailed}
+use Rattle.mcs_top.proofs.DoingLemmas.{still, sink_then, sink_wrote, sink_cut}
 use Rattle.mcs_base.proofs.Results.{err_told}
 use Rattle.mcs_listing.specs.declared.ending.Stop.TheVariants as stops
 use Rattle.mcs_work.specs.declared.task.Task.TheVariants.{Make}
@@ -20,11 +19,14 @@ returns-clause-ok g c = made_done c.args.number c.args.budget (g.K.Sink.device c
 pub returns-clause-stop : goal.returns-clause-stop
 returns-clause-stop g c = made_stops c.args.number c.args.budget (g.K.Sink.device c.args.sink.now) (g.K.Sink.device c.print_number.new.sink) (g.K.Sink.device c.list_system.new.sink) (rw c.in_ok-system.ensures at c.in_ok-print_number.ensures.whole) c.list_system.result c.in_ok-print_number.ensures.later (rw c.in_ok-system.ensures at c.list_system.ensures.stop)
 
-pub returns-in_err-print_number-clause-unfailed : goal.returns-in_err-print_number-clause-unfailed
-returns-in_err-print_number-clause-unfailed g c = line_unfailed _ _ _ _ c.from_residual-in_err-print_number.ensures.1 c.in_err-print_number.ensures.due
+pub returns-in_err-system-clause-sink : goal.returns-in_err-system-clause-sink
+returns-in_err-system-clause-sink g c = still (g.K.Sink.device c.args.sink.now) _
 
-pub returns-clause-unfailed : goal.returns-clause-unfailed
-returns-clause-unfailed g c other = c.list_system.ensures.unfailed other ∙ c.in_ok-print_number.ensures.quiet
+pub returns-in_err-print_number-clause-sink : goal.returns-in_err-print_number-clause-sink
+returns-in_err-print_number-clause-sink g c = sink_cut _ _ _ _ _ c.from_residual-in_err-print_number.ensures.1 c.in_err-print_number.ensures
+
+pub returns-clause-sink : goal.returns-clause-sink
+returns-clause-sink g c = sink_then _ _ _ _ _ (sink_wrote _ _ _ _ (tt {0}) c.in_ok-print_number.ensures) c.list_system.ensures.sink
 
 -- ---- what is left to be seen
 pub returns-in_err-system-clause-trail : goal.returns-in_err-system-clause-trail
