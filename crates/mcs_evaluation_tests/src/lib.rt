@@ -13,6 +13,8 @@ mod evaluators;
 #[cfg(test)]
 mod generated;
 #[cfg(test)]
+mod grounded;
+#[cfg(test)]
 mod laws;
 #[cfg(test)]
 mod lines;

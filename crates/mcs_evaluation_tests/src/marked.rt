@@ -17,14 +17,23 @@ const ENOUGH: u64 = 100;
 /// More bytes than any of these listings has.
 const ROOM: usize = 1000;
 
-/// A system by its text with one rule marked, and what a task prints of it.
+/// The listing that is asked for.
+#[derive(Clone, Copy)]
+enum Asked {
+    /// The whole one.
+    Solve,
+    /// Its verdict and its counts.
+    Make,
+}
+
+/// A system by its text with one rule marked, and what is printed of it.
 struct Marked {
     text: &'static str,
     /// The number of the rule, from 0.
     rule: usize,
     keep: bool,
     closed: bool,
-    task: Task,
+    asked: Asked,
     listing: &'static str,
 }
 
@@ -44,7 +53,7 @@ const MARKED: [Marked; 4] = [
         rule: 0,
         keep: true,
         closed: false,
-        task: Task::Solve,
+        asked: Asked::Solve,
         listing: "mcs 1: 1 contexts, 1 rules, 1 variables\ninconsistent\ndiagnosis 1: {+r1} state {c1:a} active {r1}\nexplanation 1: {+r1 by 1}\nend: 0 equilibria, 1 diagnoses, 1 explanations, need 2\n",
     },
     // Only to remove it repairs.
@@ -53,7 +62,7 @@ const MARKED: [Marked; 4] = [
         rule: 0,
         keep: false,
         closed: true,
-        task: Task::Solve,
+        asked: Asked::Solve,
         listing: "mcs 1: 1 contexts, 1 rules, 1 variables\ninconsistent\ndiagnosis 1: {-r1} state {} active {}\nexplanation 1: {-r1 by 1}\nend: 0 equilibria, 1 diagnoses, 1 explanations, need 2\n",
     },
     // Nothing repairs, and the empty explanation says so.
@@ -62,7 +71,7 @@ const MARKED: [Marked; 4] = [
         rule: 0,
         keep: true,
         closed: true,
-        task: Task::Solve,
+        asked: Asked::Solve,
         listing: "mcs 1: 2 contexts, 1 rules, 1 variables\ninconsistent\nexplanation 1: {}\nend: 0 equilibria, 0 diagnoses, 1 explanations, need 2\n",
     },
     Marked {
@@ -70,7 +79,7 @@ const MARKED: [Marked; 4] = [
         rule: 2,
         keep: true,
         closed: false,
-        task: Task::Make,
+        asked: Asked::Make,
         listing: "inconsistent\nend: 0 equilibria, 12 diagnoses, 2 explanations, need 74\n",
     },
 ];
@@ -126,16 +135,19 @@ impl Marked {
     }
 }
 
-/// Whether the task prints this of the system.
+/// Whether this is printed of the system.
 fn is_printed(
     alloc: Global,
     system: Arc<System>,
-    task: Task,
+    asked: Asked,
     listing: &str,
 ) -> Result<bool, Memory> {
     let mut sink = MemorySink::new(alloc, Vec::new(alloc), ROOM, ROOM)?;
     let evaluator = evaluator_of(alloc, &system, ENOUGH, &IdleGate)?;
-    let (worked, evaluator) = work(alloc, evaluator, system, task, &mut sink);
+    let (worked, evaluator) = match asked {
+        Asked::Solve => work(alloc, evaluator, system, Task::Solve, &mut sink),
+        Asked::Make => work(alloc, evaluator, system, Task::Make, &mut sink),
+    };
     drop(evaluator);
     Ok(worked == Ok(()) && sink.written() == listing.as_bytes())
 }
@@ -145,7 +157,7 @@ fn marked_systems_are_listed(rt: HostRuntime) -> Result<(), Fail> {
     let mut are_printed = true;
     for marked in &MARKED {
         let system = marked.system(rt.alloc())?;
-        are_printed &= is_printed(rt.alloc(), system, marked.task, marked.listing) == Ok(true);
+        are_printed &= is_printed(rt.alloc(), system, marked.asked, marked.listing) == Ok(true);
     }
     assert!(rt; are_printed);
     Ok(())

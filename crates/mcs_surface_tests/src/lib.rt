@@ -20,6 +20,8 @@ mod equilibria;
 #[cfg(test)]
 mod gates;
 #[cfg(test)]
+mod grounded;
+#[cfg(test)]
 mod kinds;
 #[cfg(test)]
 mod lengths;

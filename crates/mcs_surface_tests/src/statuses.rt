@@ -2,6 +2,7 @@
 
 use mcs_report::{equilibria_texts_are_unambiguous, equilibria_texts_exist};
 use mcs_top::Status;
+use mcs_work::grounded_texts_are_unambiguous;
 
 #[test]
 fn statuses_have_their_numbers(rt: HostRuntime) {
@@ -22,4 +23,5 @@ fn statuses_have_their_numbers(rt: HostRuntime) {
 fn laws_of_listings_are_called() {
     equilibria_texts_are_unambiguous();
     equilibria_texts_exist();
+    grounded_texts_are_unambiguous();
 }

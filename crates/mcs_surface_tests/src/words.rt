@@ -46,6 +46,15 @@ fn push_job(text: &mut Text, job: &Job) -> Result<(), Memory> {
             text.push(b" on ")?;
             text.push(file.as_bytes())
         }
+        Job::Grounded {
+            file,
+            budget,
+            workers,
+        } => {
+            text.push(b"grounded of ")?;
+            text.push(file.as_bytes())?;
+            push_limits(text, *budget, *workers as u64)
+        }
         Job::Make {
             number,
             budget,
@@ -100,7 +109,9 @@ check -- -f --proof => check --proof on -f
 make 0 => make 0, budget 100000, workers 1
 make 007 --budget 2 => make 7, budget 2, workers 1
 make 4294967295 => make 4294967295, budget 100000, workers 1
-make --workers 4 -- 1023 => make 1023, budget 100000, workers 4";
+make --workers 4 -- 1023 => make 1023, budget 100000, workers 4
+grounded f => grounded of f, budget 100000, workers 1
+--budget 5 grounded --proof --workers=2 -- -f => grounded of -f, budget 5, workers 2";
 
 #[test]
 fn words_that_ask_for_a_job(rt: HostRuntime) {
@@ -164,7 +175,12 @@ make  --proof
 make 4294967296
 make +7
 make 7 r
-make 7 --budget 0";
+make 7 --budget 0
+grounded
+grounded -
+grounded f g
+grounded f --proof=true
+Grounded f";
 
 #[test]
 fn words_that_ask_for_none(rt: HostRuntime) {

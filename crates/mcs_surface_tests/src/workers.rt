@@ -4,7 +4,7 @@
 use crate::budgets::{RUNS, TOLD};
 use crate::gates::FORBIDDEN;
 use crate::runs::{JOB, Run, run_with, sink_of, status_with};
-use crate::{equilibria, solutions};
+use crate::{equilibria, grounded, solutions};
 use mcs_base::Memory;
 use mcs_ports::{Gate, IdleGate};
 use mcs_top::Trail;
@@ -97,6 +97,13 @@ fn budgets_are_the_same_for_each_number_of_workers(rt: HostRuntime) {
     }
 }
 
+#[test]
+fn grounded_equilibria_are_the_same_for_each_number_of_workers(rt: HostRuntime) {
+    for run in &grounded::RUNS {
+        assert!(rt; is_run_same(&rt, rt.alloc(), run) == Ok(true));
+    }
+}
+
 /// Whether the counts of the generated system of this number are the same with each number of
 /// workers as with one.
 fn is_made_same<R: Threads + Wait + Sync>(
@@ -127,7 +134,7 @@ struct Traced {
     total: Option<u64>,
 }
 
-const TRACED: [Traced; 6] = [
+const TRACED: [Traced; 7] = [
     // The first context supplies the second, which has all the others of five questions.
     Traced {
         words: "solve f --workers 2",
@@ -155,6 +162,14 @@ const TRACED: [Traced; 6] = [
     Traced {
         words: "equilibria f --workers 2",
         text: TOLD,
+        status: 0,
+        got: &[0, 1],
+        total: Some(2),
+    },
+    // The grounded equilibria ask for level 0 alone.
+    Traced {
+        words: "grounded f --workers 2",
+        text: "context c1 program { a. }\ncontext c2 program {}\nbridge r1: c2:p if c1:a.\n",
         status: 0,
         got: &[0, 1],
         total: Some(2),
