@@ -21,6 +21,8 @@ EQUILIBRIUM = re.compile(f"equilibrium ({NUMBER}): {SET} applicable {SET}")
 DIAGNOSIS = re.compile(f"diagnosis ({NUMBER}): {SET} state {SET} active {SET}")
 EXPLANATION = re.compile(f"explanation ({NUMBER}): {SET}")
 END = re.compile(f"end: {COUNT} equilibria(?:, {COUNT} diagnoses, {COUNT} explanations)?, need {COUNT}")
+GROUNDED = re.compile(f"grounded ({NUMBER}): {SET} applicable {SET}")
+GROUNDED_END = re.compile(f"end: {COUNT} grounded of {COUNT} equilibria, need {COUNT}")
 ANSWER = re.compile(f"answer ({NAME}) {SET}")
 STEP = re.compile(f"step((?: -?{NUMBER})*) by((?: {NUMBER})+)")
 
@@ -140,8 +142,9 @@ class Reader:
                  "contexts": [{"name": context.name, "kind": context.kind} for context in system.contexts],
                  "rules": [bridge.name for bridge in system.bridges],
                  "variables": [{"context": read.context, "belief": system_text.belief(read.belief)} for read in variables]}
-        equilibria = [{"state": self.state(state), "applicable": self.names(rules)}
-                      for state, rules in self.numbered("equilibrium", EQUILIBRIUM)]
+        if self.begins("grounded ") or self.next is not None and GROUNDED_END.fullmatch(self.next):
+            return self.grounded(found, counts)
+        equilibria = self.states("equilibrium", EQUILIBRIUM)
         consistent = self.verdict()
         if consistent != bool(equilibria):
             self.fault("the verdict does not fit the equilibria before it", 1)
@@ -165,6 +168,20 @@ class Reader:
                 found["proof"].append(self.answer())
             self.line("end of proof")
         return found
+
+    def grounded(self, found, counts):
+        """The rest of a listing of grounded equilibria."""
+        grounded = self.states("grounded", GROUNDED)
+        told, equilibria, need = map(int, self.take(GROUNDED_END, "the line `end: ..`"))
+        if told != len(grounded) or told > equilibria:
+            self.fault("the end of the listing tells another number of grounded equilibria than stand before it", 1)
+        counts.update({"grounded": told, "equilibria": equilibria})
+        found.update({"job": "grounded", "grounded": grounded, "counts": counts, "need": need})
+        return found
+
+    def states(self, word, form):
+        """The states of the lines of this word, each with the rules that apply in it."""
+        return [{"state": self.state(state), "applicable": self.names(rules)} for state, rules in self.numbered(word, form)]
 
     def verdict(self):
         if self.takes("consistent"):

@@ -102,3 +102,10 @@ class Clingo(Ground):
             self.assertEqual(listed["equilibrium"], answers.equilibria()[0], path)
             self.assertEqual(listed["diagnosis"], diagnoses, path)
             self.assertEqual(listed["explanation"], answers.explanations(diagnoses)[0], path)
+
+    def test_a_circle_is_not_grounded(self):
+        import questions
+        text = self.file("a text.mcs", "context c1 program {} bridge r1: c1:a if c1:a. bridge r2: c1:b if not c1:a.")
+        answers = questions.Answers(shutil.which("clingo"), text, self.room, 60)
+        self.assertEqual(answers.equilibria()[0], {frozenset(), frozenset({"c1:a"})})
+        self.assertEqual(answers.grounded()[0], {frozenset()})

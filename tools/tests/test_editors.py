@@ -102,7 +102,7 @@ class Completion(Ground):
         self.file("other.txt", "")
         os.mkdir(os.path.join(self.room, "folder"))
         everything = dict(built=True)
-        self.assertEqual(self.offered("", **everything), ["equilibria", "solve", "check", "make"])
+        self.assertEqual(self.offered("", **everything), ["equilibria", "grounded", "solve", "check", "make"])
         self.assertEqual(self.offered("s"), ["solve"])
         self.assertEqual(sorted(self.offered("solve", "")), ["a text.mcs", "folder"])
         self.assertEqual(self.offered("solve", "a"), ["a text.mcs"])

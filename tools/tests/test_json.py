@@ -30,6 +30,11 @@ class Printed:
         size = "{contexts} contexts, {rules} rules, {variables} variables".format(**counts)
         made = document["job"] == "make"
         self.lines.append((f"make {document['number']}: " if made else f"mcs {document['version']}: ") + size)
+        if document["job"] == "grounded":
+            for number, each in enumerate(document["grounded"], 1):
+                self.lines.append(f"grounded {number}: {self.state(each)} applicable {told(each['applicable'])}")
+            self.lines.append(f"end: {counts['grounded']} grounded of {counts['equilibria']} equilibria, need {document['need']}")
+            return
         for number, each in enumerate(document.get("equilibria", []), 1):
             self.lines.append(f"equilibrium {number}: {self.state(each)} applicable {told(each['applicable'])}")
         self.lines.append("consistent" if document["consistent"] else "inconsistent")
@@ -144,6 +149,22 @@ class Json(Ground):
             "applicable": ["link", "warn", "flag"]}])
         self.assertEqual(document["counts"], {"contexts": 3, "rules": 3, "variables": 5, "equilibria": 1})
         self.assertNotIn("diagnoses", document)
+
+    def test_grounded_equilibria_by_hand(self):
+        path = example("ontologies.mcs")
+        with open(example("ontologies.grounded")) as file:
+            whole = file.read()
+        document = self.assertTurned(path, whole)
+        self.assertEqual(document["grounded"], [{"state": {"zoology": ["mammal"], "fishery": []}, "applicable": []}])
+        self.assertEqual(document["counts"], {"contexts": 2, "rules": 2, "variables": 3, "grounded": 1, "equilibria": 2})
+        self.assertNotIn("consistent", document)
+        heading, _, end = whole.splitlines(True)
+        self.assertEqual(self.assertTurned(path, heading + "end: 0 grounded of 0 equilibria, need 4\n")["grounded"], [])
+        for content, line in [(heading + end, 2), (whole.replace("of 2", "of 0"), 3), (whole[:-1], 3), (whole + end, 4)]:
+            listing = self.file("a listing", content)
+            status, printed, noted = self.ran("tools/json", path, listing)
+            self.assertEqual((status, printed), (1, ""), content)
+            self.assertTrue(noted.startswith(f"{listing}:{line}:1: "), (content, noted))
 
     def test_make_and_check_by_hand(self):
         made = "make 0: 2 contexts, 2 rules, 1 variables\nconsistent\nend: 2 equilibria, 1 diagnoses, 0 explanations, need 3\n"
