@@ -1,5 +1,5 @@
-"""Asks clingo the three questions of a text, its equilibria, minimal diagnoses and minimal explanations, and reads the
-lists of mcs to compare them."""
+"""Asks clingo the questions of a text, its equilibria, minimal diagnoses, minimal explanations and grounded equilibria,
+and reads the lists of mcs to compare them."""
 import importlib.machinery
 import importlib.util
 import json
@@ -12,6 +12,7 @@ sys.path.insert(0, os.path.dirname(HERE))
 import measure  # noqa: E402
 
 LEAST = ["--heuristic=Domain", "--enum-mode=domRec"]
+KINDS = ("equilibrium", "diagnosis", "explanation", "grounded")
 
 
 def translation():
@@ -35,7 +36,8 @@ class Answers:
         self.program, self.limit, self.room = program, limit, room
         self.facts = os.path.join(room, "facts.lp")
         with open(path, "rb") as file:
-            lines = TRANSLATE.facts_of(TRANSLATE.system_text.read(file.read()))
+            self.system = TRANSLATE.system_text.read(file.read())
+        lines = TRANSLATE.facts_of(self.system)
         with open(self.facts, "w") as file:
             file.write("\n".join(lines) + "\n")
         self.names = dict(re.findall(r'name\((\d+),"([^"]*)"\)', "\n".join(lines)))
@@ -55,17 +57,27 @@ class Answers:
         files = [os.path.join(HERE, name + ".lp") for name in ("system", "theories", question)]
         return self.models(options, [self.facts, *files])
 
+    def views_of(self, models):
+        """Models as sets of beliefs."""
+        number = lambda atom: re.fullmatch(r"believed\((\d+)\)", atom)[1]
+        return {frozenset(self.names[number(atom)] for atom in model) for model in models}
+
     def equilibria(self):
         """The equilibria as sets of beliefs."""
         models, seconds = self.of_system(["--project=show"], "equilibria")
-        number = lambda atom: re.fullmatch(r"believed\((\d+)\)", atom)[1]
-        return {frozenset(self.names[number(atom)] for atom in model) for model in models}, seconds
+        return self.views_of(models), seconds
+
+    def grounded(self):
+        """The grounded equilibria as sets of beliefs, where all contexts are normal programs, and else nothing."""
+        if not all(is_normal(context) for context in self.system.contexts):
+            return None, 0
+        models, seconds = self.models(["--project=show"], [self.facts, os.path.join(HERE, "grounded.lp")])
+        return self.views_of(models), seconds
 
     def diagnoses(self):
         """The minimal diagnoses as sets of marks."""
         models, seconds = self.of_system(LEAST, "diagnoses")
-        mark = lambda atom: ("-" if atom.startswith("removed") else "+") + atom.split('"')[1]
-        return {frozenset(map(mark, model)) for model in models}, seconds
+        return marks_of(models), seconds
 
     def explanations(self, diagnoses):
         """The minimal explanations as sets of marks."""
@@ -79,12 +91,23 @@ class Answers:
         return {frozenset(atom.split('"')[1] for atom in model) for model in models}, seconds
 
 
+def is_normal(context):
+    """Whether a context is a program of which each rule has exactly one head."""
+    return context.kind == "program" and all(len(rule.heads) == 1 for rule in context.items)
+
+
+def marks_of(models):
+    """Models as sets of marks."""
+    mark = lambda atom: ("-" if atom.startswith("removed") else "+") + atom.split('"')[1]
+    return {frozenset(map(mark, model)) for model in models}
+
+
 def lists_of(printed):
     """The lists of a listing: equilibria as sets of beliefs, diagnoses and explanations as sets of marks."""
-    lists = {"equilibrium": set(), "diagnosis": set(), "explanation": set()}
+    lists = {kind: set() for kind in KINDS}
     for line in printed.decode("ascii").split("\n"):
-        match = re.match(r"(equilibrium|diagnosis|explanation) \d+: \{([^}]*)\}", line)
-        if match:
+        match = re.match(r"([a-z]+) \d+: \{([^}]*)\}", line)
+        if match and match[1] in KINDS:
             members = match[2].split(", ") if match[2] else []
             lists[match[1]].add(frozenset(member.split(" by ")[0] for member in members))
     return lists
