@@ -32,3 +32,5 @@ pub mod Searched
 pub mod Placed
 pub mod GroupLemmas
 pub mod Bags
+pub mod Totals
+pub mod LeastLemmas

@@ -13,4 +13,5 @@ pub mod Numbers
 pub mod Transversals
 pub mod Rows
 pub mod Groups
+pub mod Least
 pub mod OneProof
