@@ -139,6 +139,21 @@ impl<O: Oracle> Node<O> {
         ensures nothing { result ≡ Ignored → self.new ≡ self.old }
         ensures taken { result ≡ Took → HasTaken letter self.old self.new }
     {
+        if letter.plan().is(&self.plan) {
+            self.receive(alloc, letter)
+        } else {
+            Handled::Ignored
+        }
+    }
+
+    /// Takes a letter of this plan, or ignores it, as `handle` does. The plans are not compared,
+    /// which takes time that grows with the system.
+    pub fn receive(&mut self, alloc: Global, letter: Letter) -> Handled
+        requires same { letter.plan ≡ self.old.plan }
+        ensures took { (result ≡ Took) ↔ IsAwaited letter self.old }
+        ensures nothing { result ≡ Ignored → self.new ≡ self.old }
+        ensures taken { result ≡ Took → HasTaken letter self.old self.new }
+    {
         let Some(round) = &mut self.round else {
             return Handled::Ignored;
         };

@@ -20,17 +20,18 @@ use mcs_states::Halt;
 use std::alloc::Global;
 use std::sync::Arc;
 
-/// The place, among the contexts that supply this one, of the sender of a letter that the round
-/// waits for.
+/// The place, among the contexts that supply this one, of the sender of a letter of this plan that
+/// the round waits for.
 pub(crate) fn awaited(plan: &Plan, context: u32, round: &InRound, letter: &Letter) -> Option<usize>
-    requires { context < length plan.now.contexts }
+    requires in_range { context < length plan.now.contexts }
+    requires same { letter.now.plan ≡ plan.now }
     ensures place { IfSome result (λ p. IsForRound plan.now context round.now letter.now
         × ((order : List ℕ) → IsImportOrder plan.now order
         → slice_get (supplied plan.now order context) p ≡ Some letter.now.from)) }
     ensures none { IfNone result (IsForRound plan.now context round.now letter.now → ⊥) }
 {
     let of_round = letter.level() == round.level && letter.to() == context;
-    if !of_round || !letter.plan().is(plan) || was_had(&round.had, letter.from()) {
+    if !of_round || was_had(&round.had, letter.from()) {
         return None;
     }
     place_of(plan.supplied(context), letter.from())

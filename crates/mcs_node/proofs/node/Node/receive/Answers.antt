@@ -10,8 +10,8 @@ use Rattle.mcs_node.specs.declared.round.InRound as code
 use Rattle.mcs_node.proofs.BeginLemmas.{node_in}
 use Rattle.mcs_node.proofs.HandlingLemmas.{awaited_back, awaited_from, round_now, taken_now}
 use Rattle.mcs_node.proofs.TakingLemmas.{may_take, node_now}
-use Rattle.mcs_node.proofs.node.Node.handle.Given as given
-use Rattle.mcs_node.proofs.node.Node.handle.Goals as goal
+use Rattle.mcs_node.proofs.node.Node.receive.Given as given
+use Rattle.mcs_node.proofs.node.Node.receive.Goals as goal
 
 pub returns-in_default-awaited-clause-took : goal.returns-in_default-awaited-clause-took
 returns-in_default-awaited-clause-took g c = (
