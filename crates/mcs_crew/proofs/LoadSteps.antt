@@ -35,6 +35,7 @@ worked_begun was load team none inbox left = record {
   wire = ap (λ (i : InboxData). i.wire) inbox;
   at_work = λ r asked w. record {
     team = team.team r asked w.team;
+    plan = ap (λ (i : InboxData). i.wire.plan) inbox ∙ w.plan;
     ignored = w.ignored;
     balance = λ weight. (
         let taken = ap (λ (i : InboxData). stamps_weight weight i.taken) inbox in
@@ -75,12 +76,14 @@ module _ (was load : LoadData) (l : LetterData) (team : GoesOn was.team load.tea
   at_work_more : (r : Round) (asked : ℕ) → HasHadOne l was.team load.team ⊎ HasHadNone was.team load.team → IsAtWork r asked was → IsAtWork r asked load
   at_work_more r asked (inl one) w = record {
     team = team.team r asked w.team;
+    plan = ap (λ (i : InboxData). i.wire.plan) inbox ∙ w.plan;
     ignored = w.ignored;
     balance = λ weight. (let more = taken_more weight in let had = one weight in let balance = w.balance weight in omega (arith, more, had, balance));
     counted = counted_more r asked w;
   }
   at_work_more r asked (inr none) w = record {
     team = team.team r asked w.team;
+    plan = ap (λ (i : InboxData). i.wire.plan) inbox ∙ w.plan;
     ignored = w.ignored ++ l ∷ [];
     balance = λ weight. (
         let more = taken_more weight in let had = none weight in let balance = w.balance weight in let ignored = ignored_more weight w.ignored in

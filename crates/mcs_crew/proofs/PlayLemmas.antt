@@ -14,7 +14,7 @@ use Rattle.mcs_node.specs.Nodes.{NodeData, begun_at}
 use Rattle.mcs_states.specs.declared.halt.Halt.{Halt}
 use Rattle.mcs_mesh.specs.Players.{IsReadyRound, as_new}
 use Rattle.mcs_draw.specs.Seats.{ClosedData, DrawData, SeatData}
-use Rattle.mcs_wire.specs.Ends.{AddressData, InboxData, SettledData}
+use Rattle.mcs_wire.specs.Ends.{AddressData, InboxData, SettledData, WireData}
 use Rattle.mcs_crew.specs.declared.load.Load.{Load}
 use Rattle.mcs_crew.specs.Calls.{load_of, nodes_in, without_nodes}
 use Rattle.mcs_crew.specs.Children.{HasWorked, IsGiven}
@@ -172,16 +172,24 @@ module _ {O : Type 0} (m : System) (level budget asked w : ℕ) (first : List No
       let (a, address) = slice_get_below hub g (let long = out.equipment.one_each in let many = many_dealt in omega (arith, within, long, many)) in
       (n, i, out.equipment.new.each g i (load_of n) inbox (slice_get-map_some load_of made g n there), same, (out.equipment.inboxes_are g a i address inbox).1, λ b at'. (out.equipment.inboxes_are g b i at' inbox).0)
 
+  -- the address of its inbox
+  address_at : (g : ℕ) (l : Load O) → slice_get dealt g ≡ Some l → (a : AddressData) × (slice_get hub g ≡ Some a)
+  address_at g l at =
+      let within = slice_get_within dealt g l at in
+      slice_get_below hub g (let long = out.equipment.one_each in let many = many_dealt in omega (arith, within, long, many))
+
   -- the loads go out as they should
   pub given_at : (g : ℕ) (l : Load O) → slice_get dealt g ≡ Some l → IsAtWork (round_of m level budget ready.before) asked (load_of l) × (l.team.seat.word ≡ draw.word)
   given_at g l at =
       let (n, i, new, same, taken, wire) = new_at g l at in
+      let (b, address) = address_at g l at in
       let there : slice_get (grouped w 0 (map (begun_at level) first)) g ≡ Some l.team.nodes.items = subst (λ (groups : List (List NodeData)). slice_get groups g ≡ Some l.team.nodes.items) out.nodes (slice_get-map_some (λ (x : Load O). x.team.nodes.items) dealt g l at) in (
         work_begun m level budget asked w first ready valid some g l.team.nodes.items there (load_of l) hub refl
             (sym (ap (λ (x : LoadData). x.team.addresses) same) ∙ new.addresses_are)
             (λ h a at'. (out.equipment.kept h a at').0)
             out.equipment.one_each
             (sym (ap (λ (x : LoadData). x.team.seat.account) same) ∙ new.account)
+            (sym (ap (λ (x : LoadData). x.inbox.wire.plan) same) ∙ ap (λ (x : InboxData). x.wire.plan) new.inbox_is ∙ ap (λ (x : WireData). x.plan) (wire b address) ∙ (out.equipment.kept g b address).0)
             (sym (ap (λ (x : LoadData). x.inbox.taken) same) ∙ ap (λ (x : InboxData). x.taken) new.inbox_is ∙ taken)
             (λ order ordered. sym (ap (λ (x : LoadData). x.left) same) ∙ new.left order ordered),
         sym (ap (λ (x : LoadData). x.team.seat.word) same) ∙ new.word_is,

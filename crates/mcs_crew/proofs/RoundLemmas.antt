@@ -124,6 +124,7 @@ module _ (m : System) (level budget asked w : ℕ) (first : List NodeData) (read
       (wires : (h : ℕ) (a : AddressData) → slice_get hub h ≡ Some a → a.wire.plan ≡ m)
       (many : length hub ≡ w)
       (account : l.team.seat.account ≡ record { left = seat_room; drawn = 0; top = asked })
+      (plan : l.inbox.wire.plan ≡ m)
       (taken : l.inbox.taken ≡ [])
       (left : (order : List ℕ) → IsImportOrder m order → l.left ≡ awaited_by m order w g (length m.contexts)) where
     -- each of its nodes is one of those that have begun
@@ -179,6 +180,7 @@ module _ (m : System) (level budget asked w : ℕ) (first : List NodeData) (read
     pub work_begun : IsAtWork round asked l
     work_begun = record {
       team = team_begun;
+      plan = plan;
       ignored = [];
       balance = λ weight. (let none = ap (stamps_weight weight) taken in let had = none_had weight in omega (arith, none, had));
       counted = λ order ordered. (

@@ -27,6 +27,7 @@ all_awaited m order nodes = sum_by (λ (d : NodeData). length (supplied m order 
 -- the load is one of the round. As bags, the letters that its inbox has taken are those that its nodes have had, and those that they ignored. With those that are left they are as many as the nodes await
 pub record IsAtWork (r : Round) (asked : ℕ) (load : LoadData) : Type 0 where
   pub team : IsTeam r asked load.team
+  pub plan : load.inbox.wire.plan ≡ r.system
   pub ignored : List LetterData
   pub balance : (weight : Stamp → ℕ) → stamps_weight weight load.inbox.taken ≡ had_weight weight load.team.nodes + stamps_weight weight ignored
   pub counted : (order : List ℕ) → IsImportOrder r.system order → length load.inbox.taken + load.left ≡ all_awaited r.system order load.team.nodes

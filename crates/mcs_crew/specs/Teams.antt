@@ -100,6 +100,10 @@ pub record IsTeam (r : Round) (asked : ℕ) (t : TeamData) : Type 0 where
 abbrev pub CanServe : TeamData → Type 0
 CanServe t = (r : Round) × (asked : ℕ) × IsTeam r asked t
 
+-- the letter is one of its round's plan
+abbrev pub CanTake : LetterData → TeamData → Type 0
+CanTake l t = (r : Round) × (asked : ℕ) × IsTeam r asked t × (l.plan ≡ r.system)
+
 -- t is what came of the team: its nodes are the same but for what a round changes, its wires and its word are the same, and it is a team of the same round
 pub record GoesOn (was t : TeamData) : Type 0 where
   pub same : map as_new t.nodes ≡ map as_new was.nodes

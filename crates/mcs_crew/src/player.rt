@@ -1,6 +1,6 @@
 //! A player whose rounds are played by threads, through a closure that is handed to it.
 
-ghost use Rattle.std.specs.Prelude.{◌≡◌, true};
+ghost use Rattle.std.specs.Prelude.{◌≡◌, false, true};
 ghost use Rattle.std.specs.Arc.{arc_value};
 ghost use Rattle.mcs_mesh.specs.Players.{IsPlayed, IsReadyRound};
 ghost use Rattle.mcs_crew.specs.Crews.{PlaysRounds};
@@ -48,6 +48,8 @@ impl<'a, N: NodeList, F: Fn(Round<N>) -> Played<N, Trail>> Player for CrewPlayer
 
     ghost plays_last = { true };
 
+    ghost plays_each = { false };
+
     ghost can_play = { λ p. PlaysRounds p.workers (λ r. arc_value r.plan) (λ r. r.level)
         (λ r. r.budget) (λ r. r.asked) (λ r. N.seen r.nodes) (λ s. N.seen s.nodes) (λ s. s.total)
         (λ s. trail_of s.trail) F.pre F.post p.play.now };
@@ -57,6 +59,10 @@ impl<'a, N: NodeList, F: Fn(Round<N>) -> Played<N, Trail>> Player for CrewPlayer
 
     fn plays_last_level() -> bool {
         true
+    }
+
+    fn plays_each_level() -> bool {
+        false
     }
 
     #[tactic(auto, using(crate::proofs::ToldLemmas::has_ended))]

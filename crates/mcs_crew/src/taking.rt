@@ -3,7 +3,7 @@
 ghost use Rattle.std.specs.Prelude.{◌≡◌, ◌+◌, ◌<◌, ◌⊎◌, IfSome, MatchBool, length, vec_len};
 ghost use Rattle.mcs_crew.specs.Calls.{load_of, team_of};
 ghost use Rattle.mcs_crew.specs.Loads.{CanWork, Worked};
-ghost use Rattle.mcs_crew.specs.Teams.{CanServe, GoesOn, HasHadNone, HasHadOne};
+ghost use Rattle.mcs_crew.specs.Teams.{CanTake, GoesOn, HasHadNone, HasHadOne};
 
 use crate::load::{Load, Team};
 use crate::sending::send_out;
@@ -37,7 +37,7 @@ impl<O: Oracle> Team<O> {
     )
         requires word { self.old.seat.word ≡ draw.now.word }
         requires asks { A.asks asker.now }
-        requires team { CanServe (team_of self.old) }
+        requires team { CanTake letter (team_of self.old) }
         ensures goes_on { GoesOn (team_of self.old) (team_of self.new) }
         ensures had { HasHadOne letter (team_of self.old) (team_of self.new)
             ⊎ HasHadNone (team_of self.old) (team_of self.new) }
@@ -52,14 +52,14 @@ impl<O: Oracle> Team<O> {
     /// Hands the letter to the node at the place, and sends what it puts out.
     fn hand_over<R: Wait>(&mut self, rt: &R, alloc: Global, place: usize, letter: Letter)
         requires place { place < vec_len self.old.nodes }
-        requires team { CanServe (team_of self.old) }
+        requires team { CanTake letter (team_of self.old) }
         ensures goes_on { GoesOn (team_of self.old) (team_of self.new) }
         ensures had { HasHadOne letter (team_of self.old) (team_of self.new)
             ⊎ HasHadNone (team_of self.old) (team_of self.new) }
         ensures many { vec_len self.new.nodes ≡ vec_len self.old.nodes }
     {
         let node = &mut self.nodes[place];
-        node.handle(alloc, letter);
+        node.receive(alloc, letter);
         send_out(rt, &mut self.addresses, node);
     }
 }

@@ -370,6 +370,9 @@ module _ (w : ℕ) (m : System) (budget : ℕ) (reached : Option ℕ) (halt : Op
   pub left_reaches : (halt ≡ None → HasLastRound m reached last) → now.state.halted ≡ false → HasLastRound now.state.system now.state.done now.last
   left_reaches reaches going = subst (λ (e : EvaluationData). HasLastRound e.state.system e.state.done e.last) view (reaches (no_halt going).0)
 
+  pub left_each : (halt ≡ None → last ≡ reached) → now.state.halted ≡ false → now.last ≡ now.state.done
+  left_each each going = subst (λ (e : EvaluationData). e.last ≡ e.state.done) view (each (no_halt going).0)
+
   pub left_halt : IsHaltOfRound budget last halt → IsHaltOfRound now.state.budget now.last now.state.halt
   left_halt is = subst (λ (e : EvaluationData). IsHaltOfRound e.state.budget e.last e.state.halt) view is
 

@@ -72,7 +72,8 @@ impl<P: Player + Drop> Model for Evaluation<P> {
         l.halt l.trail)
         × (P.plays_last ≡ true → l.halt ≡ None → HasLastRound (arc_value l.plan) l.done l.level)
         × IsHaltOfRound l.budget l.level l.halt
-        × (l.level ≡ None → l.trail ≡ None) };
+        × (l.level ≡ None → l.trail ≡ None)
+        × (P.plays_each ≡ true → l.halt ≡ None → l.level ≡ l.done) };
 }
 
 /// What an evaluation leaves: its nodes, and what its player has shown of its last round.
@@ -119,8 +120,8 @@ impl<P: Player + Drop> Evaluation<P> {
     }
 
     /// Does the round of the level, unless it, or that of a greater one, was done, or it has no
-    /// other questions and rows than the greatest one done. That of the last level is played all
-    /// the same if the player plays this.
+    /// other questions and rows than the greatest one done. That of the last level, or of each
+    /// level, is played all the same if the player plays this.
     fn reach(&mut self, alloc: Global, level: u32) -> Result<(), Halt>
         requires { self.old.state.halted ≡ false }
         ensures done { OnOk result (HasDone self.old.state self.new.state level) }
@@ -175,8 +176,9 @@ impl<P: Player + Drop> Evaluation<P> {
 
     /// The nodes, back, and what the player has shown of the last round, if one was played. Unless
     /// the evaluation has halted, that round was of the greatest level done, or of one below it
-    /// with the same questions and rows; where the player plays the last level, it was of that
-    /// level if this was done. A halt other than want of memory is that of this round.
+    /// with the same questions and rows. Where the player plays the last level, it was of that
+    /// level if this was done; where it plays each level, it was of the greatest level done. A halt
+    /// other than want of memory is that of this round.
     pub fn into_parts(self) -> Parts<P::Over, P::Trail>
         ensures nodes { P.Over.seen result.nodes ≡ self.nodes }
         ensures oracles { self.state.oracles ≡ oracles_of (P.Over.seen result.nodes) }
@@ -189,6 +191,8 @@ impl<P: Player + Drop> Evaluation<P> {
             → IsLastRound self.state.system self.last self.state.done }
         ensures reaches { P.plays_last ≡ true → self.state.halted ≡ false
             → HasLastRound self.state.system self.state.done self.last }
+        ensures each { P.plays_each ≡ true → self.state.halted ≡ false
+            → self.last ≡ self.state.done }
         ensures halt { IsHaltOfRound self.state.budget self.last self.state.halt }
     {
         let Evaluation { nodes, trail, .. } = self;

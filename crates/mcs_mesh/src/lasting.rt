@@ -41,12 +41,16 @@ fn is_all_done(system: &System, done: Option<u32>) -> bool
 }
 
 /// Whether the round of the level is left out: it has the same questions and rows as that of the
-/// greatest level done. The player has that of the last level played all the same, if it plays
-/// this.
+/// greatest level done. The player has that of the last level, or that of each level, played all
+/// the same, if it plays this.
 pub(crate) fn is_left_out<P: Player>(system: &System, done: Option<u32>, level: u32) -> bool
     ensures done { result ≡ true → (d : ℕ) × (done ≡ Some d) × HasFewRules system.now d }
     ensures last { result ≡ true → P.plays_last ≡ true → ¬ (level ≡ length system.now.bridges) }
+    ensures each { result ≡ true → ¬ (P.plays_each ≡ true) }
 {
+    if P::plays_each_level() {
+        return false;
+    }
     if P::plays_last_level() && level as usize == system.bridges().len() {
         return false;
     }

@@ -38,7 +38,7 @@ fn deliver<O: Oracle>(alloc: Global, letter: Letter, nodes: &mut [Node<O>]) -> R
 {
     let to = letter.to() as usize;
     let node = &mut nodes[to];
-    node.handle(alloc, letter);
+    node.receive(alloc, letter);
     match node.stopped() {
         Some(halt) => Err(halt),
         None => Ok(()),

@@ -3,6 +3,7 @@
 #![tactic(auto)]
 
 mod answering;
+mod each;
 mod evaluation;
 mod found;
 mod lasting;
@@ -17,6 +18,7 @@ mod tables;
 mod turns;
 
 pub use answering::{repairs_of, states_of};
+pub use each::EachLevel;
 pub use evaluation::{Evaluation, Parts};
 pub use making::nodes_of;
 pub use mesh::Mesh;

@@ -53,6 +53,14 @@ pub trait Player {
     fn plays_last_level() -> bool
         ensures { result ≡ plays_last };
 
+    /// Whether the round of each level is played even where it has no other questions than one
+    /// before.
+    ghost plays_each: { Bool };
+
+    /// Whether it is.
+    fn plays_each_level() -> bool
+        ensures { result ≡ plays_each };
+
     /// That it can play, and plays as is said of `play`.
     ghost can_play: { Self → Type 0 };
 

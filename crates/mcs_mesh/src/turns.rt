@@ -47,11 +47,17 @@ impl<'a, O: Oracle, G: Gate> Player for TurnPlayer<'a, O, G> {
 
     ghost plays_last = { false };
 
+    ghost plays_each = { false };
+
     ghost can_play = { λ _. Unit {0} };
 
     ghost leaves = { λ _ m level budget nodes _ _. IsSoundRound m level budget nodes };
 
     fn plays_last_level() -> bool {
+        false
+    }
+
+    fn plays_each_level() -> bool {
         false
     }
 

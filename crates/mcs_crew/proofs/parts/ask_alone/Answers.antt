@@ -1,4 +1,4 @@
-use Rattle.std.proofs.Common.{◌≡◌, ◌++◌, ◌∙◌, ℕ, List, [], ap, refl, sym}
+use Rattle.std.proofs.Common.{◌++◌, ◌∙◌, ℕ, List, [], ap, refl}
 use Rattle.std.proofs.lemmas.List.{append_assoc}
 use Rattle.mcs_crew.proofs.PartLemmas.{errand_front, errand_left, none_asked, split_whole}
 use Rattle.mcs_crew.proofs.parts.ask_alone.Goals as goal

@@ -20,6 +20,13 @@ offset_bounds-nodes-to g c =
     let less : c.to-to.result < length c.args.nodes.now = to_below c.args.letter c.args.nodes.now c.to-to.result c.requires c.to-to.ensures in
     search rules
 
+-- ---- the letter is one of the plan of the node that was read
+pub receive-requires : goal.receive-requires
+receive-requires g c =
+    let x = c.requires in
+    let at = subst (λ n. slice_get c.args.nodes.now n ≡ Some x.node) (sym c.to-to.ensures) x.is_its in
+    record { same = subst (λ (n : NodeData). c.args.letter.plan ≡ n.plan) (sym (get_or_from_slice_get c.args.nodes.now c.to-to.result x.node c.index-nodes-to.result at)) x.awaited.plan }
+
 -- ---- the node that was read takes the letter
 module _ (l : LetterData) (nodes : List NodeData) (x : IsExpected l nodes) (to : ℕ) (is : to ≡ l.to) (d e : NodeData) (takes : IsAwaited l (get_or nodes to d) → HasTaken l (get_or nodes to d) e) where
   node_is : get_or nodes to d ≡ x.node
@@ -45,25 +52,25 @@ module _ (l : LetterData) (nodes : List NodeData) (x : IsExpected l nodes) (to :
   }
 
 pub returns-in-Some-clause-cause : goal.returns-in-Some-clause-cause
-returns-in-Some-clause-cause g c = cause c.args.letter c.args.nodes.now c.requires c.to-to.result c.to-to.ensures c.index-nodes-to.result c.handle.new.self
-    (λ awaited. c.handle.ensures.taken (c.handle.ensures.took.1 awaited)) c.in-Some.halt (sym c.stopped.ensures ∙ c.in-Some.is)
+returns-in-Some-clause-cause g c = cause c.args.letter c.args.nodes.now c.requires c.to-to.result c.to-to.ensures c.index-nodes-to.result c.receive.new.self
+    (λ awaited. c.receive.ensures.taken (c.receive.ensures.took.1 awaited)) c.in-Some.halt (sym c.stopped.ensures ∙ c.in-Some.is)
 
 pub returns-in-Some-clause-same : goal.returns-in-Some-clause-same
-returns-in-Some-clause-same g c = same_nodes c.args.letter c.args.nodes.now c.requires c.to-to.result c.to-to.ensures c.index-nodes-to.result c.handle.new.self
-    (λ awaited. c.handle.ensures.taken (c.handle.ensures.took.1 awaited))
+returns-in-Some-clause-same g c = same_nodes c.args.letter c.args.nodes.now c.requires c.to-to.result c.to-to.ensures c.index-nodes-to.result c.receive.new.self
+    (λ awaited. c.receive.ensures.taken (c.receive.ensures.took.1 awaited))
 
 pub returns-in-Some-clause-taken : goal.returns-in-Some-clause-taken
-returns-in-Some-clause-taken g c = taken_in c.args.letter c.args.nodes.now c.requires c.to-to.result c.to-to.ensures c.index-nodes-to.result c.handle.new.self
-    (λ awaited. c.handle.ensures.taken (c.handle.ensures.took.1 awaited))
+returns-in-Some-clause-taken g c = taken_in c.args.letter c.args.nodes.now c.requires c.to-to.result c.to-to.ensures c.index-nodes-to.result c.receive.new.self
+    (λ awaited. c.receive.ensures.taken (c.receive.ensures.took.1 awaited))
 
 pub returns-in-None-clause-taken : goal.returns-in-None-clause-taken
-returns-in-None-clause-taken g c = taken_in c.args.letter c.args.nodes.now c.requires c.to-to.result c.to-to.ensures c.index-nodes-to.result c.handle.new.self
-    (λ awaited. c.handle.ensures.taken (c.handle.ensures.took.1 awaited))
+returns-in-None-clause-taken g c = taken_in c.args.letter c.args.nodes.now c.requires c.to-to.result c.to-to.ensures c.index-nodes-to.result c.receive.new.self
+    (λ awaited. c.receive.ensures.taken (c.receive.ensures.took.1 awaited))
 
 pub returns-in-None-clause-delivered : goal.returns-in-None-clause-delivered
-returns-in-None-clause-delivered g c = delivered c.args.letter c.args.nodes.now c.requires c.to-to.result c.to-to.ensures c.index-nodes-to.result c.handle.new.self
-    (λ awaited. c.handle.ensures.taken (c.handle.ensures.took.1 awaited)) (sym c.stopped.ensures ∙ c.in-None.is)
+returns-in-None-clause-delivered g c = delivered c.args.letter c.args.nodes.now c.requires c.to-to.result c.to-to.ensures c.index-nodes-to.result c.receive.new.self
+    (λ awaited. c.receive.ensures.taken (c.receive.ensures.took.1 awaited)) (sym c.stopped.ensures ∙ c.in-None.is)
 
 pub returns-in-None-clause-same : goal.returns-in-None-clause-same
-returns-in-None-clause-same g c = same_nodes c.args.letter c.args.nodes.now c.requires c.to-to.result c.to-to.ensures c.index-nodes-to.result c.handle.new.self
-    (λ awaited. c.handle.ensures.taken (c.handle.ensures.took.1 awaited))
+returns-in-None-clause-same g c = same_nodes c.args.letter c.args.nodes.now c.requires c.to-to.result c.to-to.ensures c.index-nodes-to.result c.receive.new.self
+    (λ awaited. c.receive.ensures.taken (c.receive.ensures.took.1 awaited))

@@ -8,7 +8,10 @@ pub take_in-requires-clause-word : goal.take_in-requires-clause-word
 take_in-requires-clause-word g c = c.loop-self.invariant.team.word ∙ c.requires.word
 
 pub take_in-requires-clause-team : goal.take_in-requires-clause-team
-take_in-requires-clause-team g c = let (r, asked, work) = c.requires.work in (r, asked, (c.loop-self.invariant.at_work r asked work).team)
+take_in-requires-clause-team g c =
+    let (r, asked, work) = c.requires.work in
+    let now = c.loop-self.invariant.at_work r asked work in
+    (r, asked, now.team, c.take-letter.ensures.plan ∙ now.plan)
 
 pub loop-self-preserved : goal.loop-self-preserved
 loop-self-preserved g c =

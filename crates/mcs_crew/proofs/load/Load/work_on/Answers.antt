@@ -1,8 +1,13 @@
-use Rattle.std.proofs.Common.{◌-◌, arith}
+use Rattle.std.proofs.Common.{◌-◌, ◌∙◌, arith}
 use Rattle.mcs_crew.specs.Calls.{load_of, team_of}
 use Rattle.mcs_crew.specs.Loads.{LoadData}
 use Rattle.mcs_crew.proofs.LoadSteps.{worked_more}
 use Rattle.mcs_crew.proofs.load.Load.work_on.Goals as goal
+
+pub take_in-requires-clause-team : goal.take_in-requires-clause-team
+take_in-requires-clause-team g c =
+    let (r, asked, work) = c.requires.work in
+    (r, asked, work.team, c.in-Some.ensures.taken.1 ∙ work.plan)
 
 pub returns : goal.returns
 returns g c =

@@ -13,7 +13,7 @@ pub serve-requires-clause-word : goal.serve-requires-clause-word
 serve-requires-clause-word g c = c.hand_over.ensures.goes_on.word ∙ c.requires.word
 
 pub serve-requires-clause-team : goal.serve-requires-clause-team
-serve-requires-clause-team g c = let (r, asked, team) = c.requires.team in (r, asked, c.hand_over.ensures.goes_on.team r asked team)
+serve-requires-clause-team g c = let (r, asked, team, of_plan) = c.requires.team in (r, asked, c.hand_over.ensures.goes_on.team r asked team)
 
 pub returns-clause-goes_on : goal.returns-clause-goes_on
 returns-clause-goes_on g c = goes_on_more (team_of c.args.self.now) (team_of c.hand_over.new.self) (team_of c.serve.new.self) c.hand_over.ensures.goes_on c.serve.ensures.goes_on

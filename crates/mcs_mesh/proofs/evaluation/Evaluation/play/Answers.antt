@@ -1,4 +1,4 @@
-use Rattle.std.proofs.Common.{ℕ, ap, subst, sym, Option, Some, Ok, Err}
+use Rattle.std.proofs.Common.{ℕ, ap, subst, refl, sym, ◌∙◌, Option, Some, Ok, Err}
 use Rattle.std.proofs.lemmas.Option.{none-some}
 use Rattle.std.specs.Arc.{arc_value}
 use Rattle.mcs_system.specs.Plain.{System}
@@ -25,6 +25,7 @@ invariant_of-self-in-Ok-total g c =
       λ plays none is. is,
       no_halt_yet (g.P.Player.workers c.self.inside.player) (arc_value c.self.inside.plan) c.self.inside.budget c.self.inside.done c.self.inside.halt c.self.inside.replayed c.self.inside.level (g.P.Over.NodeList.seen c.self.inside.nodes) c.self.inside.asked c.self.invariant.0 c.args.self.now c.self.view_is c.requires.going (Some c.args.level),
       λ none. absurd (none-some c.args.level (sym none)),
+      λ plays none. refl,
     )
 
 pub returns-in-Ok-total-clause-done : goal.returns-in-Ok-total-clause-done
@@ -52,6 +53,7 @@ invariant_of-self-in-Err g c =
       λ plays none. halted_anyhow c.kept_in-in-Err.new.place c.in-Err.halt (arc_value c.self.inside.plan) c.self.inside.done (Some c.args.level) c.kept_in-in-Err.ensures.kept none,
       halt_of_round (arc_value c.self.inside.plan) c.args.level c.self.inside.budget (g.P.Over.NodeList.seen c.self.inside.nodes) (g.P.Over.NodeList.seen c.play-nodes.result.nodes) c.kept_in-in-Err.new.place c.in-Err.halt c.kept_in-in-Err.ensures.kept p,
       λ none. absurd (none-some c.args.level (sym none)),
+      λ plays none. absurd (none-some c.in-Err.halt (sym none ∙ c.kept_in-in-Err.ensures.kept)),
     )
 
 pub returns-in-Err-clause-halt : goal.returns-in-Err-clause-halt

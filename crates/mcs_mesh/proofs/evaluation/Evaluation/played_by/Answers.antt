@@ -14,4 +14,5 @@ invariant_of-result g c = (
   λ plays none is. is,
   tt,
   λ none. refl,
+  λ plays none. refl,
 )

@@ -24,4 +24,5 @@ invariant_of-self g c = (
   λ plays none. other_level (arc_value c.self.inside.plan) c.system.result.now c.args.level c.self.inside.level (c.system.ensures ∙ c.deref.ensures) (c.is_left_out.ensures.last c.if-is_left_out.true plays),
   c.self.invariant.5,
   c.self.invariant.6,
+  λ plays none. absurd (c.is_left_out.ensures.each c.if-is_left_out.true plays),
 )

@@ -3,6 +3,7 @@ use Rattle.mcs_states.specs.declared.halt.Halt.{Halt}
 use Rattle.mcs_states.specs.declared.halt.Halt.TheVariants.{Memory}
 use Rattle.mcs_mesh.specs.Found.{AreRepairsFound}
 use Rattle.std.proofs.Common.{◌≡◌, ◌≤◌, ◌∙◌, ap, sym, subst, unwrap_or, ℕ, Option, length, refl}
+use Rattle.std.proofs.lemmas.Option.{none-some}
 use Rattle.std.specs.Arc.{arc_value}
 use Rattle.mcs_system.specs.Plain.{System}
 use Rattle.mcs_states.specs.Evaluators.{AreRepairs, HasDone, unasked}
@@ -50,6 +51,7 @@ invariant_of-self g c = (
   c.self.invariant.4,
   c.self.invariant.5,
   c.self.invariant.6,
+  c.self.invariant.7,
 )
 
 pub returns-in-Ok-clause-done : goal.returns-in-Ok-clause-done
@@ -65,6 +67,7 @@ invariant_of-self-in-Err g c = (
   λ plays none. halted_anyhow c.kept_in.new.place Memory (arc_value c.self.inside.plan) c.self.inside.done c.self.inside.level c.kept_in.ensures.kept none,
   subst (λ (o : Option Halt). IsHaltOfRound c.self.inside.budget c.self.inside.level o) (sym c.kept_in.ensures.kept) tt,
   c.self.invariant.6,
+  λ plays none. absurd (none-some Memory (sym none ∙ c.kept_in.ensures.kept)),
 )
 
 pub returns-in-Ok-clause-rest : goal.returns-in-Ok-clause-rest

@@ -4,6 +4,7 @@ use Rattle.mcs_states.specs.declared.halt.Halt.TheVariants.{Memory}
 use Rattle.mcs_sets.specs.Sets.{size, Within}
 use Rattle.mcs_system.specs.Repairs.{allowed_marks}
 use Rattle.std.proofs.Common.{◌≡◌, ◌≤◌, ◌∙◌, ℕ, ap, sym, subst, Option, length, refl}
+use Rattle.std.proofs.lemmas.Option.{none-some}
 use Rattle.std.specs.Arc.{arc_value}
 use Rattle.mcs_system.specs.Plain.{System}
 use Rattle.mcs_states.specs.Evaluators.{AreStates, HasDone, HasHalted, unasked}
@@ -51,6 +52,7 @@ invariant_of-self g c = (
   λ plays none. halted_anyhow c.kept_in.new.place Memory (arc_value c.self.inside.plan) c.self.inside.done c.self.inside.level c.kept_in.ensures.kept none,
   subst (λ (o : Option Halt). IsHaltOfRound c.self.inside.budget c.self.inside.level o) (sym c.kept_in.ensures.kept) tt,
   c.self.invariant.6,
+  λ plays none. absurd (none-some Memory (sym none ∙ c.kept_in.ensures.kept)),
 )
 
 pub returns-in-Ok-clause-rest : goal.returns-in-Ok-clause-rest

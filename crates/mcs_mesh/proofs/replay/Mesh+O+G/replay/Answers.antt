@@ -16,6 +16,7 @@ invariant_of-self g c = (
   λ plays. absurd (true≢false (sym plays)),
   no_halt_yet 1 (arc_value c.self.inside.plan) c.self.inside.budget c.self.inside.done c.self.inside.halt c.self.inside.replayed c.self.inside.level c.self.inside.nodes.list.items c.self.inside.asked c.self.invariant.0 c.args.self.now c.self.view_is c.requires.going c.self.inside.level,
   c.self.invariant.6,
+  λ plays. absurd (true≢false (sym plays)),
 )
 
 pub returns-in_err-told-clause-rest : goal.returns-in_err-told-clause-rest
@@ -40,6 +41,7 @@ invariant_of-self-2 g c = (
   λ plays. absurd (true≢false (sym plays)),
   no_halt_yet 1 (arc_value c.self.inside.plan) c.self.inside.budget c.self.inside.done c.self.inside.halt c.self.inside.replayed c.self.inside.level c.self.inside.nodes.list.items c.self.inside.asked c.self.invariant.0 c.args.self.now c.self.view_is c.requires.going (Some c.args.level),
   λ none. absurd (none-some c.args.level (sym none)),
+  λ plays. absurd (true≢false (sym plays)),
 )
 
 pub returns-clause-replayed : goal.returns-clause-replayed
