@@ -1,0 +1,5 @@
+pub mod CostLemmas
+pub mod CheapestLemmas
+pub mod StopLemmas
+pub mod ExistLemmas
+pub mod WorkedCosts
