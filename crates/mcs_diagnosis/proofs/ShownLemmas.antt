@@ -54,11 +54,13 @@ no_pairs : (ds : List code.Diagnosis) → pairs_of ds ≡ [] → ds ≡ []
 no_pairs [] e = refl
 no_pairs (d ∷ ds) e = absurd (cc)
 
-pub diagnoses_are_one : (m : System) (ds es : List code.Diagnosis) → AreDiagnoses m ds → AreDiagnoses m es → ds ≡ es
-diagnoses_are_one m ds es a b =
-    let same : pairs_of ds ≡ pairs_of es = same_listing PairBefore PairBefore-asymmetric _ (pairs_of ds) (pairs_of es) a.listed b.listed in
-    let (rest, is, none) = shown_front m ds es [] (append-nil (pairs_of ds) ∙ same) a.shown b.shown in
+pub shown_are_one : (m : System) (ds es : List code.Diagnosis) → pairs_of ds ≡ pairs_of es → AllByRecursion (ShowsFirstState m) ds → AllByRecursion (ShowsFirstState m) es → ds ≡ es
+shown_are_one m ds es same a b =
+    let (rest, is, none) = shown_front m ds es [] (append-nil (pairs_of ds) ∙ same) a b in
     sym (append-nil ds) ∙ ap (λ r. ds ++ r) (sym (no_pairs rest none)) ∙ is
+
+pub diagnoses_are_one : (m : System) (ds es : List code.Diagnosis) → AreDiagnoses m ds → AreDiagnoses m es → ds ≡ es
+diagnoses_are_one m ds es a b = shown_are_one m ds es (same_listing PairBefore PairBefore-asymmetric _ (pairs_of ds) (pairs_of es) a.listed b.listed) a.shown b.shown
 
 -- those with fewer marks come first
 pub below_is_front : (m : System) (level : ℕ) (ds all : List code.Diagnosis) → AreFoundBelow m level ds → AreDiagnoses m all → (rest : List code.Diagnosis) × (ds ++ rest ≡ all)

@@ -16,6 +16,10 @@ use Rattle.mcs_diagnosis.specs.declared.diagnosis.Diagnosis as code
 abbrev pub IsDiagnosisOfSize : System → ℕ → ℕ → Type 0
 IsDiagnosisOfSize m level p = IsMinimal (IsDiagnosis m) p × (size p ≡ level)
 
+-- exactly the pairs of the minimal diagnoses of so many marks, in the order of pairs
+abbrev pub ArePairsOfSize : System → ℕ → List ℕ → Type 0
+ArePairsOfSize m level pairs = IsListing (IsDiagnosisOfSize m level) PairBefore pairs
+
 -- the rules that apply, without the removed and with the forced
 abbrev pub active_in : System → ℕ → ℕ → ℕ
 active_in m pair σ = union (minus (applicable m σ) (removed_of pair)) (forced_of pair)
@@ -24,6 +28,11 @@ active_in m pair σ = union (minus (applicable m σ) (removed_of pair)) (forced_
 pub record ShowsFirstState (m : System) (d : code.Diagnosis) : Type 0 where
   pub state : IsFirstState m d.pair d.state
   pub active : d.active ≡ active_in m d.pair d.state
+
+-- the diagnosis of this pair, as it is shown
+pub record IsShownOf (m : System) (pair : ℕ) (d : code.Diagnosis) : Type 0 where
+  pub same : d.pair ≡ pair
+  pub shown : ShowsFirstState m d
 
 abbrev pub pairs_of : List code.Diagnosis → List ℕ
 pairs_of ds = map (λ (d : code.Diagnosis). d.pair) ds

@@ -1,13 +1,16 @@
 //! The diagnoses of one level.
 
-ghost use Rattle.std.specs.Prelude.{◌≡◌, IfOk};
+ghost use Rattle.std.specs.Prelude.{◌≡◌, false, IfOk};
+ghost use Rattle.mcs_base.specs.Listings.{IsAmong, IsAscending, IsListing};
 ghost use Rattle.mcs_states.specs.Calls.{CanEvaluate, Evaluates, AsksEvaluator};
+ghost use Rattle.mcs_sets.specs.Orders.{PairBefore};
 ghost use Rattle.mcs_sets.specs.Sets.{size};
 ghost use Rattle.mcs_system.specs.Repairs.{IsDiagnosis};
-ghost use Rattle.mcs_diagnosis.specs.Diagnoses.{AreShownDiagnoses, ShowsFirstState, active_in};
+ghost use Rattle.mcs_diagnosis.specs.Diagnoses.{ArePairsOfSize, AreShownDiagnoses};
+ghost use Rattle.mcs_diagnosis.specs.Diagnoses.{ShowsFirstState, active_in};
 
 use crate::diagnosis::Diagnosis;
-use mcs_base::{Active, Pair, Vars};
+use mcs_base::{Active, Marks, Memory, Pair, Vars};
 use mcs_equilibria::least_state;
 use mcs_states::{Evaluator, Halt};
 use mcs_system::System;
@@ -24,9 +27,9 @@ fn active(system: &System, pair: Pair, state: Vars) -> Active
         .union(pair.forced())
 }
 
-// The diagnosis with its first state and its active rules, found by a call of the level of its
-// marks.
-fn show<E: Evaluator>(
+/// The diagnosis with its first state and its active rules, found by a call of the level of its
+/// marks.
+pub fn show<E: Evaluator>(
     alloc: Global,
     evaluator: &mut E,
     system: &System,
@@ -46,6 +49,37 @@ fn show<E: Evaluator>(
     })
 }
 
+// Those of the sets of marks that have exactly so many.
+fn of_size(alloc: Global, pairs: &[Marks], level: u32) -> Result<Vec<Marks>, Memory>
+    requires { IsAscending PairBefore pairs.now }
+    ensures { IfOk result (λ exact. IsListing (λ p. IsAmong p pairs.now × (size p ≡ level))
+        PairBefore exact.items) }
+{
+    let mut exact = Vec::new(alloc);
+    for marks in pairs {
+        if marks.count() == level {
+            exact.push(*marks)?;
+        }
+    }
+    Ok(exact)
+}
+
+/// The pairs of the minimal diagnoses with exactly `level` marks, in the order of pairs.
+pub fn pairs_at<E: Evaluator>(
+    alloc: Global,
+    evaluator: &mut E,
+    level: u32,
+) -> Result<Vec<Marks>, Halt>
+    requires { (E.stands evaluator.old).halted ≡ false }
+    ensures found { IfOk result (λ pairs. ArePairsOfSize
+        (E.stands evaluator.old).system level pairs.items) }
+    ensures call { AsksEvaluator level (E.stands evaluator.old) (E.stands evaluator.new) result }
+{
+    let pairs = evaluator.repairs(alloc, level)?;
+    let exact = of_size(alloc, &pairs, level)?;
+    Ok(exact)
+}
+
 /// The minimal diagnoses with exactly `level` marks, in the order of pairs, each with its first
 /// state and its active rules.
 pub fn diagnoses_of<E: Evaluator>(
@@ -58,13 +92,11 @@ pub fn diagnoses_of<E: Evaluator>(
     ensures found { IfOk result (λ found. AreShownDiagnoses system.now level found.items) }
     ensures call { AsksEvaluator level (E.stands evaluator.old) (E.stands evaluator.new) result }
 {
-    let pairs = evaluator.repairs(alloc, level)?;
+    let pairs = pairs_at(alloc, evaluator, level)?;
     let mut found = Vec::new(alloc);
     for marks in &pairs {
-        if marks.count() == level {
-            let shown = show(alloc, evaluator, system, Pair::new(*marks))?;
-            found.push(shown)?;
-        }
+        let shown = show(alloc, evaluator, system, Pair::new(*marks))?;
+        found.push(shown)?;
     }
     Ok(found)
 }

@@ -2,13 +2,16 @@
 
 ghost use Rattle.std.specs.Prelude.{◌≡◌, ◌↔◌, false, IsTrue, IfOk, IfErr};
 ghost use Rattle.std.specs.Arc.{arc_value};
-ghost use Rattle.mcs_states.specs.Calls.{CanEvaluate};
+ghost use Rattle.mcs_sets.specs.Sets.{size};
+ghost use Rattle.mcs_states.specs.Calls.{CanEvaluate, Evaluates};
 ghost use Rattle.mcs_states.specs.Evaluators.{KeepsRest};
-ghost use Rattle.mcs_diagnosis.specs.Courses.{IsPast};
-ghost use Rattle.mcs_diagnosis.specs.Taken.{HasTaken, HasHaltedAt};
+ghost use Rattle.mcs_diagnosis.specs.Courses.{CanShow, IsPast};
+ghost use Rattle.mcs_diagnosis.specs.Diagnoses.{IsShownOf};
+ghost use Rattle.mcs_diagnosis.specs.Taken.{HasTaken, HasTakenPairs, HasHaltedAt};
 
-use crate::diagnosis::Level;
-use crate::found::diagnoses_of;
+use crate::diagnosis::{Diagnosis, Level};
+use crate::found::{diagnoses_of, pairs_at, show};
+use mcs_base::{Marks, Pair};
 use mcs_states::{Evaluator, Halt};
 use mcs_system::System;
 use std::alloc::Global;
@@ -76,6 +79,44 @@ impl<E: Evaluator> Levels<E> {
         self.consistent = self.level == 0 && !found.is_empty();
         self.level += 1;
         Ok(Level::Found(found))
+    }
+
+    /// The pairs of the minimal diagnoses of the next level, in the order of pairs, without a state
+    /// of each. `None` is returned exactly where `next` returns `Over`, and a halt for the same
+    /// causes.
+    pub fn next_pairs(&mut self, alloc: Global) -> Result<Option<Vec<Marks>>, Halt>
+        requires { (E.stands self.old.evaluator).halted ≡ false }
+        ensures taken { IfOk result (HasTakenPairs E.stands self.old self.new) }
+        ensures halted { IfErr result (HasHaltedAt E.stands self.old self.new) }
+        ensures rest { KeepsRest (E.stands self.old.evaluator) (E.stands self.new.evaluator) }
+    {
+        if self.is_past() {
+            return Ok(None);
+        }
+        let pairs = pairs_at(alloc, &mut self.evaluator, self.level)?;
+        self.consistent = self.level == 0 && !pairs.is_empty();
+        self.level += 1;
+        Ok(Some(pairs))
+    }
+
+    /// The diagnosis with this pair, with its first state and the rules that are active in it. The
+    /// pair has to be a diagnosis of the system. The level of the call is the number of its marks;
+    /// the next level stays the same.
+    pub fn show(&mut self, alloc: Global, pair: Pair) -> Result<Diagnosis, Halt>
+        requires { CanShow (E.stands self.old.evaluator) pair }
+        ensures shown { IfOk result (IsShownOf (E.stands self.old.evaluator).system pair) }
+        ensures call { Evaluates (size pair) (E.stands self.old.evaluator)
+            (E.stands self.new.evaluator) result }
+        ensures stays { self.new.level ≡ self.old.level }
+    {
+        show(alloc, &mut self.evaluator, &self.system, pair)
+    }
+
+    /// The number of the next level.
+    pub fn level(&self) -> u32
+        ensures { result ≡ self.now.level }
+    {
+        self.level
     }
 
     /// The evaluator.
