@@ -1,0 +1,120 @@
+-- The cheapest pairs are shown, and all is told.
+use Rattle.std.proofs.Common.{◌≡◌, ℕ, zero, suc, ◌+◌, ◌-◌, ◌<◌, ◌≤◌, max, false, List, [], ◌∷◌, ◌++◌, map, take, length, get_or, Option, Some, sym, ap, ◌∙◌, subst, append_assoc, arith}
+use Rattle.std.proofs.lemmas.List.{map-append, take_more}
+use Rattle.std.specs.List.{AllByRecursion}
+use Rattle.mcs_sets.specs.Orders.{PairBefore}
+use Rattle.mcs_sets.specs.Sets.{size}
+use Rattle.mcs_base.specs.Listings.{IsAmong, IsListing}
+use Rattle.mcs_base.proofs.Among.{among_at}
+use Rattle.mcs_base.proofs.Each.{all_among}
+use Rattle.mcs_base.proofs.ListingLemmas.{IsListing-same}
+use Rattle.mcs_system.specs.Levels.{IsCount}
+use Rattle.mcs_system.specs.Plain.{System}
+use Rattle.mcs_system.specs.Repairs.{IsDiagnosis}
+use Rattle.mcs_states.specs.Evaluators.{EvaluatorState, KeepsRest, HasHalted, IsEvaluatorSettled, asked_of, raised}
+use Rattle.mcs_states.specs.declared.halt.Halt.{Halt}
+use Rattle.mcs_states.proofs.Causes.{cause_before, told}
+use Rattle.mcs_diagnosis.specs.declared.diagnosis.Diagnosis as shown
+use Rattle.mcs_diagnosis.specs.Courses.{CanShow}
+use Rattle.mcs_diagnosis.specs.Diagnoses.{ShowsFirstState, pairs_of}
+use Rattle.mcs_costs.specs.Costs.{cost, IsCheapest, IsStopLevel}
+use Rattle.mcs_costs.proofs.StopLemmas.{stop_is_one}
+use Rattle.mcs_cheapest.specs.declared.cheapest.Cheapest as code
+use Rattle.mcs_cheapest.specs.Found.{HasSearched, HasBrokenOff, IsLeastCost}
+use Rattle.mcs_cheapest.specs.Searching.{CostsLeast, IsDoneBefore, HasTakenEnough}
+use Rattle.mcs_cheapest.proofs.CountLemmas.{settled_count}
+use Rattle.mcs_cheapest.proofs.EndLemmas.{cheapest_told, least_cost_told, some_taken, stops_last}
+
+-- what holds of each pair holds of one that is read
+pub at_read : (P : ℕ → Type 0) (xs : List ℕ) (i x p : ℕ) → i < length xs → x ≡ get_or xs i x → p ≡ x → AllByRecursion P xs → P p
+at_read P xs i x p less is same all = subst P (sym (same ∙ is)) (all_among P xs (get_or xs i x) all (among_at xs i x less))
+
+pub read_among : (xs ys : List ℕ) (i x p : ℕ) → ys ≡ xs → i < length ys → x ≡ get_or ys i x → p ≡ x → IsAmong p xs
+read_among xs ys i x p same less is made = subst (IsAmong p) same (subst (λ (y : ℕ). IsAmong y ys) (sym (made ∙ is)) (among_at ys i x less))
+
+-- the costs of a pair more
+pub costs_more : (f : ℕ → ℕ) (before xs : List ℕ) (i x n : ℕ) → i < length xs → x ≡ get_or xs i x → n ≡ f x → map f (before ++ take (i + 1) xs) ≡ map f (before ++ take i xs) ++ n ∷ []
+costs_more f before xs i x n less is same =
+    ap (λ ys. map f (before ++ ys)) (take_more xs i x less ∙ ap (λ (y : ℕ). take i xs ++ y ∷ []) (sym is))
+    ∙ ap (map f) (sym (append_assoc before (take i xs) (x ∷ [])))
+    ∙ map-append f (before ++ take i xs) (x ∷ [])
+    ∙ ap (λ (y : ℕ). map f (before ++ take i xs) ++ y ∷ []) (sym same)
+
+-- ---- one more is shown
+pub shown_more : (ds : List shown.Diagnosis) (xs : List ℕ) (i x : ℕ) (d : shown.Diagnosis) → i < length xs → x ≡ get_or xs i x → d.pair ≡ x → pairs_of ds ≡ take i xs → pairs_of (ds ++ d ∷ []) ≡ take (i + 1) xs
+shown_more ds xs i x d less is same so_far =
+    map-append (λ (d : shown.Diagnosis). d.pair) ds (d ∷ []) ∙ ap (λ ps. ps ++ d.pair ∷ []) so_far ∙ ap (λ p. take i xs ++ p ∷ []) (same ∙ is) ∙ sym (take_more xs i x less)
+
+-- a level that is no greater than the one done leaves this as it is
+pub done_still : (a b : EvaluatorState) (done level : ℕ) → a.done ≡ Some done → level ≤ done → b.done ≡ raised a.done level → b.done ≡ Some done
+done_still a b done level is few up = up ∙ ap (λ (d : Option ℕ). raised d level) is ∙ ap (λ (n : ℕ). Some n) (let most : max done level ≡ done = omega (arith, few) in most)
+
+-- ---- enough levels were taken, and these are the cheapest of their pairs
+module _ (first e : EvaluatorState) (n : System) (same : first.system ≡ n) (level : ℕ) (pairs : List ℕ) (least : Option ℕ) (t : HasTakenEnough first e level pairs least) where
+  -- the last level that was taken
+  abbrev pub last : ℕ
+  last = level - 1
+
+  level_is : level ≡ last + 1
+  level_is = omega (arith, some_taken first.system t.valid level pairs t.searching.listed least t.searching.least_is t.enough)
+
+  last_taken : last < level
+  last_taken = omega (arith, level_is)
+
+  stop_reached : IsStopLevel first.system last
+  stop_reached = stops_last first.system t.valid level pairs t.searching.listed least t.searching.least_is t.enough last level_is (t.searching.taken last last_taken).up_to_stop
+
+  done_last : (e.done ≡ Some last) × IsEvaluatorSettled e
+  done_last = at level t.searching.done level_is
+    where
+      at : (k : ℕ) → IsDoneBefore e k → k ≡ last + 1 → (e.done ≡ Some last) × IsEvaluatorSettled e
+      at zero fresh is = absurd (omega (arith, is))
+      at (suc k) done is = (done.0 ∙ ap (λ (j : ℕ). Some j) (let equal : k ≡ last = omega (arith, is) in equal), done.1)
+
+  pub is_done : e.done ≡ Some last
+  is_done = done_last.0
+
+  pub is_settled : IsEvaluatorSettled e
+  is_settled = done_last.1
+
+  module _ (cheapest : List ℕ) (listed : IsListing (λ p. IsAmong p pairs × CostsLeast least (cost n p)) PairBefore cheapest) where
+    pub cheapest_listed : IsListing (IsCheapest first.system) PairBefore cheapest
+    cheapest_listed = IsListing-same PairBefore _ (IsCheapest first.system) cheapest (cheapest_told first.system t.valid level pairs t.searching.listed least t.searching.least_is t.enough)
+        (subst (λ (m : System). IsListing (λ p. IsAmong p pairs × CostsLeast least (cost m p)) PairBefore cheapest) (sym same) listed)
+
+    module _ (p : ℕ) (among : IsAmong p cheapest) where
+      is_diagnosis : IsDiagnosis first.system p
+      is_diagnosis = ((cheapest_listed.exactly p).0 among).one
+
+      pub has_few : size p ≤ last
+      has_few = let below = ((t.searching.listed.exactly p).0 ((listed.exactly p).0 among).0).1 in omega (arith, below, level_is)
+
+      -- it can be shown
+      pub can_show : (e' : EvaluatorState) → KeepsRest first e' → IsEvaluatorSettled e' → CanShow e' p
+      can_show e' kept settled = record { going = settled.going; diagnosis = subst (λ (m : System). IsDiagnosis m p) (sym kept.system) is_diagnosis }
+
+      -- the call for it halted
+      pub showing_broke_off : (a e' : EvaluatorState) (halt : Halt) → KeepsRest first a → HasHalted a e' (size p) halt → HasBrokenOff first e' halt
+      showing_broke_off a e' halt kept h = record {
+        level = size p;
+        up_to_stop = λ stop is. omega (arith, has_few, stop_is_one first.system stop last is stop_reached);
+        cause = cause_before first a kept (size p) halt h.cause;
+        told = told a e' (size p) halt h;
+        within = λ k less. (t.searching.taken k (omega (arith, less, has_few, last_taken))).within;
+        answered = λ k i x less. (t.searching.taken k (omega (arith, less, has_few, last_taken))).answered i x;
+      }
+
+    -- all were shown
+    pub search_told : (e' : EvaluatorState) (c : code.Cheapest) → KeepsRest first e' → IsEvaluatorSettled e' → e'.done ≡ Some last → pairs_of c.found.items ≡ cheapest → AllByRecursion (ShowsFirstState first.system) c.found.items
+        → c.cost ≡ least → (e'.halted ≡ false → c.need ≡ asked_of e') → HasSearched first e' c
+    search_told e' c kept settled done paired shown cost_is need_is = record {
+      found = record { listed = subst (IsListing (IsCheapest first.system) PairBefore) (sym paired) cheapest_listed; shown = shown };
+      cost = subst (λ (o : Option ℕ). IsLeastCost first.system o) (sym cost_is) (least_cost_told first.system t.valid level pairs t.searching.listed least t.searching.least_is t.enough);
+      stop = last;
+      is_stop = stop_reached;
+      need = subst (λ (m : System). IsCount m last c.need) kept.system (subst (λ (k : ℕ). IsCount e'.system last k) (sym (need_is settled.going)) (settled_count e' last settled done));
+      level_done = done;
+      settled = settled;
+      within = λ k few. (t.searching.taken k (omega (arith, few, last_taken))).within;
+      answered = λ k i x few. (t.searching.taken k (omega (arith, few, last_taken))).answered i x;
+    }

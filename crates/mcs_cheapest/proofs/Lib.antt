@@ -1,0 +1,5 @@
+pub mod CountLemmas
+pub mod EndLemmas
+pub mod SearchLemmas
+pub mod FoundLemmas
+pub mod ListedLaws
