@@ -1,5 +1,6 @@
 -- What contexts derive, by the kind of their knowledge base; and what was found of classical ones.
-use Rattle.std.proofs.Common.{◌≡◌, ℕ, ◌<◌, false, List, [], ◌∷◌, ◌++◌, length, Some, slice_get, slice_set, refl, sym, ap, ◌∙◌, subst, inl, inr, arith, true≢false}
+use Rattle.std.proofs.Common.{◌≡◌, ℕ, ◌<◌, false, List, [], Some, None, slice_get, slice_set, refl, sym, ap, ◌∙◌, subst, inl, inr, true≢false}
+use Rattle.std.specs.Prelude.{Option, IfSome}
 use Rattle.std.proofs.lemmas.Bool.{cases_eq}
 use Rattle.std.proofs.lemmas.Cmp.{ranked}
 use Rattle.std.proofs.lemmas.Option.{same_Some, get_or_from_slice_get}
@@ -9,26 +10,26 @@ use Rattle.std.specs.Ordering.{MatchOrdering, is_eq, nat_cmp}
 use Rattle.std.specs.declared.cmp.Ordering.{Ordering}
 use Rattle.std.specs.declared.cmp.Ordering.TheVariants.{Less, Equal, Greater}
 use Rattle.mcs_sets.specs.Sets.{common}
-use Rattle.mcs_sets.specs.Orders.{StateBefore}
-use Rattle.mcs_base.specs.Listings.{IsListing}
 use Rattle.mcs_base.proofs.Lists.{slice_get-map_some}
 use Rattle.mcs_base.proofs.Written.{slice_get-slice_set, length-slice_set}
 use Rattle.mcs_system.specs.Plain.{Formula, Item, ProgramRule, Kb, Classical, DefaultTheory, Program, Context, System}
 use Rattle.mcs_system.specs.Atoms.{atoms_of}
 use Rattle.mcs_system.specs.Imports.{rules_into}
 use Rattle.mcs_system.specs.Logic.{Accepts, with_heads, true_names}
-use Rattle.mcs_system.specs.Systems.{heads_into, IsAcceptedPart}
-use Rattle.mcs_laws.proofs.Classical.{classical_part, following, has-following}
+use Rattle.mcs_system.specs.Systems.{IsAcceptedPart}
+use Rattle.mcs_laws.proofs.Classical.{classical_part}
 use Rattle.mcs_laws.proofs.Questions.{heads-own}
 use Rattle.mcs_reduct.specs.Plain.{is_plain, IsPlain}
 use Rattle.mcs_grounded.specs.Derivations.{Derives, atoms_at}
-use Rattle.mcs_grounded.specs.Parts.{IsProgramAt, IsClassicalContext, IsConeOf, IsConeFor, AreConesOf, cones_of, AreFoundOf, AreAllFound}
+use Rattle.mcs_grounded.specs.Parts.{IsProgramAt, IsClassicalAt, IsConeOf, IsConeFor, AreConesOf, cones_of, IsSolverOf, AreToldOf, IsFoundOf, AreAllFound}
 use Rattle.mcs_grounded.specs.declared.cone.Cone.{Cone}
+use Rattle.mcs_grounded.specs.declared.found.Found.{Found}
+use Rattle.mcs_grounded.specs.declared.found.Solver.{Solver}
 
 -- ---- by kind
-pub classical_derives : (m : System) (i x τ cone names : ℕ) → IsClassicalContext m i → IsAcceptedPart m i x τ → (d : Context) → slice_get m.contexts i ≡ Some d
+pub classical_derives : (m : System) (i x τ cone names : ℕ) (fs : List Formula) → IsClassicalAt m i fs → IsAcceptedPart m i x τ → (d : Context) → slice_get m.contexts i ≡ Some d
     → Derives m i (true_names 0 (atoms_of m i) cone) (true_names 0 (atoms_of m i) names) d.kb x τ
-classical_derives m i x τ cone names (fs, c, is, kb) part d there =
+classical_derives m i x τ cone names fs (c, is, kb) part d there =
     let same : c ≡ d = same_Some c d (sym is ∙ there) in
     subst (λ (k : Kb). Derives m i (true_names 0 (atoms_of m i) cone) (true_names 0 (atoms_of m i) names) k x τ) (sym kb ∙ ap (λ (e : Context). e.kb) same) ((classical_part m i x τ c fs is kb).0 part)
 
@@ -61,11 +62,6 @@ no_cone m i fs cone c is kb none = record {
 pub no_default : (m : System) (i : ℕ) (c : Context) (items : List Item) → IsPlain m → slice_get m.contexts i ≡ Some c → c.kb ≡ DefaultTheory items → ⊥
 no_default m i c items plain is kb = true≢false (sym (plain i c is) ∙ ap is_plain kb)
 
--- ---- a classical context has one part
-pub some_part : (m : System) (i x : ℕ) (parts : List ℕ) → IsClassicalContext m i → IsListing (IsAcceptedPart m i x) StateBefore parts → 0 < length parts
-some_part m i x [] (fs, c, is, kb) listed = absurd ((listed.exactly (following m i (fs ++ heads_into m i x))).1 ((classical_part m i x (following m i (fs ++ heads_into m i x)) c fs is kb).1 (has-following m i (fs ++ heads_into m i x))))
-some_part m i x (τ ∷ parts) context listed = omega arith
-
 -- what is accepted depends on the rules into the context
 pub part_with : (m : System) (i x τ : ℕ) → IsAcceptedPart m i (common x (rules_into m i)) τ → IsAcceptedPart m i x τ
 part_with m i x τ h = let (c, is, accepts) = h.accepted in record {
@@ -83,21 +79,24 @@ apart_at x y differ = at (nat_cmp x y) (ranked x y _ refl)
     at Equal h = absurd (differ h)
     at Greater h = refl
 
-pub none_found_of : (m : System) (i : ℕ) (found : BTreeMap ℕ ℕ) → IsEmpty found → AreFoundOf m i found
-none_found_of m i found empty x τ is = let e : lookup (is_at (nat_cmp x)) [] ≡ Some τ = subst (λ (es : List (ℕ × ℕ)). lookup (is_at (nat_cmp x)) es ≡ Some τ) empty is in cc
+pub none_found_of : (m : System) (i : ℕ) (found : Found) → IsEmpty found.told → found.solver ≡ None → IsFoundOf m i found
+none_found_of m i found empty none = record {
+  told = λ x τ is. (let e : lookup (is_at (nat_cmp x)) [] ≡ Some τ = subst (λ (es : List (ℕ × ℕ)). lookup (is_at (nat_cmp x)) es ≡ Some τ) empty is in cc);
+  solver = subst (λ (o : Option Solver). IfSome o (IsSolverOf m i)) (sym none) tt;
+}
 
-pub found_more : (m : System) (i x τ : ℕ) (old new : BTreeMap ℕ ℕ) → get nat_cmp new x ≡ Some τ → ((y : ℕ) → is_at (nat_cmp x) y ≡ false → get nat_cmp new y ≡ get nat_cmp old y) → IsAcceptedPart m i x τ → AreFoundOf m i old → AreFoundOf m i new
-found_more m i x τ old new now others part are y υ is = elim (cases_eq x y) [
+pub told_more : (m : System) (i x τ : ℕ) (old new : BTreeMap ℕ ℕ) → get nat_cmp new x ≡ Some τ → ((y : ℕ) → is_at (nat_cmp x) y ≡ false → get nat_cmp new y ≡ get nat_cmp old y) → IsAcceptedPart m i x τ → AreToldOf m i old → AreToldOf m i new
+told_more m i x τ old new now others part are y υ is = elim (cases_eq x y) [
   | inl same ↦ subst (λ (z : ℕ). IsAcceptedPart m i z υ) same (subst (IsAcceptedPart m i x) (same_Some τ υ (sym now ∙ ap (get nat_cmp new) same ∙ is)) part)
   | inr differ ↦ are y υ (sym (others y (apart_at x y differ)) ∙ is)
 ]
 
 -- of one context more was found
-pub all_found_set : (m : System) (all : List (BTreeMap ℕ ℕ)) (i : ℕ) (found : BTreeMap ℕ ℕ) → AreAllFound m all → AreFoundOf m i found → AreAllFound m (slice_set all i found)
+pub all_found_set : (m : System) (all : List Found) (i : ℕ) (found : Found) → AreAllFound m all → IsFoundOf m i found → AreAllFound m (slice_set all i found)
 all_found_set m all i found are of_i = record {
   one_each = length-slice_set all i found ∙ are.one_each;
   own = λ j f is. elim (slice_get-slice_set all i j found f is) [
-    | inl (same, now) ↦ subst (AreFoundOf m j) (sym now) (subst (λ (k : ℕ). AreFoundOf m k found) (sym same) of_i)
+    | inl (same, now) ↦ subst (IsFoundOf m j) (sym now) (subst (λ (k : ℕ). IsFoundOf m k found) (sym same) of_i)
     | inr (other, before) ↦ are.own j f before
   ];
 }

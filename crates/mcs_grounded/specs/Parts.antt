@@ -1,5 +1,5 @@
 -- What is kept of each context, so that its derivations take no reading of formulas and names.
-use Rattle.std.specs.Prelude.{◌≡◌, ℕ, ◌≤◌, false, IsTrue, ◌↔◌, List, [], ◌∷◌, map, length, Some, slice_get, ◌⊎◌}
+use Rattle.std.specs.Prelude.{◌≡◌, ℕ, ◌<◌, ◌≤◌, false, IsTrue, ◌↔◌, List, [], ◌∷◌, map, length, Some, None, slice_get, ◌⊎◌, Result, IfOk, IfSome}
 use Rattle.std.specs.List.{AllByRecursion, AllZip}
 use Rattle.std.specs.BTreeMap.{BTreeMap, get}
 use Rattle.std.specs.Ordering.{nat_cmp}
@@ -9,7 +9,12 @@ use Rattle.mcs_system.specs.Plain.{Name, Formula, Atom, ProgramRule, Classical, 
 use Rattle.mcs_system.specs.Atoms.{atoms_of}
 use Rattle.mcs_system.specs.Faults.{IsValid, has_twins}
 use Rattle.mcs_system.specs.Logic.{true_names}
-use Rattle.mcs_system.specs.Systems.{IsVariable, IsAcceptedPart}
+use Rattle.mcs_system.specs.Systems.{variables_of, heads_into, IsVariable, IsAcceptedPart}
+use Rattle.mcs_system.specs.Views.{beliefs_at}
+use Rattle.mcs_meant.specs.Meanings.{AreMeantBy}
+use Rattle.mcs_classical.specs.Assumptions.{assumed}
+use Rattle.mcs_classical.specs.Consequences.{AreConsequences}
+use Rattle.mcs_classical.specs.declared.assumptions.Assumption.{Assumption}
 use Rattle.mcs_evidence.specs.Programs.{IsInRange}
 use Rattle.mcs_program.specs.Placing.{IsPlaceOf, ArePlaces}
 use Rattle.mcs_reduct.specs.Plain.{IsPlain}
@@ -18,6 +23,8 @@ use Rattle.mcs_grounded.specs.declared.placed.NormalRule.{NormalRule}
 use Rattle.mcs_grounded.specs.declared.placed.Placed.{Placed}
 use Rattle.mcs_grounded.specs.declared.cone.Cone.{Cone}
 use Rattle.mcs_grounded.specs.declared.derivation.Derivation.{Derivation}
+use Rattle.mcs_grounded.specs.declared.found.Found.{Found}
+use Rattle.mcs_grounded.specs.declared.found.Solver.{Solver}
 
 -- ---- rules by the places of their atoms
 -- at most 64 names, each of which is there once
@@ -77,8 +84,9 @@ IsProgramAt m i rules = (c : Context) × (slice_get m.contexts i ≡ Some c) × 
 abbrev pub IsProgramContext : System → ℕ → Type 0
 IsProgramContext m i = (rules : List ProgramRule) × IsProgramAt m i rules
 
-abbrev pub IsClassicalContext : System → ℕ → Type 0
-IsClassicalContext m i = (fs : List Formula) × (c : Context) × (slice_get m.contexts i ≡ Some c) × (c.kb ≡ Classical fs)
+-- context i is classical, with these formulas
+abbrev pub IsClassicalAt : System → ℕ → List Formula → Type 0
+IsClassicalAt m i formulas = (c : Context) × (slice_get m.contexts i ≡ Some c) × (c.kb ≡ Classical formulas)
 
 -- the numbers that stand with one of the places
 abbrev pub AreNumbersAt : List Placed → ℕ → ℕ → Type 0
@@ -144,15 +152,49 @@ pub record AreConesOf (m : System) (all : List Cone) : Type 0 where
 abbrev pub cones_of : List Cone → List ℕ
 cones_of all = map (λ (c : Cone). c.places) all
 
+-- ---- classical contexts
+-- the heads of the rules into context i of the system, which is a valid one, each with the number of its rule
+pub record AreHeads (m : System) (i : ℕ) (all : List Assumption) : Type 0 where
+  pub valid : IsValid m
+  pub of_rules : (rules : ℕ) → assumed rules all ≡ heads_into m i rules
+  pub numbers : AllByRecursion (λ (a : Assumption). a.number < 64) all
+
+-- the clauses mean the formulas of context i, and what was found to follow is right of these and of the heads of rules into it
+pub record IsSolverOf (m : System) (i : ℕ) (s : Solver) : Type 0 where
+  pub meant : (formulas : List Formula) → IsClassicalAt m i formulas → AreMeantBy (atoms_of m i) formulas s.clauses
+  pub right : (formulas : List Formula) → IsClassicalAt m i formulas → (heads : List Assumption) → AreHeads m i heads → AreConsequences formulas heads (beliefs_at m (variables_of m i)) s.found
+
+-- the context is classical, and the solver is its own
+pub record CanSolve (m : System) (i : ℕ) (s : Solver) : Type 0 where
+  pub formulas : List Formula
+  pub classical : IsClassicalAt m i formulas
+  pub own : IsSolverOf m i s
+
 -- ---- what was found
 -- what is kept for a set of rules is what context i tells with their heads
-abbrev pub AreFoundOf : System → ℕ → BTreeMap ℕ ℕ → Type 0
-AreFoundOf m i found = (x τ : ℕ) → get nat_cmp found x ≡ Some τ → IsAcceptedPart m i x τ
+abbrev pub AreToldOf : System → ℕ → BTreeMap ℕ ℕ → Type 0
+AreToldOf m i told = (x τ : ℕ) → get nat_cmp told x ≡ Some τ → IsAcceptedPart m i x τ
+
+-- so it is of all that was found of context i, and the solver, if there is one, is its own
+pub record IsFoundOf (m : System) (i : ℕ) (found : Found) : Type 0 where
+  pub told : AreToldOf m i found.told
+  pub solver : IfSome found.solver (IsSolverOf m i)
+
+-- context i is classical, with these formulas, and this was found of it
+pub record CanTell (m : System) (i : ℕ) (formulas : List Formula) (found : Found) : Type 0 where
+  pub classical : IsClassicalAt m i formulas
+  pub known : IsFoundOf m i found
+
+-- the solver is taken out of what was found of the context, or made
+pub record Takes {E : Type 0} (m : System) (i : ℕ) (before after : Found) (result : Result Solver E) : Type 0 where
+  pub told : after.told ≡ before.told
+  pub none : after.solver ≡ None
+  pub own : IfOk result (IsSolverOf m i)
 
 -- so it is for each context
-pub record AreAllFound (m : System) (all : List (BTreeMap ℕ ℕ)) : Type 0 where
+pub record AreAllFound (m : System) (all : List Found) : Type 0 where
   pub one_each : length all ≡ length m.contexts
-  pub own : (i : ℕ) (found : BTreeMap ℕ ℕ) → slice_get all i ≡ Some found → AreFoundOf m i found
+  pub own : (i : ℕ) (found : Found) → slice_get all i ≡ Some found → IsFoundOf m i found
 
 -- ---- derivations
 -- the system is plain, and the cones are its own
@@ -161,7 +203,7 @@ pub record IsSetUp (d : Derivation) : Type 0 where
   pub cones : AreConesOf d.system.now d.cones.now
 
 -- so was what was found
-pub record IsDerivation (d : Derivation) (known : List (BTreeMap ℕ ℕ)) : Type 0 where
+pub record IsDerivation (d : Derivation) (known : List Found) : Type 0 where
   pub set_up : IsSetUp d
   pub found : AreAllFound d.system.now known
 

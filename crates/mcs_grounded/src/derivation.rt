@@ -5,7 +5,7 @@ ghost use Rattle.mcs_grounded.specs.Derivations.{AreTold, IsDerived, IsTold};
 ghost use Rattle.mcs_grounded.specs.Parts.{AreAllFound, IsDerivation, IsDerivedAt, cones_of};
 
 use crate::cone::Cone;
-use crate::found::{Found, told_by};
+use crate::found::Found;
 use mcs_base::{Active, Memory, Vars};
 use mcs_system::{Kb, System};
 use std::alloc::Global;
@@ -37,7 +37,7 @@ fn derived(
     let system = derivation.system;
     let place = context as usize;
     match &system.contexts()[place].kb {
-        Kb::Classical(_) => told_by(alloc, system, &mut found[place], context, rules),
+        Kb::Classical(formulas) => found[place].told(alloc, system, context, formulas, rules),
         Kb::DefaultTheory(_) => unreachable!(),
         Kb::Program(_) => Ok(derivation.cones[place].derived(against, rules)),
     }

@@ -1,48 +1,166 @@
-//! What a classical context tells, kept for each set of rules for which it was asked.
+//! What classical contexts tell: each has a solver, which is kept with all that was found.
 
-ghost use Rattle.std.specs.Prelude.{◌<◌, length, IfOk};
+ghost use Rattle.std.specs.Prelude.{IfOk, map};
+ghost use Rattle.mcs_system.specs.Seen.{formula_of};
 ghost use Rattle.mcs_system.specs.Systems.{IsAcceptedPart};
-ghost use Rattle.mcs_grounded.specs.Parts.{AreAllFound, AreFoundOf, IsClassicalContext};
+ghost use Rattle.mcs_grounded.specs.Parts.{AreAllFound, AreHeads, CanSolve, CanTell};
+ghost use Rattle.mcs_grounded.specs.Parts.{IsClassicalAt, IsFoundOf, IsSolverOf, Takes};
 
+use mcs_asked::Asked;
+use mcs_asking::{beliefs_of, parts_at};
 use mcs_base::{Active, Memory, Vars};
-use mcs_solver::accepted_parts;
-use mcs_system::System;
+use mcs_classical::{Assumption, Consequences, Given};
+use mcs_cnf::clauses;
+use mcs_sat::ClauseBase;
+use mcs_system::{Formula, System};
 use std::alloc::Global;
 use std::collections::BTreeMap;
+use std::mem;
 
-/// What a context tells with the heads of some rules into it, for each set of these for which it
-/// was found.
-pub(crate) type Found = BTreeMap<Active, Vars>;
-
-/// What the context, which is classical, tells with the heads of the rules.
-fn one_part(alloc: Global, system: &System, context: u32, rules: Active) -> Result<Vars, Memory>
-    requires { IsClassicalContext system.now context }
-    ensures { IfOk result (IsAcceptedPart system.now context rules) }
+/// The heads of the rules into the context, in the order of the rules, each with the number of its
+/// rule.
+fn heads_of(alloc: Global, system: &System, context: u32) -> Result<Vec<Assumption<'_>>, Memory>
+    ensures { IfOk result (λ heads. AreHeads system.now context heads.items) }
 {
-    let parts = accepted_parts(alloc, system, context, rules)?;
-    Ok(parts[0])
+    let mut heads = Vec::new(alloc);
+    for (number, rule) in system.bridges().iter().enumerate() {
+        if rule.target == context {
+            heads.push(Assumption {
+                number: number as u32,
+                formula: &rule.head,
+            })?;
+        }
+    }
+    Ok(heads)
 }
 
-/// The same, which is looked up if it was found before, and kept if it was not.
-pub(crate) fn told_by(
-    alloc: Global,
-    system: &System,
-    found: &mut Found,
-    context: u32,
-    rules: Active,
-) -> Result<Vars, Memory>
-    requires classical { IsClassicalContext system.now context }
-    requires found { AreFoundOf system.now context found.old }
-    ensures found { AreFoundOf system.now context found.new }
-    ensures told { IfOk result (IsAcceptedPart system.now context rules) }
-{
-    let own = rules.common(system.rules_of(context));
-    if let Some(told) = found.get(&own) {
-        return Ok(*told);
+/// The solver of a classical context: clauses that mean its formulas, and what was found to follow
+/// from these with heads of rules.
+#[derive(Drop)]
+pub(crate) struct Solver {
+    pub(crate) clauses: ClauseBase,
+    pub(crate) found: Consequences,
+}
+
+impl Solver {
+    /// The solver of the context, which has these formulas. Nothing was found yet.
+    fn of(
+        alloc: Global,
+        system: &System,
+        context: u32,
+        formulas: &[Formula],
+    ) -> Result<Solver, Memory>
+        requires { IsClassicalAt system.now context (map formula_of formulas.now) }
+        ensures { IfOk result (IsSolverOf system.now context) }
+    {
+        let list = clauses(alloc, formulas, system.atoms_of(context))?;
+        let made = ClauseBase::of(alloc, &list);
+        drop(list);
+        let clauses = made?;
+        Ok(Solver {
+            clauses,
+            found: Consequences::new(alloc),
+        })
     }
-    let told = one_part(alloc, system, context, own)?;
-    found.insert(own, told)?;
-    Ok(told)
+
+    /// What the context tells with the heads of the rules. What was found for other sets of rules
+    /// is used, and what is found is kept.
+    fn told(
+        &mut self,
+        alloc: Global,
+        system: &System,
+        context: u32,
+        rules: Active,
+    ) -> Result<Vars, Memory>
+        requires { CanSolve system.now context self.old }
+        ensures own { IsSolverOf system.now context self.new }
+        ensures told { IfOk result (IsAcceptedPart system.now context rules) }
+    {
+        let heads = heads_of(alloc, system, context)?;
+        let beliefs = beliefs_of(alloc, system, context)?;
+        let asked = Asked {
+            atoms: system.atoms_of(context),
+            beliefs: &beliefs,
+        };
+        let given = Given {
+            asked: &asked,
+            assumptions: &heads,
+        };
+        let view = self
+            .found
+            .following(alloc, &mut self.clauses, &given, rules)?;
+        let parts = parts_at(alloc, system.vars_of(context), &[view])?;
+        Ok(parts[0])
+    }
+}
+
+/// What was found of a context: what it tells with the heads of rules into it, by the sets of these
+/// for which it was asked. A classical context has a solver, once it was asked.
+#[derive(Drop)]
+pub(crate) struct Found {
+    pub(crate) told: BTreeMap<Active, Vars>,
+    pub(crate) solver: Option<Solver>,
+}
+
+impl Found {
+    /// The solver of the context, which is classical. It is taken out, or made.
+    fn take_solver(
+        &mut self,
+        alloc: Global,
+        system: &System,
+        context: u32,
+        formulas: &[Formula],
+    ) -> Result<Solver, Memory>
+        requires { CanTell system.now context (map formula_of formulas.now) self.old }
+        ensures { Takes system.now context self.old self.new result }
+    {
+        match self.solver.take() {
+            Some(solver) => Ok(solver),
+            None => Solver::of(alloc, system, context, formulas),
+        }
+    }
+
+    /// What the context, which has these formulas, tells with the heads of the rules, as its solver
+    /// finds it.
+    fn ask(
+        &mut self,
+        alloc: Global,
+        system: &System,
+        context: u32,
+        formulas: &[Formula],
+        rules: Active,
+    ) -> Result<Vars, Memory>
+        requires { CanTell system.now context (map formula_of formulas.now) self.old }
+        ensures found { IsFoundOf system.now context self.new }
+        ensures told { IfOk result (IsAcceptedPart system.now context rules) }
+    {
+        let mut solver = self.take_solver(alloc, system, context, formulas)?;
+        let told = solver.told(alloc, system, context, rules);
+        drop(mem::replace(&mut self.solver, Some(solver)));
+        told
+    }
+
+    /// The same, which is looked up if it was found before, and kept if it was not.
+    pub(crate) fn told(
+        &mut self,
+        alloc: Global,
+        system: &System,
+        context: u32,
+        formulas: &[Formula],
+        rules: Active,
+    ) -> Result<Vars, Memory>
+        requires { CanTell system.now context (map formula_of formulas.now) self.old }
+        ensures found { IsFoundOf system.now context self.new }
+        ensures told { IfOk result (IsAcceptedPart system.now context rules) }
+    {
+        let own = rules.common(system.rules_of(context));
+        if let Some(told) = self.told.get(&own) {
+            return Ok(*told);
+        }
+        let told = self.ask(alloc, system, context, formulas, own)?;
+        self.told.insert(own, told)?;
+        Ok(told)
+    }
 }
 
 /// What is found of the contexts at first: nothing.
@@ -51,7 +169,10 @@ pub(crate) fn none_found(alloc: Global, system: &System) -> Result<Vec<Found>, M
 {
     let mut all = Vec::new(alloc);
     for _ in 0..system.contexts().len() {
-        all.push(BTreeMap::new(alloc))?;
+        all.push(Found {
+            told: BTreeMap::new(alloc),
+            solver: None,
+        })?;
     }
     Ok(all)
 }

@@ -10,27 +10,25 @@ use Rattle.mcs_grounded.proofs.derivation.derived.Goals as goal
 pub bounds-found-place : goal.bounds-found-place
 bounds-found-place c = omega (arith, c.requires.context, c.requires.derivation.found.one_each)
 
-pub told_by-requires-clause-classical : goal.told_by-requires-clause-classical
-told_by-requires-clause-classical c =
+pub told-requires : goal.told-requires
+told-requires c =
     let m = c.args.derivation.now.system.now in
     let i = c.args.context in
-    (_, _, context_there m c.contexts.result.now i c.index-contexts-place.result c.contexts.ensures.value c.requires.context, ap kb_of c.in-Classical.is)
-
-pub told_by-requires-clause-found : goal.told_by-requires-clause-found
-told_by-requires-clause-found c =
-    let i = c.args.context in
-    c.requires.derivation.found.own i _ (slice_get-get_or c.args.found.now i c.index-found-place.result (omega (arith, c.requires.context, c.requires.derivation.found.one_each)))
+    record {
+      classical = (_, context_there m c.contexts.result.now i c.index-contexts-place.result c.contexts.ensures.value c.requires.context, rw c.deref.ensures.value (ap kb_of c.in-Classical.is));
+      known = c.requires.derivation.found.own i _ (slice_get-get_or c.args.found.now i c.index-found-place.result (omega (arith, c.requires.context, c.requires.derivation.found.one_each)));
+    }
 
 pub returns-in-Classical-clause-found : goal.returns-in-Classical-clause-found
-returns-in-Classical-clause-found c = all_found_set c.args.derivation.now.system.now c.args.found.now c.args.context c.told_by.new.found c.requires.derivation.found c.told_by.ensures.found
+returns-in-Classical-clause-found c = all_found_set c.args.derivation.now.system.now c.args.found.now c.args.context c.told.new.self c.requires.derivation.found c.told.ensures.found
 
 pub returns-in-Classical-clause-derived : goal.returns-in-Classical-clause-derived
 returns-in-Classical-clause-derived c =
     let d = c.args.derivation.now in
     let m = d.system.now in
     let i = c.args.context in
-    IfOk-weaker c.told_by.result _ _ (λ τ h e is. classical_derives m i c.args.rules τ (get_or (cones_of d.cones.now) i 0) c.args.against
-    (_, _, context_there m c.contexts.result.now i c.index-contexts-place.result c.contexts.ensures.value c.requires.context, ap kb_of c.in-Classical.is) h e is) c.told_by.ensures.told
+    IfOk-weaker c.told.result _ _ (λ τ h e is. classical_derives m i c.args.rules τ (get_or (cones_of d.cones.now) i 0) c.args.against _
+    (_, context_there m c.contexts.result.now i c.index-contexts-place.result c.contexts.ensures.value c.requires.context, ap kb_of c.in-Classical.is) h e is) c.told.ensures.told
 
 pub unreachable-requires : goal.unreachable-requires
 unreachable-requires c =

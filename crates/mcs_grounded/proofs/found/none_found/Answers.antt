@@ -1,5 +1,5 @@
-use Rattle.std.proofs.Common.{◌∙◌, ◌+◌, ℕ, refl, ap}
-use Rattle.mcs_grounded.specs.Parts.{AreFoundOf}
+use Rattle.std.proofs.Common.{◌∙◌, ◌+◌, ℕ, None, refl, ap}
+use Rattle.mcs_grounded.specs.Parts.{IsFoundOf}
 use Rattle.mcs_grounded.proofs.Derivers.{none_found_of}
 use Rattle.mcs_grounded.proofs.Loops.{each_pushed, push_long}
 use Rattle.mcs_grounded.proofs.found.none_found.Goals as goal
@@ -10,5 +10,5 @@ loop-init c = rw c.new-all.ensures.items (record { one_each = refl; own = λ i d
 pub loop-preserved : goal.loop-preserved
 loop-preserved c = rw c.in_ok-push.ensures.items (record {
   one_each = push_long c.loop.all.items _ ∙ ap (λ (n : ℕ). n + 1) c.loop.invariant.one_each;
-  own = each_pushed (AreFoundOf c.args.system.now) c.loop.all.items _ c.loop.counter c.loop.invariant.one_each c.loop.invariant.own (none_found_of c.args.system.now c.loop.counter c.new.result c.new.ensures.empty);
+  own = each_pushed (IsFoundOf c.args.system.now) c.loop.all.items _ c.loop.counter c.loop.invariant.one_each c.loop.invariant.own (none_found_of c.args.system.now c.loop.counter (record { told = c.new.result; solver = None }) c.new.ensures.empty refl);
 })

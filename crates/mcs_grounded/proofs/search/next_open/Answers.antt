@@ -1,5 +1,5 @@
-use Rattle.std.proofs.Common.{◌≡◌, ◌∙◌, ℕ, length, inl, inr, sym, ap, subst, arith}
-use Rattle.std.proofs.lemmas.Bool.{cases_lt}
+use Rattle.std.proofs.Common.{◌≡◌, ◌∙◌, ℕ, length, not, inl, inr, sym, ap, subst, arith, true≢false}
+use Rattle.std.proofs.lemmas.Bool.{cases_lt, eq-eqb}
 use Rattle.std.proofs.lemmas.List.{length-map, get_or_default}
 use Rattle.mcs_sets.specs.Sets.{Within}
 use Rattle.mcs_system.specs.Seen.{context_of}
@@ -35,3 +35,18 @@ loop-context-preserved c i less not =
 
 pub returns-clause-none : goal.returns-clause-none
 returns-clause-none c i less not = c.loop-context.invariant i (omega (arith, less, c.loop-context-test.false, ap length c.contexts.ensures.value, length-map c.contexts.result.now context_of)) not
+
+pub returns-then-ne-clause-some : goal.returns-then-ne-clause-some
+returns-then-ne-clause-some c =
+    let n = c.loop-context.context in
+    let certain = c.args.bounds.now.certain.items in
+    let possible = c.args.bounds.now.possible.items in
+    let long = ap length c.contexts.ensures.value in
+    let seen = length-map c.contexts.result.now context_of in
+    let first = c.index.ensures ∙ get_or_default certain n c.index.result.now 0 (omega (arith, c.loop-context-test.true, long, seen, c.requires.certain)) in
+    let second = c.index-then-not-within.ensures ∙ get_or_default possible n c.index-then-not-within.result.now 0 (omega (arith, c.loop-context-test.true, long, seen, c.requires.possible)) in
+    record {
+      in_range = omega (arith, c.loop-context-test.true, long, seen);
+      not_whole = λ whole. true≢false (sym (c.within.ensures.1 (subst (λ (x : ℕ). Within x c.args.rules) (sym c.applicable.ensures) whole)) ∙ c.if-not-within.true);
+      not_known = λ known. true≢false (sym c.if-ne.true ∙ c.ne.ensures ∙ ap not (eq-eqb c.index.result.now c.index-then-not-within.result.now (first ∙ known ∙ sym second)));
+    }
