@@ -1,8 +1,8 @@
 -- Words ask for one job at most, and what is given tells which.
-use Rattle.std.proofs.Common.{◌≤◌, Option, option_map, subst, ◌≡◌, ℕ, nat_eq, Bool, cond, List, [], ◌∷◌, Some, None, Ok, Err, Result, MatchResult, get_or, length, arith, codes, refl, sym, ap, ◌∙◌}
+use Rattle.std.proofs.Common.{◌≤◌, Option, option_map, subst, ◌≡◌, ℕ, nat_eq, Bool, cond, List, [], ◌∷◌, Some, None, Ok, Err, Result, MatchResult, get_or, slice_get, length, arith, codes, refl, sym, ap, ◌∙◌}
 use Rattle.std.specs.Str.{bytes_eq}
 use Rattle.mcs_base.specs.Numbers.{value_of_digits}
-use Rattle.mcs_words.specs.Commands.{Word, Command, Request, equilibria, solve, check, make, grounded, default_number, IsChosen, HasSettings, AsksFor, IsJobOf}
+use Rattle.mcs_words.specs.Commands.{Word, Command, Request, equilibria, solve, check, make, grounded, cheapest, default_number, IsChosen, HasSettings, AsksFor, IsJobOf}
 use Rattle.mcs_words.specs.declared.setting.Setting.{Setting}
 use Rattle.mcs_words.specs.declared.setting.Setting.TheVariants.{Budget, Workers}
 use Rattle.mcs_words.specs.declared.task.Task.{Task}
@@ -28,7 +28,8 @@ chosen_is s (value ∷ (second ∷ values)) n h = absurd h
 -- the job that a word names; any for another word
 abbrev task_at : Word → Task
 task_at word = cond (bytes_eq word (codes "equilibria")) task.Equilibria
-    (cond (bytes_eq word (codes "solve")) task.Solve (cond (bytes_eq word (codes "check")) task.Check (cond (bytes_eq word (codes "make")) task.Make task.Grounded)))
+    (cond (bytes_eq word (codes "solve")) task.Solve (cond (bytes_eq word (codes "check")) task.Check
+    (cond (bytes_eq word (codes "make")) task.Make (cond (bytes_eq word (codes "grounded")) task.Grounded task.Cheapest))))
 
 task_named : (t : Task) → task_at (task_name t) ≡ t
 task_named task.Equilibria = refl
@@ -36,17 +37,23 @@ task_named task.Solve = refl
 task_named task.Check = refl
 task_named task.Make = refl
 task_named task.Grounded = refl
+task_named task.Cheapest = refl
 
-abbrev request_at : Task → Word → Word → ℕ → ℕ → Bool → Request
+abbrev word_of : Option Word → Word
+word_of None = []
+word_of (Some word) = word
+
+abbrev request_at : Task → Word → Option Word → ℕ → ℕ → Bool → Request
 request_at task.Equilibria file report budget workers proof = equilibria file budget workers
 request_at task.Solve file report budget workers proof = solve file budget workers proof
-request_at task.Check file report budget workers proof = check file report
+request_at task.Check file report budget workers proof = check file (word_of report)
 request_at task.Make file report budget workers proof = make (value_of_digits file) budget workers
 request_at task.Grounded file report budget workers proof = grounded file budget workers
+request_at task.Cheapest file report budget workers proof = cheapest file report budget workers
 
 -- what a command asks for, where it asks for anything
 abbrev request_by : List Word → ℕ → ℕ → Bool → Request
-request_by words = request_at (task_at (get_or words 0 [])) (get_or words 1 []) (get_or words 2 [])
+request_by words = request_at (task_at (get_or words 0 [])) (get_or words 1 []) (slice_get words 2)
 
 settings_are : (c : Command) (budget workers : ℕ) (proof : Bool) → HasSettings c budget workers proof
     → request_by c.plain (chosen_of Budget c.budgets) (chosen_of Workers c.workers) (nat_eq c.proofs 1) ≡ request_by c.plain budget workers proof
@@ -59,6 +66,8 @@ asks_for c (check file report) h = settings_are c h.0 h.1 h.2 h.6 ∙ ap (λ (wo
 asks_for c (make number budget workers) h = settings_are c budget workers h.0 h.4
     ∙ (ap (λ (words : List Word). request_by words budget workers h.0) h.2 ∙ ap (λ n. make n budget workers) h.3.2)
 asks_for c (grounded file budget workers) h = settings_are c budget workers h.0 h.3 ∙ ap (λ (words : List Word). request_by words budget workers h.0) h.1
+asks_for c (cheapest file None budget workers) h = settings_are c budget workers h.0 h.4 ∙ ap (λ (words : List Word). request_by words budget workers h.0) h.1
+asks_for c (cheapest file (Some report) budget workers) h = settings_are c budget workers h.0 h.4 ∙ ap (λ (words : List Word). request_by words budget workers h.0) h.1
 
 pub asks_once : (c : Command) (a b : Request) → AsksFor c a → AsksFor c b → a ≡ b
 asks_once c a b h k = sym (asks_for c a h) ∙ asks_for c b k
@@ -93,6 +102,8 @@ asks_whole c (solve file budget workers proof) h = let words = ap length h.0 in 
 asks_whole c (check file report) h = let words = ap length h.3 in settings_whole c h.0 h.1 h.2 h.6 (omega (arith, words)) (omega (arith, words))
 asks_whole c (make number budget workers) h = let words = ap length h.2 in settings_whole c budget workers h.0 h.4 (omega (arith, words)) (omega (arith, words))
 asks_whole c (grounded file budget workers) h = let words = ap length h.1 in settings_whole c budget workers h.0 h.3 (omega (arith, words)) (omega (arith, words))
+asks_whole c (cheapest file None budget workers) h = let words = ap length h.1 in settings_whole c budget workers h.0 h.4 (omega (arith, words)) (omega (arith, words))
+asks_whole c (cheapest file (Some report) budget workers) h = let words = ap length h.1 in settings_whole c budget workers h.0 h.4 (omega (arith, words)) (omega (arith, words))
 
 pub not_whole : (words : List Word) (t : Tally) (request : Request) → Some t ≡ option_map tally_of (read words Open) → ¬ IsWholeTally t → ¬ IsJobOf words request
 not_whole words t request e never job =
@@ -119,3 +130,4 @@ named_first c first words (solve file budget workers proof) e h = (task.Solve, c
 named_first c first words (check file report) e h = (task.Check, cc (e, h.3))
 named_first c first words (make number budget workers) e h = (task.Make, cc (e, h.2))
 named_first c first words (grounded file budget workers) e h = (task.Grounded, cc (e, h.1))
+named_first c first words (cheapest file report budget workers) e h = (task.Cheapest, cc (e, h.1))

@@ -1,5 +1,5 @@
 -- The words of a command line, and the job that they ask for.
-use Rattle.std.specs.Prelude.{◌≡◌, ◌+◌, ◌≤◌, ℕ, Bool, false, nat_eq, IsTrue, List, [], ◌∷◌, ◌++◌, codes}
+use Rattle.std.specs.Prelude.{◌≡◌, ◌+◌, ◌≤◌, ℕ, Bool, false, nat_eq, IsTrue, List, [], ◌∷◌, ◌++◌, codes, Option, Some, None, IfSome}
 use Rattle.mcs_base.specs.Numbers.{IsNumber}
 use Rattle.mcs_words.specs.declared.setting.Setting.{Setting}
 use Rattle.mcs_words.specs.declared.setting.Setting.TheVariants.{Budget, Workers}
@@ -106,6 +106,9 @@ pub data Request : Type 0 where
   make : ℕ → ℕ → ℕ → Request
   -- to list the grounded equilibria of the system that a file has: the file, a budget of questions, a number of workers
   grounded : Word → ℕ → ℕ → Request
+  -- to list the diagnoses of least cost of the system that a file has, by a report or by asking: the file, the file of the
+  -- report if there is one, a budget of questions, a number of workers
+  cheapest : Word → Option Word → ℕ → ℕ → Request
 
 -- the name of a file: not empty, and not `-`
 abbrev pub IsFile : Word → Type 0
@@ -115,8 +118,13 @@ IsFile word = ¬ (word ≡ []) × ¬ (word ≡ codes "-")
 abbrev pub most_made : ℕ
 most_made = 4294967295
 
--- what a command asks for: its plain words are the job, its file or number, and for `check` alone a report. Options and flag
--- are what they may be also where they have no effect
+-- the word of a report, if there is one
+abbrev pub report_word : Option Word → List Word
+report_word None = []
+report_word (Some report) = report ∷ []
+
+-- what a command asks for: its plain words are the job, its file or number, and a report, which must be there for `check` and
+-- may be there for `cheapest`. Options and flag are what they may be also where they have no effect
 abbrev pub AsksFor : Command → Request → Type 0
 AsksFor c (equilibria file budget workers) =
     (proof : Bool) × (c.plain ≡ codes "equilibria" ∷ file ∷ []) × IsFile file × HasSettings c budget workers proof
@@ -129,6 +137,8 @@ AsksFor c (make number budget workers) =
     (proof : Bool) × (digits : Word) × (c.plain ≡ codes "make" ∷ digits ∷ []) × IsNumber 0 most_made digits number × HasSettings c budget workers proof
 AsksFor c (grounded file budget workers) =
     (proof : Bool) × (c.plain ≡ codes "grounded" ∷ file ∷ []) × IsFile file × HasSettings c budget workers proof
+AsksFor c (cheapest file report budget workers) =
+    (proof : Bool) × (c.plain ≡ codes "cheapest" ∷ file ∷ report_word report) × IsFile file × IfSome report IsFile × HasSettings c budget workers proof
 
 -- the words ask for the job
 abbrev pub IsJobOf : List Word → Request → Type 0

@@ -1,14 +1,14 @@
 -- The reading of the words as a function, by which the code is told.
-use Rattle.std.specs.Prelude.{◌≡◌, ◌+◌, ◌≤◌, length, ℕ, Bool, not, nat_eq, cond, ◌&&◌, List, [], ◌∷◌, map, codes, Option, Some, None, option_map, String, string_bytes}
+use Rattle.std.specs.Prelude.{◌≡◌, ◌+◌, ◌≤◌, length, ℕ, Bool, not, nat_eq, cond, ◌&&◌, List, [], ◌∷◌, map, codes, Option, Some, None, option_map, IfSome, String, string_bytes}
 use Rattle.std.specs.Borrow.{Bor}
 use Rattle.std.specs.Str.{bytes_eq}
 use Rattle.std.specs.Option.{option_map_or}
 use Rattle.std.specs.declared.alloc.Global.{Global}
 use Rattle.mcs_base.specs.Numbers.{IsNumber}
-use Rattle.mcs_words.specs.Commands.{Word, Command, Request, equilibria, solve, check, make, grounded, nothing, with_plain, with_value, with_proof, begins_with_dash, IsFile, most_made}
+use Rattle.mcs_words.specs.Commands.{Word, Command, Request, equilibria, solve, check, make, grounded, cheapest, report_word, nothing, with_plain, with_value, with_proof, begins_with_dash, IsFile, most_made}
 use Rattle.mcs_words.specs.declared.given.Given.{Given}
 use Rattle.mcs_words.specs.declared.job.Job.{Job}
-use Rattle.mcs_words.specs.declared.job.Job.TheVariants.{Equilibria, Solve, Check, Make, Grounded}
+use Rattle.mcs_words.specs.declared.job.Job.TheVariants.{Equilibria, Solve, Check, Make, Grounded, Cheapest}
 use Rattle.mcs_words.specs.declared.kind.Kind.{Kind}
 use Rattle.mcs_words.specs.declared.kind.Kind.TheVariants as code
 use Rattle.mcs_words.specs.declared.reading.Place.{Place}
@@ -30,6 +30,7 @@ request_of (Solve file budget workers proof) = solve (string_bytes file) budget 
 request_of (Check file report) = check (string_bytes file) (string_bytes report)
 request_of (Make number budget workers) = make number budget workers
 request_of (Grounded file budget workers) = grounded (string_bytes file) budget workers
+request_of (Cheapest file report budget workers) = cheapest (string_bytes file) (option_map string_bytes report) budget workers
 
 -- the first plain word of a job
 abbrev pub task_name : Task → Word
@@ -38,6 +39,7 @@ task_name task.Solve = codes "solve"
 task_name task.Check = codes "check"
 task_name task.Make = codes "make"
 task_name task.Grounded = codes "grounded"
+task_name task.Cheapest = codes "cheapest"
 
 -- what its other plain words are
 abbrev pub IsOneFile : List Word → Type 0
@@ -45,6 +47,9 @@ IsOneFile words = (file : Word) × (words ≡ file ∷ []) × IsFile file
 
 abbrev pub AreTwoFiles : List Word → Type 0
 AreTwoFiles words = (file : Word) × (report : Word) × (words ≡ file ∷ report ∷ []) × IsFile file × IsFile report
+
+abbrev pub AreOneOrTwoFiles : List Word → Type 0
+AreOneOrTwoFiles words = (file : Word) × (report : Option Word) × (words ≡ file ∷ report_word report) × IsFile file × IfSome report IsFile
 
 abbrev pub IsOneNumber : List Word → Type 0
 IsOneNumber words = (digits : Word) × (number : ℕ) × (words ≡ digits ∷ []) × IsNumber 0 most_made digits number

@@ -1,12 +1,13 @@
 //! The job that the words ask for, once they are sorted.
 
 ghost use Rattle.std.specs.Prelude.{◌≡◌, ◌∷◌, [], ◌≤◌, ℕ, MatchOption, MatchResult, IfSome};
-ghost use Rattle.std.specs.Prelude.{string_bytes};
+ghost use Rattle.std.specs.Prelude.{option_map, string_bytes};
 ghost use Rattle.std.specs.Bool.{MatchBool};
 ghost use Rattle.mcs_base.specs.Numbers.{IsNumber};
 ghost use Rattle.mcs_words.specs.Commands.{Request, IsFile, IsChosen, AsksFor, most_of, most_made};
+ghost use Rattle.mcs_words.specs.Commands.{report_word};
 ghost use Rattle.mcs_words.specs.Reading.{request_of, command_of, value_list, targets_of};
-ghost use Rattle.mcs_words.specs.Reading.{IsOneFile, AreTwoFiles, IsOneNumber};
+ghost use Rattle.mcs_words.specs.Reading.{IsOneFile, AreTwoFiles, AreOneOrTwoFiles, IsOneNumber};
 ghost use Rattle.mcs_words.specs.declared.setting.Setting.TheVariants.{Budget, Workers};
 
 use crate::given::Given;
@@ -71,6 +72,15 @@ pub(crate) fn job(alloc: Global, given: &Given) -> Result<Job, WordsFault>
                 workers,
             })
         }
+        Task::Cheapest => {
+            let (file, report) = one_or_two_files(alloc, given)?;
+            Ok(Job::Cheapest {
+                file,
+                report,
+                budget,
+                workers,
+            })
+        }
     }
 }
 
@@ -126,6 +136,23 @@ fn two_files(alloc: Global, given: &Given) -> Result<(String, String), WordsFaul
     let file = file_named(alloc, given.file)?;
     let report = file_named(alloc, report)?;
     Ok((file, report))
+}
+
+/// The file, and the report if one follows it, if each can name a file.
+fn one_or_two_files(alloc: Global, given: &Given) -> Result<(String, Option<String>), WordsFault>
+    ensures { MatchResult result
+        (λ p. (targets_of given.now ≡ string_bytes p.0 ∷ report_word (option_map string_bytes p.1))
+        × IsFile (string_bytes p.0) × IfSome (option_map string_bytes p.1) IsFile)
+        (λ fault. fault ≡ WordsFault.Usage → ¬ AreOneOrTwoFiles (targets_of given.now)) }
+{
+    let file = file_named(alloc, given.file)?;
+    match given.report {
+        None => Ok((file, None)),
+        Some(report) => {
+            let report = file_named(alloc, report)?;
+            Ok((file, Some(report)))
+        }
+    }
 }
 
 /// The number, if no report follows it.

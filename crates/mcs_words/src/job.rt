@@ -40,6 +40,15 @@ pub enum Job {
         budget: u64,
         workers: u32,
     },
+    /// To list the diagnoses of least cost of the system in the file. The budget and the workers
+    /// are for a run without a report. With one, which is a file too, the report is checked, and
+    /// the diagnoses are found from its answers.
+    Cheapest {
+        file: String,
+        report: Option<String>,
+        budget: u64,
+        workers: u32,
+    },
 }
 
 /// Why words ask for no job.

@@ -16,6 +16,8 @@ pub(crate) enum Task {
     Make,
     /// `grounded`.
     Grounded,
+    /// `cheapest`.
+    Cheapest,
 }
 
 /// The job that the word names.
@@ -33,6 +35,8 @@ pub(crate) fn task_of(word: &str) -> Option<Task>
         Some(Task::Make)
     } else if word == "grounded" {
         Some(Task::Grounded)
+    } else if word == "cheapest" {
+        Some(Task::Cheapest)
     } else {
         None
     }
