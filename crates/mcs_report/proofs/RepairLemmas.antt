@@ -4,24 +4,17 @@ use Rattle.std.proofs.lemmas.Bool.{cases_lt}
 use Rattle.std.proofs.lemmas.Bool.Decides.{nat_tests}
 use Rattle.std.proofs.lemmas.List.Sums.{position_or_len_is, prefix_len_passes, prefix_len_stops}
 use Rattle.std.specs.List.{AllByRecursion, position_or_len}
-use Rattle.mcs_sets.specs.Sets.{members, single, common, Within}
+use Rattle.mcs_sets.specs.Sets.{members, single, common}
 use Rattle.mcs_base.specs.Transversals.{MeetAloneAt}
 use Rattle.mcs_base.proofs.Among.{place_among}
 use Rattle.mcs_base.proofs.ListingLemmas.{members_listing, all_from_among}
-use Rattle.mcs_base.proofs.SetParts.{members_below_all}
 use Rattle.mcs_system.specs.Plain.{System}
-use Rattle.mcs_system.specs.Repairs.{all_marks}
 use Rattle.mcs_transversal.specs.Transversals.{HasCriticalEdge, IsCritical, IsFirstCritical}
 use Rattle.mcs_report.specs.Repairs.{first_alone, ReasonsAreNumbered}
 
 -- numbers of marks of a system's rules
 abbrev pub AreMarks : System → List ℕ → Type 0
 AreMarks m ks = AllByRecursion (λ k. k < 2 * length m.bridges) ks
-
--- the marks of a set of marks of the system's rules
-pub marks_below : (m : System) (t : ℕ) → Within t (all_marks m) → AllByRecursion (λ k. k < 2 * length m.bridges) (members t)
-unfolding all_marks
-marks_below m t within = members_below_all t (2 * length m.bridges) within
 
 -- each mark of the set has a critical edge
 pub each_critical : (edges : List ℕ) (t : ℕ) → IsCritical edges t → AllByRecursion (HasCriticalEdge edges t) (members t)

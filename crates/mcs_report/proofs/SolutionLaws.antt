@@ -1,27 +1,27 @@
 -- The whole listing of a system is one, its stages are fronts of it, and there is one.
-use Rattle.std.proofs.Common.{◌≡◌, ℕ, ◌+◌, ◌*◌, nat_eq, nat_lt, List, [], ◌∷◌, ◌++◌, length, refl, sym, ap, subst, inl, inr, ◌⊎◌, ◌↔◌, ◌∙◌, append_assoc}
+use Rattle.std.proofs.Common.{◌≡◌, ℕ, ◌+◌, ◌*◌, nat_eq, nat_lt, List, [], ◌++◌, length, refl, sym, ap, subst, inl, inr, ◌⊎◌, ◌↔◌, ◌∙◌, append_assoc}
 use Rattle.std.proofs.lemmas.List.{append-nil}
 use Rattle.std.specs.List.{position_or_len}
-use Rattle.mcs_sets.specs.Sets.{common, single, minus, Within, Meets}
+use Rattle.mcs_sets.specs.Sets.{common, single, Meets}
 use Rattle.mcs_sets.specs.Orders.{StateBefore, PairBefore}
-use Rattle.mcs_sets.proofs.Lattice.{cases_within, cases_meet}
+use Rattle.mcs_sets.proofs.Lattice.{cases_meet}
 use Rattle.mcs_sets.proofs.SetLemmas.{StateBefore-asymmetric, PairBefore-asymmetric}
 use Rattle.mcs_base.specs.Listings.{IsListing}
 use Rattle.mcs_base.specs.Minimal.{IsMinimal}
-use Rattle.mcs_base.specs.Pairs.{removed_of, forced_of}
 use Rattle.mcs_base.specs.Transversals.{IsTransversalOf}
 use Rattle.mcs_base.proofs.Among.{nil_from_none}
 use Rattle.mcs_base.proofs.Each.{all_from_among}
 use Rattle.mcs_base.proofs.ListingLemmas.{same_listing, listed_alone, decided_listed}
 use Rattle.mcs_system.specs.Plain.{System}
 use Rattle.mcs_system.specs.Levels.{IsNeed}
-use Rattle.mcs_system.specs.Repairs.{allowed_marks, IsDiagnosis, IsExplanation}
+use Rattle.mcs_system.specs.Repairs.{IsDiagnosis, IsExplanation}
 use Rattle.mcs_system.specs.Systems.{all_rules, IsProjectedEquilibrium}
 use Rattle.mcs_system.proofs.MarkLemmas.{marks_small, allowed_known}
 use Rattle.mcs_laws.proofs.Choices.{consistent_minimal, consistent_unexplained}
 use Rattle.mcs_laws.proofs.Transversals.{minimal_explanations}
 use Rattle.mcs_import.proofs.CountLemmas.{need_is_one}
 use Rattle.mcs_existence.proofs.Counts.{counts_exist}
+use Rattle.mcs_costs.proofs.ExistLemmas.{cases_diagnosis, cases_states}
 use Rattle.mcs_base.proofs.Deciding.{cases_all, cases_minimal}
 use Rattle.mcs_existence.proofs.SystemListings.{all_states_listed}
 use Rattle.mcs_transversal.proofs.BergeLemmas.{none_before}
@@ -81,22 +81,6 @@ stages_of_whole m stage text (below level b) w =
 stages_of_whole m stage text (whole same) w = ([], append-nil stage ∙ whole_is_one m stage text same w)
 
 -- ---- there is one
-cases_states : (m : System) (r1 r2 : ℕ) → ((σ : ℕ) × IsProjectedEquilibrium m r1 r2 σ) ⊎ ((σ : ℕ) → ¬ IsProjectedEquilibrium m r1 r2 σ)
-cases_states m r1 r2 = let (states, listing) = all_states_listed m r1 r2 in at states listing
-  where
-    at : (states : List ℕ) → IsListing (IsProjectedEquilibrium m r1 r2) StateBefore states → ((σ : ℕ) × IsProjectedEquilibrium m r1 r2 σ) ⊎ ((σ : ℕ) → ¬ IsProjectedEquilibrium m r1 r2 σ)
-    at [] listing = inr (λ σ is. (listing.exactly σ).1 is)
-    at (σ ∷ states) listing = inl (σ, (listing.exactly σ).0 (inl refl))
-
-cases_diagnosis : (m : System) (pair : ℕ) → IsDiagnosis m pair ⊎ (¬ IsDiagnosis m pair)
-cases_diagnosis m pair = at (cases_within pair (allowed_marks m)) (cases_states m (minus (all_rules m) (removed_of pair)) (forced_of pair))
-  where
-    at : Within pair (allowed_marks m) ⊎ (¬ Within pair (allowed_marks m)) → ((σ : ℕ) × IsProjectedEquilibrium m (minus (all_rules m) (removed_of pair)) (forced_of pair) σ) ⊎ ((σ : ℕ) → ¬ IsProjectedEquilibrium m (minus (all_rules m) (removed_of pair)) (forced_of pair) σ)
-        → IsDiagnosis m pair ⊎ (¬ IsDiagnosis m pair)
-    at (inl within) (inl (σ, is)) = inl (record { allowed = within; equilibrium = σ; balanced = is })
-    at (inl within) (inr none) = inr (λ d. none d.equilibrium d.balanced)
-    at (inr outside) states = inr (λ d. outside d.allowed)
-
 minimal_diagnoses_listed : (m : System) → (pairs : List ℕ) × IsListing (IsMinimal (IsDiagnosis m)) PairBefore pairs
 minimal_diagnoses_listed m = decided_listed (IsMinimal (IsDiagnosis m)) (2 * length m.bridges) (cases_minimal (IsDiagnosis m) (cases_diagnosis m)) (λ s minimal. marks_small m s (allowed_known m s minimal.one.allowed))
 

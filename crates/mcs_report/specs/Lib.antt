@@ -2,3 +2,4 @@ pub mod Members
 pub mod Listing
 pub mod Repairs
 pub mod Solutions
+pub mod Cheapest

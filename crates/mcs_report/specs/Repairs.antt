@@ -2,8 +2,10 @@
 use Rattle.std.specs.Prelude.{◌≡◌, ℕ, ◌+◌, ◌<◌, ◌/◌, ◌%◌, ◌↔◌, length, cond, nat_eq, List, ◌++◌, map, codes, slice_get}
 use Rattle.std.specs.Fmt.{decimal}
 use Rattle.std.specs.List.{position_or_len}
-use Rattle.mcs_sets.specs.Sets.{members, single, common}
+use Rattle.mcs_sets.specs.Sets.{members, single, common, Within}
 use Rattle.mcs_system.specs.Plain.{System}
+use Rattle.mcs_system.specs.Repairs.{all_marks}
+use Rattle.mcs_system.specs.Systems.{all_rules, all_variables}
 use Rattle.mcs_diagnosis.specs.declared.diagnosis.Diagnosis as code
 use Rattle.mcs_transversal.specs.Transversals.{IsFirstCritical}
 use Rattle.mcs_text.specs.Separated.{braced}
@@ -17,11 +19,19 @@ mark_text m k = cond (nat_eq (k % 2) 0) (codes "-") (codes "+") ++ name_of_rule 
 abbrev pub marks_text : System → ℕ → List ℕ
 marks_text m marks = braced (map (mark_text m) (members marks))
 
+-- the marks, the variables and the rules of a diagnosis are of the system
+pub record IsOfSystem (m : System) (d : code.Diagnosis) : Type 0 where
+  pub marks : Within d.pair (all_marks m)
+  pub state : Within d.state (all_variables m)
+  pub active : Within d.active (all_rules m)
+
+-- the end of a line that shows a diagnosis: state STATE active RULES
+abbrev pub shown_text : System → code.Diagnosis → List ℕ
+shown_text m d = codes " state " ++ (state_text m d.state ++ (codes " active " ++ (rules_text m d.active ++ codes "\n")))
+
 -- diagnosis K: MARKS state STATE active RULES
 unfoldable pub diagnosis_line : System → ℕ → code.Diagnosis → List ℕ
-diagnosis_line m k d =
-    codes "diagnosis " ++ (decimal k ++ (codes ": " ++ (marks_text m d.pair ++ (codes " state " ++ (state_text m d.state
-    ++ (codes " active " ++ (rules_text m d.active ++ codes "\n")))))))
+diagnosis_line m k d = codes "diagnosis " ++ (decimal k ++ (codes ": " ++ (marks_text m d.pair ++ shown_text m d)))
 
 -- the number, from 1, of the first edge that the set meets in this mark alone
 abbrev pub first_alone : List ℕ → ℕ → ℕ → ℕ

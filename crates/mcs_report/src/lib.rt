@@ -1,11 +1,14 @@
-//! The lines that a run prints of a system, its equilibria, its diagnoses and its explanations.
+//! The lines that a run prints of a system, its equilibria, its diagnoses, the cheapest of them, and
+//! its explanations.
 #![tactic(auto)]
 
+mod cheapest_lines;
 mod laws;
 mod lines;
 mod members;
 mod repair_lines;
 
+pub use cheapest_lines::{cheapest_end_line, cheapest_line};
 pub use laws::{
     equilibria_texts_are_unambiguous, equilibria_texts_exist, reasons_are_diagnoses,
     summaries_are_one, summaries_end_as_listings, whole_listings_are_unambiguous,

@@ -5,11 +5,10 @@ ghost use Rattle.std.specs.Prelude.{◌≡◌, ◌<◌, ◌*◌, ◌++◌, map, 
 ghost use Rattle.std.specs.List.{AllByRecursion};
 ghost use Rattle.mcs_sets.specs.Sets.{Within};
 ghost use Rattle.mcs_system.specs.Repairs.{all_marks};
-ghost use Rattle.mcs_system.specs.Systems.{all_rules, all_variables};
 ghost use Rattle.mcs_transversal.specs.Transversals.{IsCritical};
 ghost use Rattle.mcs_text.specs.Separated.{braced};
-ghost use Rattle.mcs_report.specs.Repairs.{mark_text, reasons_text, diagnosis_line};
-ghost use Rattle.mcs_report.specs.Repairs.{explanation_line, end_line};
+ghost use Rattle.mcs_report.specs.Repairs.{mark_text, reasons_text, diagnosis_line, shown_text};
+ghost use Rattle.mcs_report.specs.Repairs.{explanation_line, end_line, IsOfSystem};
 
 use crate::members::{Member, push_set};
 use mcs_base::{Marks, Members, Memory, Text};
@@ -30,7 +29,7 @@ fn push_mark(text: &mut Text, system: &System, mark: u32) -> Result<(), Memory>
 }
 
 /// Appends marks in braces to a text of its own.
-fn push_marks(text: &mut Text, system: &System, marks: Members) -> Result<(), Memory>
+pub(crate) fn push_marks(text: &mut Text, system: &System, marks: Members) -> Result<(), Memory>
     requires { AllByRecursion (λ k. k < 2 * length system.now.bridges) marks }
     ensures { OnOk result (text.new ≡ text.old ++ braced (map (mark_text system.now) marks)) }
 {
@@ -74,6 +73,22 @@ fn push_reasons(text: &mut Text, system: &System, edges: &[Marks], t: Marks) -> 
     text.push(b"}")
 }
 
+/// Appends the end of a line that shows a diagnosis: its state, and the rules that are active in it.
+pub(crate) fn push_shown(
+    text: &mut Text,
+    system: &System,
+    diagnosis: &Diagnosis,
+) -> Result<(), Memory>
+    requires { IsOfSystem system.now diagnosis.now }
+    ensures { OnOk result (text.new ≡ text.old ++ shown_text system.now diagnosis.now) }
+{
+    text.push(b" state ")?;
+    push_set(text, system, Member::Variable, diagnosis.state.members())?;
+    text.push(b" active ")?;
+    push_set(text, system, Member::Rule, diagnosis.active.members())?;
+    text.push(b"\n")
+}
+
 /// Appends the line of the diagnosis with this number: its marks, the first state of the changed
 /// system, and the rules that are active in it. All of these have to be of the system.
 #[tactic(auto, unfolding(crate::specs::Repairs::diagnosis_line))]
@@ -83,9 +98,7 @@ pub fn diagnosis_line(
     diagnosis: &Diagnosis,
     out: &mut Text,
 ) -> Result<(), Memory>
-    requires marks { Within diagnosis.now.pair (all_marks system.now) }
-    requires state { Within diagnosis.now.state (all_variables system.now) }
-    requires active { Within diagnosis.now.active (all_rules system.now) }
+    requires { IsOfSystem system.now diagnosis.now }
     ensures ok { OnOk result (out.new ≡ out.old ++ diagnosis_line system.now number diagnosis.now) }
     ensures err { OnErr result (out.new ≡ out.old) }
 {
@@ -94,16 +107,7 @@ pub fn diagnosis_line(
     line.push_number(number)?;
     line.push(b": ")?;
     push_marks(&mut line, system, diagnosis.pair.marks().members())?;
-    line.push(b" state ")?;
-    push_set(
-        &mut line,
-        system,
-        Member::Variable,
-        diagnosis.state.members(),
-    )?;
-    line.push(b" active ")?;
-    push_set(&mut line, system, Member::Rule, diagnosis.active.members())?;
-    line.push(b"\n")?;
+    push_shown(&mut line, system, diagnosis)?;
     out.push(line.bytes())
 }
 
@@ -134,7 +138,7 @@ pub fn explanation_line(
 }
 
 /// Appends a number, and then `after`.
-fn push_count(text: &mut Text, number: u64, after: &[u8]) -> Result<(), Memory>
+pub(crate) fn push_count(text: &mut Text, number: u64, after: &[u8]) -> Result<(), Memory>
     ensures { OnOk result (text.new ≡ text.old ++ (decimal number ++ after.now)) }
 {
     text.push_number(number)?;

@@ -40,11 +40,12 @@ use Rattle.mcs_work.specs.declared.extent.Extent.TheVariants.{Whole, Counts}
 use Rattle.mcs_work.specs.Tasks.{opening, IsTaskText, IsTaskUpTo, IsTaskStage, TakesLevel, IsLastTaken, stop_for_halt, stop_for_line}
 use Rattle.mcs_work.specs.Work.{Proceeds, Works}
 use Rattle.mcs_work.specs.Course.{IsUnderWay, AddsLines, HasGone}
-use Rattle.mcs_work.specs.Printed.{IsOfSystem, IsCauseOf}
+use Rattle.mcs_report.specs.Repairs.{IsOfSystem}
+use Rattle.mcs_work.specs.Printed.{IsCauseOf}
 use Rattle.mcs_work.specs.declared.task.Task.TheVariants.{Solve}
 use Rattle.mcs_work.specs.declared.task.WorkStop.{WorkStop}
 use Rattle.mcs_work.specs.declared.task.WorkStop.TheVariants as stops
-use Rattle.mcs_work.proofs.StateLemmas.{beyond_before, settled_count}
+use Rattle.mcs_cheapest.proofs.CountLemmas.{beyond_before, settled_count}
 use Rattle.mcs_work.proofs.StopLemmas.{proceeds_ok, proceeds_later, works_later, text_stops, memory_stops, halt_stops}
 use Rattle.mcs_base.proofs.NumberCases.{not_less}
 
@@ -294,7 +295,7 @@ module _ (m : System) (e : EvaluatorState) (level : ℕ) (ds : List code.Diagnos
           reached k taken = at_end.reached k (taken_back x m k (subst (λ (s : System). TakesLevel (task_of x) s k) u.same taken))
 
 -- ---- what is printed is of the system
-each_of_system : (m : System) (ds : List code.Diagnosis) → ((p : ℕ) → IsAmong p (pairs_of ds) → IsDiagnosis m p) → AllByRecursion (ShowsFirstState m) ds → AllByRecursion (IsOfSystem m) ds
+pub each_of_system : (m : System) (ds : List code.Diagnosis) → ((p : ℕ) → IsAmong p (pairs_of ds) → IsDiagnosis m p) → AllByRecursion (ShowsFirstState m) ds → AllByRecursion (IsOfSystem m) ds
 each_of_system m [] are shown = tt
 each_of_system m (d ∷ ds) are shown =
     let within = shown_within m d (are d.pair (inl refl)) shown.0 in

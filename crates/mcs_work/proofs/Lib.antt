@@ -3,3 +3,5 @@ pub mod StopLemmas
 pub mod CourseLemmas
 pub mod LowestLemmas
 pub mod GroundedLaws
+pub mod CheapestLemmas
+pub mod CheapestLaws

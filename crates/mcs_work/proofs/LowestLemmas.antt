@@ -24,9 +24,9 @@ use Rattle.mcs_work.specs.Grounded.{grounded_text, IsGroundedText}
 use Rattle.mcs_work.specs.Tasks.{opening, stop_for_line, IsTaskText, IsTaskStage, IsLastTaken, TakesLevel}
 use Rattle.mcs_work.specs.Work.{Proceeds, Works}
 use Rattle.mcs_work.specs.declared.task.Task.{Task}
-use Rattle.mcs_work.specs.declared.task.Task.TheVariants.{Equilibria, Grounded, Solve, Make}
+use Rattle.mcs_work.specs.declared.task.Task.TheVariants.{Equilibria, Grounded, Solve, Cheapest, Make}
 use Rattle.mcs_work.specs.declared.task.WorkStop.TheVariants as stops
-use Rattle.mcs_work.proofs.StateLemmas.{settled_count}
+use Rattle.mcs_cheapest.proofs.CountLemmas.{settled_count}
 use Rattle.mcs_work.proofs.StopLemmas.{proceeds_later, text_stops, left_after, opening_stage}
 use Rattle.mcs_work.proofs.CourseLemmas.{begun}
 
@@ -35,6 +35,7 @@ whole_stage : (task : Task) (m : System) (text : List ℕ) → IsTaskText task m
 whole_stage Equilibria m text is = inr is
 whole_stage Grounded m text is = inr is
 whole_stage Solve m text is = whole is
+whole_stage Cheapest m text is = inr (inr is)
 whole_stage Make m text is = inr is
 
 module _ {T : Type 0} (task : Task) (m : System) (e e' : EvaluatorState) (can : CanBegin m e) (before mid : Device) (x : T) (part : Proceeds task [] e e' before mid (Ok x)) (states : List ℕ) (f : HasFoundEquilibria task m e e' before.written mid.written states) where

@@ -20,10 +20,11 @@ use Rattle.mcs_states.proofs.Causes.{rest_kept, rest_same, unanswered_before, to
 use Rattle.mcs_work.specs.Tasks.{opening, IsTaskText, IsTaskStage, IsTaskUpTo, TakesLevel, IsLastTaken, stop_for_halt, stop_for_line}
 use Rattle.mcs_work.specs.Work.{LeavesStage, IsDone, IsSpent, HasStopped, Proceeds, Works}
 use Rattle.mcs_work.specs.declared.task.Task.{Task}
-use Rattle.mcs_work.specs.declared.task.Task.TheVariants.{Equilibria, Grounded, Solve, Make}
+use Rattle.mcs_work.specs.declared.task.Task.TheVariants.{Equilibria, Grounded, Solve, Cheapest, Make}
 use Rattle.mcs_work.specs.declared.task.WorkStop.{WorkStop}
 use Rattle.mcs_work.specs.declared.task.WorkStop.TheVariants as stops
-use Rattle.mcs_work.proofs.StateLemmas.{rest_back, beyond_before, found_beyond}
+use Rattle.mcs_cheapest.proofs.CountLemmas.{rest_back, beyond_before}
+use Rattle.mcs_work.proofs.StateLemmas.{found_beyond}
 use Rattle.mcs_base.proofs.Written.{append_in_middle}
 
 -- ---- what stops a part of the work stops the work
@@ -173,18 +174,21 @@ pub opening_stage : (task : Task) (m n : System) → m ≡ n → IsTaskStage tas
 opening_stage Equilibria m n same = inl (ap heading (sym same))
 opening_stage Grounded m n same = inl (ap heading (sym same))
 opening_stage Solve m n same = first (ap heading (sym same))
+opening_stage Cheapest m n same = inl (ap heading (sym same))
 opening_stage Make m n same = inl refl
 
 opening_up_to : (task : Task) (m n : System) → m ≡ n → IsTaskUpTo task m 0 (opening task n)
 opening_up_to Equilibria m n same = ap heading (sym same)
 opening_up_to Grounded m n same = ap heading (sym same)
 opening_up_to Solve m n same = ap heading (sym same)
+opening_up_to Cheapest m n same = ap heading (sym same) ∙ sym (append-nil (heading m))
 opening_up_to Make m n same = refl
 
 lowest_taken : (task : Task) (m : System) → TakesLevel task m 0
 lowest_taken Equilibria m = refl
 lowest_taken Grounded m = refl
 lowest_taken Solve m = inl refl
+lowest_taken Cheapest m = λ stop _. omega arith
 lowest_taken Make m = inl refl
 
 module _ (task : Task) (m : System) (e : EvaluatorState) (same : e.system ≡ m) (before now : Device) {T : Type 0} where

@@ -1,3 +1,4 @@
+pub mod Cheapest
 pub mod Grounded
 pub mod Tasks
 pub mod Work

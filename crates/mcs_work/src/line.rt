@@ -11,8 +11,8 @@ use mcs_base::{Marks, Memory, Text, Vars};
 use mcs_diagnosis::Diagnosis;
 use mcs_ports::Sink;
 use mcs_report::{
-    diagnosis_line, end_line, equilibrium_line, explanation_line, grounded_end_line, grounded_line,
-    heading, short_end_line, verdict_line,
+    cheapest_end_line, cheapest_line, diagnosis_line, end_line, equilibrium_line, explanation_line,
+    grounded_end_line, grounded_line, heading, short_end_line, verdict_line,
 };
 use mcs_system::System;
 use mcs_text::{Unwritten, write_line};
@@ -73,6 +73,19 @@ pub(crate) enum Line<'a> {
         explanations: u64,
         need: u64,
     },
+    /// A cheapest diagnosis, with its number and what it costs.
+    CheapestDiagnosis {
+        number: u64,
+        price: u64,
+        diagnosis: &'a Diagnosis,
+    },
+    /// How many cheapest diagnoses there are, what each of them costs if there are any, and how
+    /// many questions were asked.
+    CheapestEnd {
+        count: u64,
+        price: Option<u64>,
+        need: u64,
+    },
 }
 
 /// Appends the line.
@@ -106,6 +119,12 @@ fn push_line(system: &System, line: &Line<'_>, text: &mut Text) -> Result<(), Me
             explanations,
             need,
         } => end_line(equilibria, diagnoses, explanations, need, text),
+        Line::CheapestDiagnosis {
+            number,
+            price,
+            diagnosis,
+        } => cheapest_line(system, number, price, diagnosis, text),
+        Line::CheapestEnd { count, price, need } => cheapest_end_line(count, price, need, text),
     }
 }
 

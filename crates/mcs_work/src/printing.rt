@@ -9,7 +9,8 @@ ghost use Rattle.mcs_report.specs.Solutions.{equilibria_part, diagnosis_lines, e
 ghost use Rattle.mcs_text.specs.Writes.{Writes};
 ghost use Rattle.mcs_work.specs.Extents.{states_part, diagnoses_part, explanations_part, rest_part};
 ghost use Rattle.mcs_work.specs.Grounded.{after_grounded};
-ghost use Rattle.mcs_work.specs.Printed.{sort_word, IsOfSystem, IsCauseOf};
+ghost use Rattle.mcs_report.specs.Repairs.{IsOfSystem};
+ghost use Rattle.mcs_work.specs.Printed.{sort_word, IsCauseOf};
 ghost use Rattle.mcs_work.specs.Tasks.{opening};
 
 use crate::extent::Extent;
@@ -32,7 +33,7 @@ pub(crate) fn print_opening<K: Sink>(
     ensures { Writes (opening task system.now) (K.device sink.old) (K.device sink.new) result }
 {
     match task {
-        Task::Equilibria | Task::Grounded | Task::Solve => {
+        Task::Equilibria | Task::Grounded | Task::Solve | Task::Cheapest => {
             print_line(alloc, system, &Line::Heading, sink)
         }
         Task::Make => Ok(()),

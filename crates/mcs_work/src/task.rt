@@ -18,6 +18,8 @@ pub enum Task {
     Grounded,
     /// Its projected equilibria, its minimal diagnoses and its minimal explanations.
     Solve,
+    /// Its diagnoses of least cost.
+    Cheapest,
     /// Whether it is consistent, and how many projected equilibria, minimal diagnoses and minimal
     /// explanations it has.
     Make,

@@ -6,6 +6,7 @@ ghost use Rattle.mcs_states.specs.Calls.{CanBegin};
 ghost use Rattle.mcs_work.specs.Tasks.{TakesAnswersAlone};
 ghost use Rattle.mcs_work.specs.Work.{Works};
 
+use crate::cheapest::list_cheapest_of;
 use crate::extent::Extent;
 use crate::repairing::solve;
 use crate::states::list_equilibria;
@@ -19,13 +20,15 @@ use std::sync::Arc;
 /// Does the task: prints its listing of the system, each line in one piece, as soon as it is known.
 /// The heading comes before the first question. For `Solve` the equilibria and the verdict come
 /// before diagnoses are searched for, and the diagnoses of a level before the next level is asked.
-/// For `Make` nothing is printed before all is known, and then the verdict and the end line alone.
+/// For `Cheapest` the rest comes once all of it is known; if the budget is spent above level 0, the
+/// verdict is written, which is then known. For `Make` nothing is printed before all is known, and
+/// then the verdict and the end line alone.
 /// For `Grounded` a solver is needed beside the evaluator, so that task is not done here.
 ///
 /// The evaluator has to be one of this system that has done no level yet. It is handed back, and
 /// shows what was done. If the whole text was written, its greatest level done is the last one of
-/// the task. This is 0 for equilibria and for a consistent system, and otherwise the number of
-/// rules. Its journals then have exactly the questions of that level.
+/// the task. This is 0 for equilibria and for a consistent system, the stop level for `Cheapest`,
+/// and otherwise the number of rules. Its journals then have exactly the questions of that level.
 ///
 /// `Write` is returned only if the sink's count of faults rose; unless it is returned, that count
 /// is as before. `Spent` is returned with the least level of the task that has more questions than
@@ -53,6 +56,7 @@ pub fn work<E: Evaluator, K: Sink>(
         }
         Task::Grounded => unreachable!(),
         Task::Solve => solve(alloc, Extent::Whole, evaluator, system, sink),
+        Task::Cheapest => list_cheapest_of(alloc, evaluator, system, sink),
         Task::Make => solve(alloc, Extent::Counts, evaluator, system, sink),
     }
 }

@@ -6,7 +6,8 @@ use Rattle.mcs_text.specs.Separated.{separated}
 use Rattle.mcs_transversal.specs.Transversals.{HasCriticalEdge}
 use Rattle.mcs_report.specs.Repairs.{mark_text, reason_text}
 use Rattle.mcs_text.proofs.Members.{left, left-step}
-use Rattle.mcs_report.proofs.RepairLemmas.{marks_below, each_critical, critical_some, critical_number}
+use Rattle.mcs_costs.proofs.CostLemmas.{marks_below}
+use Rattle.mcs_report.proofs.RepairLemmas.{each_critical, critical_some, critical_number}
 use Rattle.mcs_report.proofs.repair_lines.push_reasons.Goals as goal
 
 pub loop-mark-init : goal.loop-mark-init

@@ -5,7 +5,7 @@ use Rattle.mcs_report.specs.Repairs.{diagnosis_line}
 use Rattle.mcs_report.specs.Solutions.{diagnosis_lines}
 use Rattle.mcs_report.proofs.SolutionLemmas.{diagnosis_lines-more}
 use Rattle.mcs_text.proofs.WriteLaws.{goes_on, goes_cut, writes_nothing}
-use Rattle.mcs_work.specs.Printed.{IsOfSystem}
+use Rattle.mcs_report.specs.Repairs.{IsOfSystem}
 use Rattle.mcs_work.proofs.printing.print_diagnoses.Goals as goal
 
 pub print_line-requires : goal.print_line-requires

@@ -2,7 +2,7 @@ use Rattle.std.proofs.Common.{◌+◌, drop}
 use Rattle.std.specs.List.{AllByRecursion}
 use Rattle.mcs_report.specs.Solutions.{diagnosis_lines}
 use Rattle.mcs_text.proofs.WriteLaws.{Goes}
-use Rattle.mcs_work.specs.Printed.{IsOfSystem}
+use Rattle.mcs_report.specs.Repairs.{IsOfSystem}
 use Rattle.mcs_work.proofs.printing.print_diagnoses.Given as goal
 
 abbrev pub invariant-loop-k : goal.invariant-loop-k
