@@ -7,6 +7,7 @@ pub mod SortedAnswers
 pub mod Counting
 pub mod JudgedAnswers
 pub mod RelistingLemmas
+pub mod CheapestLemmas
 pub mod FindingLemmas
 pub mod OneFinding
 pub mod ProvedListings

@@ -16,6 +16,8 @@ use Rattle.mcs_proof_text.specs.Reports.{IsListingPart, IsLineFeedFree, SpellsRe
 use Rattle.mcs_proof_text.proofs.FaultLaws.{one_fault, no_fault}
 use Rattle.mcs_proof_reader.proofs.TextLines.{text_lines}
 use Rattle.mcs_proof_reader.proofs.WholeReadings.{spelled_once}
+use Rattle.mcs_check.specs.Checked.{finding_in, ShowsCheck}
+use Rattle.mcs_check.specs.declared.checking.Checked.{Checked}
 use Rattle.mcs_check.specs.Findings.{IsReportFinding, RulesOut}
 use Rattle.mcs_proof_text.specs.Proofs.{HasAcceptedCertificate, IsAnswered}
 use Rattle.mcs_check.specs.Validity.{IsNeeded, DifferFirst, AreComplete, ValidReportsFailNothing}
@@ -180,8 +182,8 @@ module _ (m : System) (bytes : List ℕ) where
   rules_out plain (Fails line reason) h = λ valid. not_both line reason (one_finding plain Valid (Fails line reason) valid h)
 
 -- the same of what was answered
-pub only_finding : (m : System) → IsValid m → IsSystemNamed m → (bytes : List ℕ) (r : Result Finding Memory) → IfOk r (IsReportFinding m bytes) → IfOk r (RulesOut m bytes)
-only_finding m valid named bytes (Ok f) h = rules_out m bytes (spelled_once m valid named bytes) f h
+pub only_finding : (m : System) → IsValid m → IsSystemNamed m → (bytes : List ℕ) (r : Result Checked Memory) → IfOk r (ShowsCheck m bytes) → IfOk r (λ c. RulesOut m bytes (finding_in c))
+only_finding m valid named bytes (Ok c) h = rules_out m bytes (spelled_once m valid named bytes) (finding_in c) h.found
 only_finding m valid named bytes (Err e) h = tt
 
 pub valid_fails_nothing : ValidReportsFailNothing

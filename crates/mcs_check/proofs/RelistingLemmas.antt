@@ -1,14 +1,15 @@
 -- What the work on a system that is evaluated by answers tells of them.
-use Rattle.std.proofs.Common.{◌≡◌, ℕ, ◌<◌, ◌≤◌, List, [], length, Some, None, refl, sym, ap, subst, inl, inr, arith}
+use Rattle.std.proofs.Common.{◌≡◌, ℕ, ◌<◌, ◌≤◌, List, [], ◌∷◌, map, length, slice_get, suc, Some, refl, sym, ap, ◌∙◌, subst, inl, inr, arith}
+use Rattle.std.proofs.lemmas.List.{map-id}
 use Rattle.std.proofs.lemmas.Option.{same_Some, slice_get_within}
 use Rattle.mcs_base.proofs.Among.{cases_among}
 use Rattle.mcs_system.specs.Faults.{IsValid}
 use Rattle.mcs_system.specs.Levels.{IsQuestionAt}
 use Rattle.mcs_system.specs.Plain.{System}
 use Rattle.mcs_system.specs.Systems.{IsConsistent}
-use Rattle.mcs_states.specs.Oracles.{OracleState, Lacks}
-use Rattle.mcs_states.specs.Evaluators.{EvaluatorState}
-use Rattle.mcs_mesh.specs.Rounds.{evaluator_state_of, AreFresh}
+use Rattle.mcs_states.specs.Oracles.{OracleState, with_journal, Lacks}
+use Rattle.mcs_states.specs.Evaluators.{EvaluatorState, KeepsRest, unasked}
+use Rattle.mcs_mesh.specs.Rounds.{AreFresh}
 use Rattle.mcs_ports.specs.Pieces.{Device}
 use Rattle.mcs_laws.proofs.Questions.{question_higher}
 use Rattle.mcs_report.specs.Solutions.{IsWholeListing}
@@ -21,9 +22,9 @@ use Rattle.mcs_proof_text.specs.Answers.{Answer}
 use Rattle.mcs_proof_text.specs.Proofs.{IsAnswered}
 use Rattle.mcs_check.specs.Validity.{IsNeeded}
 use Rattle.mcs_check.specs.Answers.{sets_to, oracle_for, oracles_for}
-use Rattle.mcs_check.specs.Relisting.{HoldAll, LackOne, IsSpentStop, IsMissingStop}
+use Rattle.mcs_check.specs.Relisting.{AreOraclesOf, HoldAll, LackOne, IsSpentStop, IsMissingStop, start_of}
 use Rattle.mcs_check.proofs.Counting.{never_so_many}
-use Rattle.mcs_check.proofs.OwnAnswers.{oracle_there, oracle_is, set_answered, answered_set}
+use Rattle.mcs_check.proofs.OwnAnswers.{oracles_each, oracle_there, oracle_is, set_answered, answered_set}
 use Rattle.mcs_work.proofs.CourseLemmas.{decided_always}
 
 -- ---- levels
@@ -32,7 +33,7 @@ last_is_taken m level (inl (consistent, first)) = inl first
 last_is_taken m level (inr (not, last)) = inr (not, omega (arith, last))
 
 -- a question of a level that is taken is one of the last level
-needed_of : (m : System) (level i x : ℕ) → i < length m.contexts → IsRepairLevel m level → IsQuestionAt m level i x → IsNeeded m i x
+pub needed_of : (m : System) (level i x : ℕ) → i < length m.contexts → IsRepairLevel m level → IsQuestionAt m level i x → IsNeeded m i x
 needed_of m level i x less taken question = elim (decided_always m) [
   | inl consistent ↦ (0, inl (consistent, refl), less, subst (λ (l : ℕ). IsQuestionAt m l i x) (lowest consistent taken) question)
   | inr not ↦ (length m.bridges, inr (not, refl), less, question_higher m level (length m.bridges) i x (within taken) question)
@@ -46,10 +47,20 @@ needed_of m level i x less taken question = elim (decided_always m) [
     within (inl first) = omega (arith, first)
     within (inr (not, high)) = high
 
--- ---- what the work tells of the oracles
-abbrev pub start_of : System → List OracleState → EvaluatorState
-start_of m os = evaluator_state_of 1 m 4294967295 None None os
+-- ---- the oracles afterwards
+-- those of which none was asked have empty journals
+unasked_fresh : (os : List OracleState) → ((i : ℕ) (o : OracleState) → slice_get os i ≡ Some o → o.journal ≡ []) → unasked os ≡ os
+unasked_fresh [] fresh = refl
+unasked_fresh (o ∷ os) fresh =
+    ap (λ (js : List ℕ). with_journal js o ∷ unasked os) (sym (fresh 0 o refl))
+    ∙ ap (λ (rest : List OracleState). o ∷ rest) (unasked_fresh os (λ i x is. fresh (suc i) x is))
 
+-- with their journals emptied they are as before the work
+pub renewed_same : (m : System) (os xs again : List OracleState) (e : EvaluatorState) → AreFresh m os → KeepsRest (start_of m os) e → map (λ (o : OracleState). o) xs ≡ e.oracles → again ≡ unasked xs → again ≡ os
+renewed_same m os xs again e fresh kept held is =
+    is ∙ ap unasked (sym (map-id xs) ∙ held) ∙ kept.oracles ∙ unasked_fresh os (λ i o at. (fresh i o at).2)
+
+-- ---- what the work tells of the oracles
 module _ (m : System) (os : List OracleState) (each : length os ≡ length m.contexts) (e : EvaluatorState) where
   pub told_listing : (text : List ℕ) → IsDone Solve [] (start_of m os) e (Some []) (Some text) → IsWholeListing m text × HoldAll m os
   told_listing text d = (
@@ -78,9 +89,15 @@ module _ (m : System) (os : List OracleState) (each : length os ≡ length m.con
 
 -- ---- and so of the answers
 module _ (m : System) (answers : List Answer) where
-  pub fresh_oracles : AreFresh m (oracles_for m answers)
+  fresh_oracles : AreFresh m (oracles_for m answers)
   fresh_oracles i o is = let same = oracle_is m answers i o is in
       (ap (λ (s : OracleState). s.system) same, ap (λ (s : OracleState). s.context) same, ap (λ (s : OracleState). s.journal) same)
+
+  pub own_oracles : (os : List OracleState) → os ≡ oracles_for m answers → AreOraclesOf m os
+  own_oracles os same = record {
+    one_each = ap length same ∙ oracles_each m answers;
+    fresh = subst (λ (xs : List OracleState). AreFresh m xs) (sym same) fresh_oracles;
+  }
 
   pub all_answered : HoldAll m (oracles_for m answers) → (i x : ℕ) → IsNeeded m i x → IsAnswered answers i x
   all_answered hold i x needed = elim (cases_among x (sets_to i answers)) [

@@ -6,3 +6,4 @@ pub mod Answers
 pub mod Judging
 pub mod Parts
 pub mod Relisting
+pub mod Checked

@@ -3,6 +3,7 @@
 ghost use Rattle.std.specs.Prelude.{◌≡◌, ◌<◌, ◌≤◌, [], length, IfErr, IfOk, MatchOption, OnOk};
 ghost use Rattle.std.specs.Arc.{arc_value};
 ghost use Rattle.mcs_base.specs.Listings.{IsAmong};
+ghost use Rattle.mcs_states.specs.Oracles.{with_journal};
 ghost use Rattle.mcs_states.specs.declared.stop.OracleStop.TheVariants as stops;
 ghost use Rattle.mcs_check.specs.Certified.{certified_of, sets_of, AreAcceptedAnswers};
 ghost use Rattle.mcs_check.specs.Certified.{AreAscendingSets, SetsEndAt, HasAnswer};
@@ -106,6 +107,14 @@ impl CertifiedOracle {
             answers,
             journal: Vec::new(alloc),
         }
+    }
+
+    /// The oracle with the same answers, of which no question was asked.
+    pub(crate) fn renewed(mut self) -> CertifiedOracle
+        ensures { result ≡ with_journal [] self }
+    {
+        self.journal.clear();
+        self
     }
 
     /// The sets of rules for which it has answered, in the order of the questions.

@@ -3,6 +3,7 @@
 #![tactic(auto)]
 
 mod certified;
+mod cheapest;
 mod checking;
 mod collecting;
 mod difference;
@@ -13,6 +14,7 @@ mod oracles;
 mod relisting;
 
 pub use certified::CertifiedOracle;
-pub use checking::check_report;
+pub use cheapest::cheapest_by;
+pub use checking::{Checked, certify, check_report};
 pub use finding::{Finding, Reason, finding_line};
 pub use laws::{proved_listings_are_valid, valid_reports_fail_nothing};

@@ -1,11 +1,12 @@
 //! The listing of a system, computed from answers alone.
 
-ghost use Rattle.std.specs.Prelude.{◌≡◌, length, IfOk, OnOk, OnErr, MatchOption};
+ghost use Rattle.std.specs.Prelude.{◌≡◌, IfOk, OnOk, OnErr, MatchOption};
 ghost use Rattle.std.specs.Arc.{arc_value};
 ghost use Rattle.mcs_system.specs.Faults.{IsValid};
 ghost use Rattle.mcs_report.specs.Solutions.{IsWholeListing};
-ghost use Rattle.mcs_mesh.specs.Rounds.{AreFresh};
-ghost use Rattle.mcs_check.specs.Relisting.{HoldAll, LackOne, IsSpentStop, IsMissingStop};
+ghost use Rattle.mcs_states.specs.Evaluators.{unasked};
+ghost use Rattle.mcs_check.specs.Relisting.{AreOraclesOf, IsMissingStop, IsRelisted, IsSpentStop};
+ghost use Rattle.mcs_check.specs.Relisting.{LackOne, start_of};
 
 use crate::certified::CertifiedOracle;
 use crate::collecting::Collecting;
@@ -36,30 +37,64 @@ fn missing(stop: WorkStop) -> Result<(), Memory>
     }
 }
 
-/// The whole listing of the system by the oracles of its contexts, or `None` if one of them lacks
-/// an answer that is needed. Little memory is needed for it as long as it is as expected.
+/// The evaluator of the system by the oracles of its contexts. It may ask as many questions as there
+/// are.
+pub(crate) fn mesh_of<'a>(
+    alloc: Global,
+    system: &Arc<System>,
+    oracles: Vec<CertifiedOracle>,
+    gate: &'a IdleGate,
+) -> Result<Mesh<'a, CertifiedOracle, IdleGate>, Memory>
+    requires { AreOraclesOf (arc_value system.now) oracles.items }
+    ensures { IfOk result (λ mesh. mesh.state ≡ start_of (arc_value system.now) oracles.items) }
+{
+    let plan = Arc::new(alloc, Plan::of(alloc, system.clone()?)?)?;
+    Mesh::new(alloc, plan, oracles, MOST_QUESTIONS, gate)
+}
+
+/// The oracles with the same answers, of which none was asked.
+fn renewed(alloc: Global, oracles: Vec<CertifiedOracle>) -> Result<Vec<CertifiedOracle>, Memory>
+    ensures { IfOk result (λ again. again.items ≡ unasked oracles.items) }
+{
+    let mut again = Vec::new(alloc);
+    for oracle in oracles {
+        again.push(oracle.renewed())?;
+    }
+    Ok(again)
+}
+
+/// What is left once the listing was computed: the sink that it was written to, and the oracles as
+/// they were before.
+#[derive(Drop)]
+pub(crate) struct Relisted<'b> {
+    pub(crate) sink: Collecting<'b>,
+    pub(crate) oracles: Vec<CertifiedOracle>,
+}
+
+/// Computes the whole listing of the system by the oracles of its contexts, or tells `None` if one
+/// of them lacks an answer that is needed. Little memory is needed for it as long as it is as
+/// expected.
 pub(crate) fn listing_by<'b>(
     alloc: Global,
     system: Arc<System>,
     oracles: Vec<CertifiedOracle>,
     expected: &'b [u8],
-) -> Result<Option<Collecting<'b>>, Memory>
+) -> Result<Option<Relisted<'b>>, Memory>
     requires valid { IsValid (arc_value system) }
-    requires one_each { length oracles.items ≡ length (arc_value system).contexts }
-    requires own { AreFresh (arc_value system) oracles.items }
+    requires own { AreOraclesOf (arc_value system) oracles.items }
     ensures { IfOk result (λ listed. MatchOption listed
         (LackOne (arc_value system) oracles.items)
-        (λ sink. IsWholeListing (arc_value system) sink.text
-        × HoldAll (arc_value system) oracles.items)) }
+        (λ r. IsRelisted (arc_value system) oracles.items r.sink.text r.oracles.items)) }
 {
-    let plan = Arc::new(alloc, Plan::of(alloc, system.clone()?)?)?;
     let gate = IdleGate;
-    let mesh = Mesh::new(alloc, plan, oracles, MOST_QUESTIONS, &gate)?;
+    let mesh = mesh_of(alloc, &system, oracles, &gate)?;
     let mut sink = Collecting::new(alloc, expected);
     let (worked, mesh) = work(alloc, mesh, system, Task::Solve, &mut sink);
-    drop(mesh);
     match worked {
-        Ok(()) => Ok(Some(sink)),
+        Ok(()) => {
+            let oracles = renewed(alloc, mesh.into_oracles()?)?;
+            Ok(Some(Relisted { sink, oracles }))
+        }
         Err(stop) => {
             missing(stop)?;
             Ok(None)
