@@ -2,7 +2,7 @@
 use Rattle.std.proofs.Common.{◌≡◌, ◌⊎◌, ℕ, List, Option, Result, Ok, Err, IfSome, IfOk, inl, inr, sym, subst}
 use Rattle.mcs_system.specs.Plain.{System}
 use Rattle.mcs_work.specs.declared.task.Task.{Task}
-use Rattle.mcs_work.specs.declared.task.Task.TheVariants.{Equilibria, Solve, Make}
+use Rattle.mcs_work.specs.declared.task.Task.TheVariants.{Equilibria, Solve, Cheapest, Make}
 use Rattle.mcs_listing.specs.Jobs.{File, OfOneFile}
 use Rattle.mcs_listing.specs.Texts.{IsTextOf, IsRefusedFor, IsRefusedPlain, StopsReading}
 use Rattle.mcs_listing.specs.declared.ending.Refusal.{Refusal}
@@ -31,10 +31,11 @@ pub told_text : (m : System) (P : List ℕ → Type 0) → ((bytes : List ℕ) �
 told_text m P each files read = told_also files (OfOneFile (IsTextOf m)) (OfOneFile P) (of_file (IsTextOf m) P each) read
 
 -- what holds of each task for which any system is taken
-pub for_others : (task : Task) → (task ≡ Equilibria) ⊎ ((task ≡ Solve) ⊎ (task ≡ Make)) → (P : Task → Type 0) → P Equilibria → P Solve → P Make → P task
-for_others task (inl is) P e s m = subst P (sym is) e
-for_others task (inr (inl is)) P e s m = subst P (sym is) s
-for_others task (inr (inr is)) P e s m = subst P (sym is) m
+pub for_others : (task : Task) → (task ≡ Equilibria) ⊎ ((task ≡ Solve) ⊎ ((task ≡ Cheapest) ⊎ (task ≡ Make))) → (P : Task → Type 0) → P Equilibria → P Solve → P Cheapest → P Make → P task
+for_others task (inl is) P e s c m = subst P (sym is) e
+for_others task (inr (inl is)) P e s c m = subst P (sym is) s
+for_others task (inr (inr (inl is))) P e s c m = subst P (sym is) c
+for_others task (inr (inr (inr is))) P e s c m = subst P (sym is) m
 
 pub always_ok : {T E : Type 0} (r : Result T E) → IfOk r (λ x. Unit {0})
 always_ok (Ok x) = tt

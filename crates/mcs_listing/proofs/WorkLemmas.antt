@@ -10,13 +10,13 @@ use Rattle.mcs_system.specs.Levels.{HasQuestions}
 use Rattle.mcs_states.specs.Evaluators.{EvaluatorState}
 use Rattle.mcs_states.specs.Evaluators as evaluators
 use Rattle.mcs_generator.specs.Generated.{generated_system}
-use Rattle.mcs_report.specs.Solutions.{first}
 use Rattle.mcs_work.specs.Tasks.{IsTaskText, IsTaskStage, IsTaskUpTo, TakesLevel, opening}
 use Rattle.mcs_work.specs.Work.{LeavesStage, IsDone, IsSpent, HasStopped}
 use Rattle.mcs_work.specs.declared.task.Task.{Task}
-use Rattle.mcs_work.specs.declared.task.Task.TheVariants.{Equilibria, Grounded, Solve, Make}
+use Rattle.mcs_work.specs.declared.task.Task.TheVariants.{Make}
 use Rattle.mcs_work.specs.declared.task.WorkStop.{WorkStop}
 use Rattle.mcs_work.specs.declared.task.WorkStop.TheVariants as works
+use Rattle.mcs_work.proofs.StopLemmas.{opening_stage}
 use Rattle.mcs_listing.specs.Endings.{stop_for_work, stop_for_unwritten}
 use Rattle.mcs_listing.specs.Listings.{NeedsMoreThan, IsListingText, IsListedBefore, AfterNumber, number_line, Prints, PrintsFront, StopsWork, StopsGenerated, IsNewEvaluator}
 use Rattle.mcs_listing.specs.declared.ending.Stop.{Stop}
@@ -25,18 +25,11 @@ use Rattle.mcs_text.specs.declared.unwritten.Unwritten.{Unwritten}
 use Rattle.mcs_text.specs.declared.unwritten.Unwritten.TheVariants as unwritten
 
 -- ---- before the work
--- what is printed before the first question is a stage
-opening_stage : (task : Task) (m : System) → IsTaskStage task m (opening task m)
-opening_stage Equilibria m = inl refl
-opening_stage Grounded m = inl refl
-opening_stage Solve m = first refl
-opening_stage Make m = inl refl
-
--- nothing is a front of it
+-- what is printed before the first question is a stage, and nothing is a front of it
 pub nothing_left : (task : Task) (m : System) (now : Option (List ℕ)) → PrintsFront (IsTaskStage task m) now now
 nothing_left task m now = record {
   text = opening task m;
-  holds = opening_stage task m;
+  holds = opening_stage task m m refl;
   front = record { front = []; rest = opening task m; parts = refl; written = appended-none now };
 }
 

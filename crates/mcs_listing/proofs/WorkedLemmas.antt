@@ -40,7 +40,7 @@ module _ (keep : Bool) (m : System) (os : List OracleState) (are : os ≡ map (�
   nodes_keep i o at = ap (λ (s : OracleState). s.origin) (node_solver i o at)
 
 -- what an evaluation leaves that was worked on
-pub worked : {T : Type 0} (leaves : ℕ → System → ℕ → ℕ → List NodeData → Result ℕ Halt → T → Type 0) (plays_last : Bool) (workers : ℕ) (task : Task) (m : System) (budget : ℕ) (first : List OracleState) (e : EvaluationData)
+pub worked : {T : Type 0} (leaves : ℕ → System → ℕ → ℕ → List NodeData → Result ℕ Halt → T → Type 0) (plays_last plays_each : Bool) (workers : ℕ) (task : Task) (m : System) (budget : ℕ) (first : List OracleState) (e : EvaluationData)
     (nodes : List NodeData) (trail : Option T) (before now : Device) (ended : Result (Unit {0}) WorkStop)
     → Works task [] (evaluator_state_of workers m budget None None first) e.state before now ended
     → nodes ≡ e.nodes → e.state.oracles ≡ oracles_of nodes → AreNodesOf e.state.system e.state.budget nodes
@@ -48,8 +48,9 @@ pub worked : {T : Type 0} (leaves : ℕ → System → ℕ → ℕ → List Node
     → (e.last ≡ None → trail ≡ None) → IsHaltOfRound e.state.budget e.last e.state.halt
     → (e.state.halted ≡ false → IsLastRound e.state.system e.last e.state.done)
     → (plays_last ≡ true → e.state.halted ≡ false → HasLastRound e.state.system e.state.done e.last)
-    → HasWorked (leaves workers) plays_last workers task m budget first nodes trail before now ended
-worked leaves plays_last workers task m budget first e nodes trail before now ended works same oracles own shown unshown halt round reaches = record {
+    → (plays_each ≡ true → e.state.halted ≡ false → e.last ≡ e.state.done)
+    → HasWorked (leaves workers) plays_last plays_each workers task m budget first nodes trail before now ended
+worked leaves plays_last plays_each workers task m budget first e nodes trail before now ended works same oracles own shown unshown halt round reaches each = record {
   worked = record { state = e.state; works = works; oracles_are = oracles };
   own = subst (λ (b : ℕ). AreNodesOf m b nodes) works.rest.budget (subst (λ (n : System). AreNodesOf n e.state.budget nodes) works.rest.system own);
   last = e.last;
@@ -61,4 +62,5 @@ worked leaves plays_last workers task m budget first e nodes trail before now en
   halt = subst (λ (b : ℕ). IsHaltOfRound b e.last e.state.halt) works.rest.budget halt;
   round = λ going. subst (λ (n : System). IsLastRound n e.last e.state.done) works.rest.system (round going);
   reaches = λ plays going. subst (λ (n : System). HasLastRound n e.state.done e.last) works.rest.system (reaches plays going);
+  each = each;
 }

@@ -4,7 +4,7 @@ use Rattle.mcs_system.specs.Plain.{Name, System}
 use Rattle.mcs_grammar.specs.Texts.{Spells, HasFault}
 use Rattle.mcs_reduct.specs.Plain.{IsPlain, IsLowestNotPlain}
 use Rattle.mcs_work.specs.declared.task.Task.{Task}
-use Rattle.mcs_work.specs.declared.task.Task.TheVariants.{Equilibria, Grounded, Solve, Make}
+use Rattle.mcs_work.specs.declared.task.Task.TheVariants.{Equilibria, Grounded, Solve, Cheapest, Make}
 use Rattle.mcs_proof_text.specs.Reports.{most_report_bytes}
 use Rattle.mcs_listing.specs.Jobs.{File, OfOneFile}
 use Rattle.mcs_listing.specs.declared.ending.Refusal.{Refusal}
@@ -52,6 +52,7 @@ abbrev pub IsTextFor : Task → System → List ℕ → Type 0
 IsTextFor Equilibria = IsTextOf
 IsTextFor Grounded = IsPlainTextOf
 IsTextFor Solve = IsTextOf
+IsTextFor Cheapest = IsTextOf
 IsTextFor Make = IsTextOf
 
 -- the reason for which a text is refused for the task
@@ -59,6 +60,7 @@ abbrev pub IsRefusedTask : Task → Refusal → List ℕ → Type 0
 IsRefusedTask Equilibria = IsRefusedFor
 IsRefusedTask Grounded = IsRefusedPlain
 IsRefusedTask Solve = IsRefusedFor
+IsRefusedTask Cheapest = IsRefusedFor
 IsRefusedTask Make = IsRefusedFor
 
 -- ---- why no system is had

@@ -34,7 +34,7 @@ pub record IsWorked (workers : ℕ) (task : Task) (m : System) (budget : ℕ) (f
   pub oracles_are : state.oracles ≡ oracles
 
 -- the same, with what the player has shown of the last round; `leaves` tells what it leaves of a round
-pub record HasWorked {T : Type 0} (leaves : System → ℕ → ℕ → List NodeData → Result ℕ Halt → T → Type 0) (plays_last : Bool) (workers : ℕ) (task : Task) (m : System) (budget : ℕ) (first : List OracleState)
+pub record HasWorked {T : Type 0} (leaves : System → ℕ → ℕ → List NodeData → Result ℕ Halt → T → Type 0) (plays_last plays_each : Bool) (workers : ℕ) (task : Task) (m : System) (budget : ℕ) (first : List OracleState)
     (nodes : List NodeData) (trail : Option T) (before now : Device) (ended : Result (Unit {0}) WorkStop) : Type 0 where
   pub worked : IsWorked workers task m budget first (oracles_of nodes) before now ended
   pub own : AreNodesOf m budget nodes
@@ -45,3 +45,4 @@ pub record HasWorked {T : Type 0} (leaves : System → ℕ → ℕ → List Node
   pub halt : IsHaltOfRound budget last worked.state.halt
   pub round : worked.state.halted ≡ false → IsLastRound m last worked.state.done
   pub reaches : plays_last ≡ true → worked.state.halted ≡ false → HasLastRound m worked.state.done last
+  pub each : plays_each ≡ true → worked.state.halted ≡ false → last ≡ worked.state.done

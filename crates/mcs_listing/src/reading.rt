@@ -73,7 +73,9 @@ pub fn system_for<H: Shelf>(
         (told_all (H.held shelf.old) (file.now ∷ []))) }
 {
     match task {
-        Task::Equilibria | Task::Solve | Task::Make => system_in(alloc, file, shelf),
+        Task::Equilibria | Task::Solve | Task::Cheapest | Task::Make => {
+            system_in(alloc, file, shelf)
+        }
         Task::Grounded => plain_system_in(alloc, file, shelf),
     }
 }

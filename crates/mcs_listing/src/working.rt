@@ -34,8 +34,8 @@ pub fn work_by<P: Player + Drop, K: Sink>(
     requires work { CanWork task (arc_value system) (arc_value beginning.plan) beginning.budget
         (P.Over.seen beginning.nodes) }
     requires play { P.can_play player }
-    ensures { HasWorked (P.leaves (P.workers player)) P.plays_last (P.workers player) task
-        (arc_value system) beginning.budget
+    ensures { HasWorked (P.leaves (P.workers player)) P.plays_last P.plays_each (P.workers player)
+        task (arc_value system) beginning.budget
         (oracles_of (P.Over.seen beginning.nodes)) (P.Over.seen result.1.nodes) result.1.trail
         (K.device sink.old) (K.device sink.new) result.0 }
 {
@@ -85,7 +85,9 @@ fn do_task<E: Evaluator, K: Sink>(
         (K.device sink.new) result.0 }
 {
     match task {
-        Task::Equilibria | Task::Solve | Task::Make => work(alloc, evaluator, system, task, sink),
+        Task::Equilibria | Task::Solve | Task::Cheapest | Task::Make => {
+            work(alloc, evaluator, system, task, sink)
+        }
         Task::Grounded => {
             let mut evaluator = evaluator;
             let result = list_grounded(alloc, &mut evaluator, &system, sink);

@@ -1,5 +1,5 @@
 -- What a run answers, notes and leaves where it stops.
-use Rattle.std.proofs.Common.{◌≡◌, ◌⊎◌, ℕ, List, Option, Some, None, Result, Err, IfSome, inl, inr, refl, sym, ap, ◌∙◌, subst}
+use Rattle.std.proofs.Common.{◌≡◌, ◌⊎◌, ℕ, List, Option, Some, None, IfSome, inl, inr, refl, sym, ◌∙◌, subst}
 use Rattle.mcs_ports.specs.Pieces.{Device, noted}
 use Rattle.mcs_words.specs.declared.job.WordsFault.{WordsFault}
 use Rattle.mcs_words.specs.declared.job.WordsFault.TheVariants as words

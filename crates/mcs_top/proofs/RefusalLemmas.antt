@@ -1,21 +1,23 @@
 -- What of a job excludes what: one that can be done is refused for nothing, lacks no file, and does not stop at a level.
-use Rattle.std.proofs.Common.{◌≡◌, ℕ, zero, suc, Bool, true, false, List, [], ◌∷◌, Option, Some, None, inl, inr, subst, sym, ◌∙◌, true≢false}
+use Rattle.std.proofs.Common.{◌≡◌, ℕ, zero, suc, ◌≤◌, Bool, true, false, cond, List, [], ◌∷◌, ◌++◌, Option, Some, None, inl, inr, refl, subst, sym, ap, ◌∙◌, true≢false, arith}
 use Rattle.std.proofs.lemmas.List.{append-nil}
 use Rattle.mcs_ports.specs.Pieces.{appended}
 use Rattle.mcs_text.specs.Writes.{WritesFront}
 use Rattle.mcs_system.specs.Plain.{System}
 use Rattle.mcs_faults.proofs.Unambiguous.{texts-unambiguous}
 use Rattle.mcs_grammar.proofs.OneFault.{no-fault}
+use Rattle.mcs_base.proofs.Placed.{eq_differs}
+use Rattle.mcs_report.specs.Listing.{heading, verdict_line}
 use Rattle.mcs_report.specs.Solutions.{first, below}
 use Rattle.mcs_generator.specs.Generated.{generated_system}
-use Rattle.mcs_work.specs.Tasks.{IsTaskText, IsTaskStage, IsTaskUpTo}
+use Rattle.mcs_work.specs.Tasks.{IsTaskText, IsTaskStage, IsTaskUpTo, TakesLevel}
 use Rattle.mcs_work.specs.declared.task.Task.{Task}
-use Rattle.mcs_work.specs.declared.task.Task.TheVariants.{Equilibria, Grounded, Solve, Make}
-use Rattle.mcs_words.specs.Commands.{Word, Request, equilibria, grounded, solve, check, make}
+use Rattle.mcs_work.specs.declared.task.Task.TheVariants.{Equilibria, Grounded, Solve, Cheapest, Make}
+use Rattle.mcs_words.specs.Commands.{Word, Request, equilibria, grounded, solve, cheapest, check, make}
 use Rattle.mcs_check.specs.Validity.{IsValidReport}
 use Rattle.mcs_listing.specs.Jobs.{File, OfOneFile, OfFirstFile, OfTwoFiles, LacksOneOfTwo}
 use Rattle.mcs_listing.specs.Texts.{IsTextOf, IsTextFor, IsNotPlainAt, IsRefusedFor, IsRefusedTask}
-use Rattle.mcs_top.specs.Meaning.{JobMeaning, OfReport, IsReportTooLong, IsToldValid, IsToldFailing, FailsATest, IsSolution, IsSolutionStage, IsCheckRefusal, IsWithinBudget, OfTask, file_job, report_job, made_job, meaning}
+use Rattle.mcs_top.specs.Meaning.{JobMeaning, OfReport, IsReportTooLong, IsToldValid, IsToldCheapest, IsToldFailing, FailsATest, IsSolution, IsSolutionStage, IsCheckRefusal, IsWithinBudget, OfTask, file_job, report_job, made_job, meaning}
 use Rattle.mcs_listing.specs.Listings.{Suffices, IsShort, IsListedBefore}
 use Rattle.mcs_listing.specs.declared.ending.Refusal.{Refusal}
 use Rattle.mcs_listing.specs.declared.ending.Refusal.TheVariants as refusals
@@ -36,6 +38,7 @@ pub text_of_task : (task : Task) (m : System) (bytes : List ℕ) → IsTextFor t
 text_of_task Equilibria m bytes text = text
 text_of_task Grounded m bytes text = text.text
 text_of_task Solve m bytes text = text
+text_of_task Cheapest m bytes text = text
 text_of_task Make m bytes text = text
 
 same_system : (task : Task) (m n : System) (bytes : List ℕ) → IsTextFor task m bytes → IsTextFor task n bytes → n ≡ m
@@ -45,6 +48,7 @@ same_system task m n bytes text other = texts-unambiguous bytes n m (text_of_tas
 not_refused_task : (task : Task) (bytes : List ℕ) (m : System) (why : Refusal) → IsTextFor task m bytes → IsRefusedTask task why bytes → ⊥
 not_refused_task Equilibria bytes m why text h = not_refused bytes m why text h
 not_refused_task Solve bytes m why text h = not_refused bytes m why text h
+not_refused_task Cheapest bytes m why text h = not_refused bytes m why text h
 not_refused_task Make bytes m why text h = not_refused bytes m why text h
 not_refused_task Grounded bytes m refusals.TooLong text h = not_refused bytes m refusals.TooLong text.text h
 not_refused_task Grounded bytes m refusals.ReportTooLong text h = h
@@ -60,18 +64,20 @@ of_task_apart task P why files = apart_of_file (OfTask task P) (IsRefusedTask ta
 two_systems_apart : (task : Task) (P Q : System → Type 0) → ((m : System) → P m → Q m → ⊥) → (files : List File) → OfOneFile (OfTask task P) files → OfOneFile (OfTask task Q) files → ⊥
 two_systems_apart task P Q apart files = apart_of_file (OfTask task P) (OfTask task Q) (λ bytes (m, read, holds) (n, again, other). apart m holds (subst Q (same_system task m n bytes read again) other)) files
 
--- what is printed before a level is a stage
-up_to_stage : (task : Task) (m : System) (level : ℕ) (text : List ℕ) → IsTaskUpTo task m level text → IsTaskStage task m text
-up_to_stage Equilibria m level text is = inl is
-up_to_stage Grounded m level text is = inl is
-up_to_stage Solve m zero text is = first is
-up_to_stage Solve m (suc level) text h = below (suc level) h
-up_to_stage Make m level text is = inl is
+-- what is printed before a level that is taken is a stage
+up_to_stage : (task : Task) (m : System) (level : ℕ) (text : List ℕ) → TakesLevel task m level → IsTaskUpTo task m level text → IsTaskStage task m text
+up_to_stage Equilibria m level text taken is = inl is
+up_to_stage Grounded m level text taken is = inl is
+up_to_stage Solve m zero text taken is = first is
+up_to_stage Solve m (suc level) text taken h = below (suc level) h
+up_to_stage Cheapest m zero text taken is = inl (is ∙ append-nil (heading m))
+up_to_stage Cheapest m (suc level) text taken is = inr (inl ((λ consistent. (let none : suc level ≤ 0 = taken 0 (inl (consistent, refl)) in absurd (omega (arith, none)))), is ∙ ap (λ (b : Bool). heading m ++ cond b [] (verdict_line false)) (eq_differs (suc level) 0 (λ e. omega (arith, e)))))
+up_to_stage Make m level text taken is = inl is
 
 -- also of the whole listing, with its proof or not
-solution_up_to : (proof : Bool) (m : System) (level : ℕ) (text : List ℕ) → IsTaskUpTo Solve m level text → IsSolutionStage proof m text
-solution_up_to false m level text is = up_to_stage Solve m level text is
-solution_up_to true m level text is = inl (up_to_stage Solve m level text is)
+solution_up_to : (proof : Bool) (m : System) (level : ℕ) (text : List ℕ) → TakesLevel Solve m level → IsTaskUpTo Solve m level text → IsSolutionStage proof m text
+solution_up_to false m level text taken is = up_to_stage Solve m level text taken is
+solution_up_to true m level text taken is = inl (up_to_stage Solve m level text taken is)
 
 -- a budget can't both suffice and not
 module _ (task : Task) (budget : ℕ) (m : System) where
@@ -149,7 +155,7 @@ AnySystem m = Unit {0}
 any_system : (task : Task) (P : System → Type 0) (files : List File) → OfOneFile (OfTask task P) files → OfOneFile (OfTask task AnySystem) files
 any_system task P files = of_file (OfTask task P) (OfTask task AnySystem) (λ bytes (m, read, holds). (m, read, tt)) files
 
-file_apart : (IsText IsPart : System → List ℕ → Type 0) (task : Task) → ((m : System) (level : ℕ) (text : List ℕ) → IsTaskUpTo task m level text → IsPart m text) → (file : Word) (budget workers : ℕ)
+file_apart : (IsText IsPart : System → List ℕ → Type 0) (task : Task) → ((m : System) (level : ℕ) (text : List ℕ) → TakesLevel task m level → IsTaskUpTo task m level text → IsPart m text) → (file : Word) (budget workers : ℕ)
     → KeepsApart (file_job IsText IsPart task file budget workers)
 file_apart IsText IsPart task up_to file budget workers = record {
   fits = OfOneFile (OfTask task AnySystem);
@@ -167,7 +173,7 @@ file_apart IsText IsPart task up_to file budget workers = record {
   rejection_not_short = λ text files h k. h;
   possible_not_beyond = λ text level files h k. two_systems_apart task (Suffices task budget) (IsListedBefore task budget level text) (λ m. before_apart task budget m level text) files h k;
   invalid_not_beyond = λ text level files h k. h;
-  beyond_is_stage = λ text level files h. of_file (OfTask task (IsListedBefore task budget level text)) (OfTask task (λ m. IsPart m text)) (λ bytes (m, read, before). (m, read, up_to m level text before.1)) files h;
+  beyond_is_stage = λ text level files h. of_file (OfTask task (IsListedBefore task budget level text)) (OfTask task (λ m. IsPart m text)) (λ bytes (m, read, before). (m, read, up_to m level text before.0.taken before.1)) files h;
 }
 
 -- ---- a job that checks a report
@@ -215,7 +221,7 @@ made_apart number budget workers = record {
   rejection_not_short = λ text files h k. h;
   possible_not_beyond = λ text level files h k. before_apart Make budget (generated_system number) level k.0 h k.1;
   invalid_not_beyond = λ text level files h k. h;
-  beyond_is_stage = λ text level files h. (h.0, up_to_stage Make (generated_system number) level h.0 h.1.1, h.2);
+  beyond_is_stage = λ text level files h. (h.0, up_to_stage Make (generated_system number) level h.0 h.1.0.taken h.1.1, h.2);
 }
 
 -- ---- each job; one to come adds its case here
@@ -223,5 +229,7 @@ pub apart : (job : Request) → KeepsApart (meaning job)
 apart (equilibria file budget workers) = file_apart (IsTaskText Equilibria) (IsTaskStage Equilibria) Equilibria (up_to_stage Equilibria) file budget workers
 apart (grounded file budget workers) = file_apart (IsTaskText Grounded) (IsTaskStage Grounded) Grounded (up_to_stage Grounded) file budget workers
 apart (solve file budget workers proof) = file_apart (IsSolution proof) (IsSolutionStage proof) Solve (solution_up_to proof) file budget workers
+apart (cheapest file None budget workers) = file_apart (IsTaskText Cheapest) (IsTaskStage Cheapest) Cheapest (up_to_stage Cheapest) file budget workers
+apart (cheapest file (Some report) budget workers) = report_apart IsToldCheapest file report
 apart (check file report) = report_apart IsToldValid file report
 apart (make number budget workers) = made_apart number budget workers

@@ -1,5 +1,5 @@
 -- What the work on a task leaves to be seen of its last round.
-use Rattle.std.proofs.Common.{◌≡◌, ℕ, ◌<◌, ◌≤◌, Bool, true, false, cond, List, [], ◌∷◌, length, Option, Some, None, Result, Ok, Err, IfErr, OnOk, refl, sym, ap, ◌∙◌, inl, inr, ◌⊎◌, subst, arith}
+use Rattle.std.proofs.Common.{◌≡◌, ℕ, ◌<◌, ◌≤◌, Bool, true, false, true≢false, cond, List, [], ◌∷◌, length, Option, Some, None, Result, Ok, Err, IfErr, OnOk, refl, sym, ap, ◌∙◌, inl, inr, ◌⊎◌, subst, arith}
 use Rattle.std.specs.Result.{IsErrAnd}
 use Rattle.std.proofs.lemmas.Bool.{cases_lt}
 use Rattle.mcs_ports.specs.Pieces.{Device}
@@ -12,7 +12,7 @@ use Rattle.mcs_mesh.specs.Rounds.{IsHaltOfRound, IsLastRound, evaluator_state_of
 use Rattle.mcs_work.specs.Tasks.{IsLastTaken}
 use Rattle.mcs_work.specs.Work.{HasStopped, IsDone, IsSpent}
 use Rattle.mcs_work.specs.declared.task.Task.{Task}
-use Rattle.mcs_work.specs.declared.task.Task.TheVariants.{Equilibria, Grounded, Solve, Make}
+use Rattle.mcs_work.specs.declared.task.Task.TheVariants.{Equilibria, Grounded, Solve, Cheapest, Make}
 use Rattle.mcs_work.specs.declared.task.WorkStop.{WorkStop}
 use Rattle.mcs_work.specs.declared.task.WorkStop.TheVariants as works
 use Rattle.mcs_crew.specs.Trails.{IsNoTrail, IsTrail, TrailData, group_count, trail_of}
@@ -27,7 +27,7 @@ use Rattle.mcs_text.specs.declared.unwritten.Unwritten.{Unwritten}
 use Rattle.mcs_text.specs.declared.unwritten.Unwritten.TheVariants as unwritten
 use Rattle.mcs_listing.specs.declared.ending.Stop.{Stop}
 use Rattle.mcs_listing.specs.declared.ending.Stop.TheVariants as stops
-use Rattle.mcs_top.specs.TaskTrails.{ShowsBeyond, ShowsEnd, ShowsStop, ShowsTask, UsesFew, UsesMany, done_by_few, done_by_many, spent_by_few, spent_by_many}
+use Rattle.mcs_top.specs.TaskTrails.{plays_each, ShowsBeyond, ShowsEnd, ShowsStop, ShowsTask, UsesFew, UsesMany, done_by_few, done_by_many, spent_by_few, spent_by_many}
 use Rattle.mcs_top.specs.Evaluating.{HasListed, ShowsWork}
 
 -- ---- fewer than two workers
@@ -84,15 +84,30 @@ stop_end task budget workers m t stop h (Ok x) is = absurd is
 stop_end task budget workers m t stop h (Err own) is = subst (ShowsStop budget workers m t) (sym is) h
 
 -- ---- the work by several workers
--- by so many
-pub by_workers : (task : Task) (m : System) (budget own workers : ℕ) → own ≡ workers → (first : List OracleState) (nodes : List NodeData) (trail : Option code.Trail) (before now : Device) (ended : Result (Unit {0}) WorkStop)
-    → HasWorked (λ m' level most ns total t. IsTrail m' level own ns total (trail_of t) × HasEnded m' level ns total) true own task m budget first nodes trail before now ended
-    → HasWorked (λ m' level most ns total t. IsTrail m' level workers ns total (trail_of t) × HasEnded m' level ns total) true workers task m budget first nodes trail before now ended
-by_workers task m budget own workers same first nodes trail before now ended h =
-    subst (λ (n : ℕ). HasWorked (λ m' level most ns total t. IsTrail m' level n ns total (trail_of t) × HasEnded m' level ns total) true n task m budget first nodes trail before now ended) same h
+-- nothing is said of a player that plays the round of each level
+pub not_each : {T : Type 0} (leaves : System → ℕ → ℕ → List NodeData → Result ℕ Halt → T → Type 0) (plays_last each : Bool) (workers : ℕ) (task : Task) (m : System) (budget : ℕ) (first : List OracleState) (nodes : List NodeData) (trail : Option T) (before now : Device) (ended : Result (Unit {0}) WorkStop)
+    → HasWorked leaves plays_last each workers task m budget first nodes trail before now ended → HasWorked leaves plays_last false workers task m budget first nodes trail before now ended
+not_each leaves plays_last each workers task m budget first nodes trail before now ended h = record {
+  worked = h.worked;
+  own = h.own;
+  last = h.last;
+  shown = h.shown;
+  unshown = h.unshown;
+  halt = h.halt;
+  round = h.round;
+  reaches = h.reaches;
+  each = λ plays. absurd (true≢false (sym plays));
+}
 
-module _ (task : Task) (m : System) (budget workers : ℕ) (first : List OracleState) (nodes : List NodeData) (trail : Option code.Trail) (before now : Device) (ended : Result (Unit {0}) WorkStop)
-    (h : HasWorked (λ m' level most ns total t. IsTrail m' level workers ns total (trail_of t) × HasEnded m' level ns total) true workers task m budget first nodes trail before now ended) (left : TrailData)
+-- by so many
+pub by_workers : (each : Bool) (task : Task) (m : System) (budget own workers : ℕ) → own ≡ workers → (first : List OracleState) (nodes : List NodeData) (trail : Option code.Trail) (before now : Device) (ended : Result (Unit {0}) WorkStop)
+    → HasWorked (λ m' level most ns total t. IsTrail m' level own ns total (trail_of t) × HasEnded m' level ns total) true each own task m budget first nodes trail before now ended
+    → HasWorked (λ m' level most ns total t. IsTrail m' level workers ns total (trail_of t) × HasEnded m' level ns total) true each workers task m budget first nodes trail before now ended
+by_workers each task m budget own workers same first nodes trail before now ended h =
+    subst (λ (n : ℕ). HasWorked (λ m' level most ns total t. IsTrail m' level n ns total (trail_of t) × HasEnded m' level ns total) true each n task m budget first nodes trail before now ended) same h
+
+module _ (each : Bool) (task : Task) (plays : each ≡ plays_each task) (m : System) (budget workers : ℕ) (first : List OracleState) (nodes : List NodeData) (trail : Option code.Trail) (before now : Device) (ended : Result (Unit {0}) WorkStop)
+    (h : HasWorked (λ m' level most ns total t. IsTrail m' level workers ns total (trail_of t) × HasEnded m' level ns total) true each workers task m budget first nodes trail before now ended) (left : TrailData)
     (left_some : (t : code.Trail) → trail ≡ Some t → left ≡ trail_of t) (left_none : trail ≡ None → IsNoTrail left) where
   abbrev groups : ℕ
   groups = group_count workers (length m.contexts)
@@ -125,17 +140,18 @@ module _ (task : Task) (m : System) (budget workers : ℕ) (first : List OracleS
       greatest : level ≡ length m.bridges → h.last ≡ Some level
       greatest same = subst (λ (n : ℕ). h.last ≡ Some n) (sym same) (h.reaches refl going (is ∙ ap (λ (n : ℕ). Some n) same))
 
-      taken : (task' : Task) → IsLastTaken task' m level → (l : ℕ) → h.last ≡ Some l → l ≤ level → h.last ≡ Some level
-      taken Equilibria none l there less = there ∙ ap (λ (n : ℕ). Some n) (zeroth l none less)
-      taken Grounded none l there less = there ∙ ap (λ (n : ℕ). Some n) (zeroth l none less)
-      taken Solve (inl (consistent, none)) l there less = there ∙ ap (λ (n : ℕ). Some n) (zeroth l none less)
-      taken Solve (inr (not, same)) l there less = greatest same
-      taken Make (inl (consistent, none)) l there less = there ∙ ap (λ (n : ℕ). Some n) (zeroth l none less)
-      taken Make (inr (not, same)) l there less = greatest same
+      taken : (task' : Task) → each ≡ plays_each task' → IsLastTaken task' m level → (l : ℕ) → h.last ≡ Some l → l ≤ level → h.last ≡ Some level
+      taken Equilibria plays' none l there less = there ∙ ap (λ (n : ℕ). Some n) (zeroth l none less)
+      taken Grounded plays' none l there less = there ∙ ap (λ (n : ℕ). Some n) (zeroth l none less)
+      taken Solve plays' (inl (consistent, none)) l there less = there ∙ ap (λ (n : ℕ). Some n) (zeroth l none less)
+      taken Solve plays' (inr (not, same)) l there less = greatest same
+      taken Make plays' (inl (consistent, none)) l there less = there ∙ ap (λ (n : ℕ). Some n) (zeroth l none less)
+      taken Make plays' (inr (not, same)) l there less = greatest same
+      taken Cheapest plays' stop l there less = h.each plays' going ∙ is
 
       at : (o : Option ℕ) → h.last ≡ o → IsLastRound m h.last (Some level) → h.last ≡ Some level
       at None there round = absurd (subst (λ (o : Option ℕ). IsLastRound m o (Some level)) there round)
-      at (Some l) there round = taken task last l there (subst (λ (o : Option ℕ). IsLastRound m o (Some level)) there round).0
+      at (Some l) there round = taken task plays last l there (subst (λ (o : Option ℕ). IsLastRound m o (Some level)) there round).0
 
   -- it was done
   done_shown : IsDone task [] (evaluator_state_of workers m budget None None first) h.worked.state before.written now.written → ShowsTask task workers m left

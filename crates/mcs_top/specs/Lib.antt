@@ -1,5 +1,6 @@
 pub mod TaskTrails
 pub mod Meaning
+pub mod Examining
 pub mod Promise
 pub mod Programs
 pub mod Trails

@@ -1,12 +1,12 @@
 -- What each job means.
-use Rattle.std.specs.Prelude.{◌≡◌, ◌⊎◌, ℕ, ◌≤◌, Bool, true, false, List, [], ◌∷◌, length, Option, None, IfSome}
+use Rattle.std.specs.Prelude.{◌≡◌, ◌⊎◌, ℕ, ◌≤◌, Bool, true, false, List, [], ◌∷◌, length, Option, None, Some, IfSome}
 use Rattle.mcs_system.specs.Plain.{System}
 use Rattle.mcs_generator.specs.Generated.{generated_system}
 use Rattle.mcs_work.specs.Tasks.{IsTaskText, IsTaskStage}
 use Rattle.mcs_work.specs.declared.task.Task.{Task}
-use Rattle.mcs_work.specs.declared.task.Task.TheVariants.{Equilibria, Grounded, Solve, Make}
+use Rattle.mcs_work.specs.declared.task.Task.TheVariants.{Equilibria, Grounded, Solve, Cheapest, Make}
 use Rattle.mcs_crew.specs.Trails.{IsNoTrail, TrailData}
-use Rattle.mcs_words.specs.Commands.{Word, Request, equilibria, grounded, solve, check, make, IsJobOf}
+use Rattle.mcs_words.specs.Commands.{Word, Request, equilibria, grounded, solve, cheapest, check, make, IsJobOf}
 use Rattle.mcs_check.specs.Validity.{IsProvedListing, IsValidReport, IsFailure}
 use Rattle.mcs_check.specs.Findings.{finding_line}
 use Rattle.mcs_check.specs.declared.finding.Reason.{Reason}
@@ -80,6 +80,10 @@ IsToldValid text m report = IsValidReport m report × (text ≡ finding_line Val
 
 abbrev pub IsToldFailing : List ℕ → System → List ℕ → Type 0
 IsToldFailing text m report = (line : ℕ) × (reason : Reason) × IsFailure m report line reason × (text ≡ finding_line (Fails line reason))
+
+-- it is valid, and the text lists the cheapest diagnoses
+abbrev pub IsToldCheapest : List ℕ → System → List ℕ → Type 0
+IsToldCheapest text m report = IsValidReport m report × IsTaskText Cheapest m text
 
 -- it fails one of the tests
 abbrev pub FailsATest : System → List ℕ → Type 0
@@ -174,6 +178,8 @@ abbrev pub meaning : Request → JobMeaning
 meaning (equilibria file budget workers) = task_job Equilibria file budget workers
 meaning (grounded file budget workers) = task_job Grounded file budget workers
 meaning (solve file budget workers proof) = file_job (IsSolution proof) (IsSolutionStage proof) Solve file budget workers
+meaning (cheapest file None budget workers) = task_job Cheapest file budget workers
+meaning (cheapest file (Some report) budget workers) = report_job IsToldCheapest file report
 meaning (check file report) = report_job IsToldValid file report
 meaning (make number budget workers) = made_job number budget workers
 

@@ -1,8 +1,9 @@
 -- What a task leaves to be seen of its last round: the wires and the word of worker threads.
-use Rattle.std.specs.Prelude.{ℕ, ◌<◌, ◌≤◌, length, Result, Ok, Err}
+use Rattle.std.specs.Prelude.{ℕ, ◌<◌, ◌≤◌, Bool, true, false, length, Result, Ok, Err}
 use Rattle.mcs_system.specs.Plain.{System}
 use Rattle.mcs_work.specs.Tasks.{IsLastTaken}
 use Rattle.mcs_work.specs.declared.task.Task.{Task}
+use Rattle.mcs_work.specs.declared.task.Task.TheVariants.{Equilibria, Grounded, Solve, Cheapest, Make}
 use Rattle.mcs_crew.specs.Trails.{IsNoTrail, TrailData, group_count}
 use Rattle.mcs_crew.specs.Told.{ShowsDone, ShowsSpent}
 use Rattle.mcs_listing.specs.declared.ending.Stop.{Stop}
@@ -15,6 +16,15 @@ UsesFew workers m = group_count workers (length m.contexts) < 2
 -- at least two are
 abbrev pub UsesMany : ℕ → System → Type 0
 UsesMany workers m = 2 ≤ group_count workers (length m.contexts)
+
+-- whether the round of each level is played for the task, even where it has no other questions than one before: at which level
+-- the search for the cheapest diagnoses ends is not known before
+abbrev pub plays_each : Task → Bool
+plays_each Equilibria = false
+plays_each Grounded = false
+plays_each Solve = false
+plays_each Cheapest = true
+plays_each Make = false
 
 -- the task was done: the last round was that of the last level of the task
 pub data ShowsTask (task : Task) (workers : ℕ) (m : System) (t : TrailData) : Type 0 where

@@ -7,10 +7,11 @@ ghost use Rattle.mcs_check.specs.Findings.{finding_line};
 ghost use Rattle.mcs_top.specs.Meaning.{meaning};
 ghost use Rattle.mcs_top.specs.Promise.{DoesJob, outcome_of};
 
+use crate::examining::examine;
 use crate::outcome::Outcome;
 use mcs_base::Text;
-use mcs_check::{Finding, check_report, finding_line};
-use mcs_listing::{Stop, report_in, shared, system_in};
+use mcs_check::{Finding, finding_line};
+use mcs_listing::Stop;
 use mcs_ports::{Shelf, Sink};
 use mcs_text::{Unwritten, write_line};
 use std::alloc::Global;
@@ -28,16 +29,18 @@ pub(crate) fn check<H: Shelf, K: Sink>(
         (H.faults shelf.old) (H.faults shelf.new) (H.failures shelf.old) (H.failures shelf.new)
         (K.device sink.old) (K.device sink.new) result }
 {
-    let read = system_in(alloc, file, shelf)?;
-    let system = shared(alloc, read)?;
-    let bytes = report_in(alloc, report, shelf)?;
-    let finding = check_report(alloc, system, &bytes)?;
+    let examined = examine(alloc, file, report, shelf)?;
+    let finding = examined.checked.finding();
     print_finding(alloc, finding, sink)?;
     Ok(outcome_of(finding))
 }
 
 /// Prints the line of the finding.
-fn print_finding<K: Sink>(alloc: Global, finding: Finding, sink: &mut K) -> Result<(), Unwritten>
+pub(crate) fn print_finding<K: Sink>(
+    alloc: Global,
+    finding: Finding,
+    sink: &mut K,
+) -> Result<(), Unwritten>
     ensures { Writes (finding_line finding) (K.device sink.old) (K.device sink.new) result }
 {
     let mut line = Text::new(alloc);

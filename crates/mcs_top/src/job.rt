@@ -14,6 +14,7 @@ use crate::listing::evaluate;
 use crate::making::generated;
 use crate::outcome::Outcome;
 use crate::proving::prove;
+use crate::reported::cheapest_by_report;
 use mcs_crew::Trail;
 use mcs_listing::Stop;
 use mcs_ports::{Gate, Shelf, Sink};
@@ -72,6 +73,18 @@ pub(crate) fn do_job<H: Shelf, K: Sink, G: Gate + Sync, R: Threads + Wait + Sync
             let assignment = plain(Task::Grounded, *budget, *workers);
             done(evaluate(rt, alloc, assignment, file, shelf, sink, gate, trail))
         }
+        Job::Cheapest {
+            file,
+            report,
+            budget,
+            workers,
+        } => match report {
+            None => {
+                let assignment = plain(Task::Cheapest, *budget, *workers);
+                done(evaluate(rt, alloc, assignment, file, shelf, sink, gate, trail))
+            }
+            Some(report) => cheapest_by_report(alloc, file, report, shelf, sink),
+        },
         Job::Check { file, report } => check(alloc, file, report, shelf, sink),
         Job::Make {
             number,

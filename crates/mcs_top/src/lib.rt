@@ -6,12 +6,14 @@ mod assignment;
 mod checking;
 mod command;
 mod evaluating;
+mod examining;
 mod job;
 mod listing;
 mod making;
 mod outcome;
 mod program;
 mod proving;
+mod reported;
 mod threads;
 
 pub use command::run;

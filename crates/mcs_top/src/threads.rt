@@ -5,12 +5,13 @@ ghost use Rattle.std.specs.Arc.{arc_value};
 ghost use Rattle.std.specs.Thread.{IsSend, IsSync};
 ghost use Rattle.mcs_mesh.specs.Players.{IsPlayed, IsReadyRound, oracles_of};
 ghost use Rattle.mcs_crew.specs.Trails.{IsTrail, trail_of};
-ghost use Rattle.mcs_listing.specs.Working.{CanWork, IsWorked};
+ghost use Rattle.mcs_listing.specs.Working.{CanWork, HasWorked, IsWorked};
 ghost use Rattle.mcs_top.specs.Evaluating.{ShowsWork};
+ghost use Rattle.mcs_top.specs.TaskTrails.{plays_each};
 
 use mcs_crew::{CrewPlayer, Trail, play_in_threads};
 use mcs_listing::{Beginning, work_by};
-use mcs_mesh::{Nodes, Parts, Played, Round};
+use mcs_mesh::{EachLevel, Nodes, Parts, Played, Player, Round};
 use mcs_ports::{Gate, Sink};
 use mcs_states::{Fork, Oracle};
 use mcs_system::System;
@@ -28,8 +29,8 @@ pub(crate) struct Worked<O: Oracle> {
     pub(crate) trail: Trail,
 }
 
-/// Does the task, which has to be defined for the system, with so many workers, but at most one for each context, of which each may be a
-/// thread of its own. It may wait for them.
+/// Does the task, which has to be defined for the system, with so many workers, but at most one for
+/// each context, of which each may be a thread of its own. It may wait for them.
 pub(crate) fn work_in_threads<O: Fork + Send, K: Sink, G: Gate + Sync, R: Threads + Wait + Sync>(
     rt: &R,
     alloc: Global,
@@ -58,11 +59,46 @@ pub(crate) fn work_in_threads<O: Fork + Send, K: Sink, G: Gate + Sync, R: Thread
             result.total (trail_of result.trail) }
     { play_in_threads(rt, alloc, gate, workers, round) };
     let player = CrewPlayer::new(&play, workers);
-    let (ended, parts) = work_by(alloc, beginning, system, player, task, sink);
+    let (ended, parts) = work_with(alloc, beginning, system, player, task, sink);
     let Parts { nodes, trail } = parts;
     Worked {
         ended,
         nodes,
         trail: trail.unwrap_or(Trail::nothing(alloc)),
+    }
+}
+
+/// Does the task, which has to be defined for the system, by rounds that the player plays: that of
+/// each level where the task asks for it.
+fn work_with<P: Player + Drop, K: Sink>(
+    alloc: Global,
+    beginning: Beginning<P::Over>,
+    system: Arc<System>,
+    player: P,
+    task: Task,
+    sink: &mut K,
+) -> (Result<(), WorkStop>, Parts<P::Over, P::Trail>)
+    requires work { CanWork task (arc_value system) (arc_value beginning.plan) beginning.budget
+        (P.Over.seen beginning.nodes) }
+    requires play { P.can_play player }
+    ensures { HasWorked (P.leaves (P.workers player)) P.plays_last (plays_each task)
+        (P.workers player) task (arc_value system) beginning.budget
+        (oracles_of (P.Over.seen beginning.nodes)) (P.Over.seen result.1.nodes) result.1.trail
+        (K.device sink.old) (K.device sink.new) result.0 }
+{
+    if plays_each(task) {
+        work_by(alloc, beginning, system, EachLevel::new(player), task, sink)
+    } else {
+        work_by(alloc, beginning, system, player, task, sink)
+    }
+}
+
+/// Whether the round of each level is played for the task.
+fn plays_each(task: Task) -> bool
+    ensures { result ≡ plays_each task }
+{
+    match task {
+        Task::Cheapest => true,
+        Task::Equilibria | Task::Grounded | Task::Solve | Task::Make => false,
     }
 }

@@ -15,9 +15,9 @@ returns-in-Equilibria g c =
     let any = always_ok c.system_in.result in
     record {
       later = s.later;
-      system = for_others c.args.task c.in-Equilibria.is (λ t. IfOk c.system_in.result (λ m. IfSome files (OfOneFile (IsTextFor t m)))) s.system s.system s.system;
-      defined = for_others c.args.task c.in-Equilibria.is (λ t. IfOk c.system_in.result (IsDefinedFor t)) any any any;
-      stop = for_others c.args.task c.in-Equilibria.is (λ t. IfErr c.system_in.result (λ stop. StopsReading (IsRefusedTask t) stop rose failed files)) s.stop s.stop s.stop;
+      system = for_others c.args.task c.in-Equilibria.is (λ t. IfOk c.system_in.result (λ m. IfSome files (OfOneFile (IsTextFor t m)))) s.system s.system s.system s.system;
+      defined = for_others c.args.task c.in-Equilibria.is (λ t. IfOk c.system_in.result (IsDefinedFor t)) any any any any;
+      stop = for_others c.args.task c.in-Equilibria.is (λ t. IfErr c.system_in.result (λ stop. StopsReading (IsRefusedTask t) stop rose failed files)) s.stop s.stop s.stop s.stop;
     }
 
 pub returns-in-Grounded-clause-system : goal.returns-in-Grounded-clause-system

@@ -18,5 +18,5 @@ returns g c =
     let works = subst (λ (s : EvaluatorState). Works c.args.task [] s e.state before now c.do_task-ended.result.0)
     (c.played_by-evaluation.ensures.state ∙ ap (λ (m : System). evaluator_state_of workers m c.args.beginning.budget None None first) c.requires.work.begins.plan_is) c.do_task-ended.ensures in
     let told = c.into_parts.ensures in
-    worked g.P.Player.leaves g.P.Player.plays_last workers c.args.task (arc_value c.args.system) c.args.beginning.budget first e (g.P.Over.NodeList.seen c.into_parts.result.nodes) c.into_parts.result.trail before now c.do_task-ended.result.0 works
-    told.nodes told.oracles told.own told.shown told.unshown told.halt told.last told.reaches
+    worked g.P.Player.leaves g.P.Player.plays_last g.P.Player.plays_each workers c.args.task (arc_value c.args.system) c.args.beginning.budget first e (g.P.Over.NodeList.seen c.into_parts.result.nodes) c.into_parts.result.trail before now c.do_task-ended.result.0 works
+    told.nodes told.oracles told.own told.shown told.unshown told.halt told.last told.reaches told.each

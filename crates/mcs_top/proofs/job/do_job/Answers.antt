@@ -1,9 +1,9 @@
-use Rattle.std.proofs.Common.{true, false, arith}
+use Rattle.std.proofs.Common.{arith}
 use Rattle.mcs_words.specs.Commands.{make}
 use Rattle.mcs_top.proofs.StageLemmas.{made_output, made_causes, made_leaves}
 use Rattle.mcs_top.proofs.DoingLemmas.{does_done}
 use Rattle.mcs_crew.specs.Trails.{trail_of}
-use Rattle.mcs_top.specs.Meaning.{IsToldValid, meaning}
+use Rattle.mcs_top.specs.Meaning.{IsToldCheapest, IsToldValid, meaning}
 use Rattle.mcs_top.proofs.JobTrails.{check_left, made_left}
 use Rattle.mcs_top.proofs.job.do_job.Goals as goal
 
@@ -20,6 +20,10 @@ returns-else-proof-clause-does g c = rw (c.in-Solve.is, c.if-proof.false, ← c.
 pub returns-in-Grounded-clause-does : goal.returns-in-Grounded-clause-does
 returns-in-Grounded-clause-does g c = rw (c.in-Grounded.is, ← c.deref-in-Grounded.ensures, c.done-in-Grounded.ensures)
     (rw (c.plain-assignment-in-Grounded.ensures.task, c.plain-assignment-in-Grounded.ensures.budget, c.plain-assignment-in-Grounded.ensures.workers) at c.evaluate-in-Grounded.ensures.does)
+
+pub returns-in-None-clause-does : goal.returns-in-None-clause-does
+returns-in-None-clause-does g c = rw (c.in-Cheapest.is, c.in-None.is, ← c.deref-in-None.ensures, c.done-in-None.ensures)
+    (rw (c.plain-assignment-in-None.ensures.task, c.plain-assignment-in-None.ensures.budget, c.plain-assignment-in-None.ensures.workers) at c.evaluate-in-None.ensures.does)
 
 pub returns-in-Make-clause-does : goal.returns-in-Make-clause-does
 returns-in-Make-clause-does g c = rw (c.in-Make.is, c.done-in-Make.ensures) (does_done (meaning (make c.in-Make.number c.in-Make.budget c.in-Make.workers)) (g.H.Shelf.held c.args.shelf.now) _ _ _ _ _ _ (λ fs h. h) (omega arith) c.generated.result c.generated.ensures.sink
@@ -40,6 +44,12 @@ returns-else-proof-clause-unread g c none = absurd (let no = rw c.in-Solve.is at
 pub returns-in-Grounded-clause-unread : goal.returns-in-Grounded-clause-unread
 returns-in-Grounded-clause-unread g c none = absurd (let no = rw c.in-Grounded.is at none in cc)
 
+pub returns-in-None-clause-unread : goal.returns-in-None-clause-unread
+returns-in-None-clause-unread g c none = absurd (let no = rw (c.in-Cheapest.is, c.in-None.is) at none in cc)
+
+pub returns-in-Some-clause-unread : goal.returns-in-Some-clause-unread
+returns-in-Some-clause-unread g c none = absurd (let no = rw (c.in-Cheapest.is, c.in-Some.is) at none in cc)
+
 pub returns-in-Check-clause-unread : goal.returns-in-Check-clause-unread
 returns-in-Check-clause-unread g c none = absurd (let no = rw c.in-Check.is at none in cc)
 
@@ -58,6 +68,13 @@ returns-else-proof-clause-trail g c none = rw (c.in-Solve.is, c.if-proof.false, 
 pub returns-in-Grounded-clause-trail : goal.returns-in-Grounded-clause-trail
 returns-in-Grounded-clause-trail g c none = rw (c.in-Grounded.is, ← c.deref-in-Grounded.ensures, c.done-in-Grounded.ensures)
     (rw (c.plain-assignment-in-Grounded.ensures.task, c.plain-assignment-in-Grounded.ensures.budget, c.plain-assignment-in-Grounded.ensures.workers) at c.evaluate-in-Grounded.ensures.trail none)
+
+pub returns-in-None-clause-trail : goal.returns-in-None-clause-trail
+returns-in-None-clause-trail g c none = rw (c.in-Cheapest.is, c.in-None.is, ← c.deref-in-None.ensures, c.done-in-None.ensures)
+    (rw (c.plain-assignment-in-None.ensures.task, c.plain-assignment-in-None.ensures.budget, c.plain-assignment-in-None.ensures.workers) at c.evaluate-in-None.ensures.trail none)
+
+pub returns-in-Some-clause-trail : goal.returns-in-Some-clause-trail
+returns-in-Some-clause-trail g c none = rw (c.in-Cheapest.is, c.in-Some.is) (check_left IsToldCheapest _ _ _ (trail_of c.args.trail.now) none c.cheapest_by_report.result)
 
 pub returns-in-Check-clause-trail : goal.returns-in-Check-clause-trail
 returns-in-Check-clause-trail g c none = rw c.in-Check.is (check_left IsToldValid _ _ _ (trail_of c.args.trail.now) none c.check.result)
