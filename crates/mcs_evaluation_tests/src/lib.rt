@@ -9,6 +9,8 @@ mod answers;
 #[cfg(test)]
 mod certificates;
 #[cfg(test)]
+mod cheapest;
+#[cfg(test)]
 mod evaluators;
 #[cfg(test)]
 mod generated;

@@ -1,5 +1,4 @@
-//! Listings of systems that have a rule which is kept or closed. No text spells that, so copies are
-//! marked.
+//! Listings of systems that have a rule which is kept or closed: marked copies of unmarked systems.
 
 use crate::evaluators::evaluator_of;
 use crate::systems::{SELF_ATTACK, system_of};

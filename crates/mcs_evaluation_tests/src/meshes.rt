@@ -68,7 +68,7 @@ const DIAGNOSES: &[&[u32]] = &[&[0], &[12], &[14], &[16], &[2, 4], &[6, 8, 10]];
 const LEVELS: &[(u32, usize)] = &[(0, 0), (1, 4), (2, 5), (3, 6)];
 
 /// The set of these marks.
-fn marks_of(members: &[u32]) -> Marks {
+pub(crate) fn marks_of(members: &[u32]) -> Marks {
     let mut marks = Marks::empty();
     for mark in members {
         if *mark < 128 {

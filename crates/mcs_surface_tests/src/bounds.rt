@@ -1,8 +1,8 @@
 //! Systems at the bounds of what is evaluated.
 
 use crate::made::{Rows, text_of};
-use crate::runs::{JOB, made_ends, sink_of, status_of};
-use mcs_base::Memory;
+use crate::runs::{JOB, Made, SOUND, all_made_end, made_ends, sink_of, status_with};
+use mcs_ports::IdleGate;
 use std::alloc::Global;
 use std::sync::Wait;
 use std::thread::Threads;
@@ -127,17 +127,20 @@ fn are_all_sets(written: &[u8]) -> bool {
         && written.ends_with(EIGHT_FREE_BACK.as_bytes())
 }
 
-fn are_all_sets_listed<R: Threads + Wait + Sync>(rt: &R, alloc: Global) -> Result<bool, Memory> {
-    let mut sink = sink_of(alloc)?;
-    let status = status_of(rt, alloc, JOB, &[("f", EIGHT_FREE.as_bytes())], &mut sink);
-    let (is_noted, are_written) = (!sink.noted().is_empty(), are_all_sets(sink.written()));
+fn are_all_sets_listed<R: Threads + Wait + Sync>(rt: &R, alloc: Global) -> bool {
+    let Ok(mut sink) = sink_of(alloc, &SOUND) else {
+        return false;
+    };
+    let files: [(&str, &[u8]); 1] = [("f", EIGHT_FREE.as_bytes())];
+    let status = status_with(rt, alloc, JOB, &files, &SOUND, &mut sink, &IdleGate);
+    let are_listed = status == Some(0) && sink.noted().is_empty() && are_all_sets(sink.written());
     drop(sink);
-    Ok((status == Ok(0)) & !is_noted & are_written)
+    are_listed
 }
 
 #[test]
 fn all_sets_of_8_variables_are_listed(rt: HostRuntime) {
-    assert!(rt; are_all_sets_listed(&rt, rt.alloc()) == Ok(true));
+    assert!(rt; are_all_sets_listed(&rt, rt.alloc()));
 }
 
 /// 64 contexts and 64 rules, of which 12 go into the first context and one into each of the last
@@ -152,21 +155,43 @@ const WIDE_LISTING: &str =
     "mcs 1: 64 contexts, 64 rules, 2 variables\nequilibrium 1: {n0:x11, n63:y} applicable {r0, r1, r2, r3, r4, r5, r6, r7, r8, r9, r10, r11, r12, r13, r14, r15, r16, r17, r18, r19, r20, r21, r22, r23, r24, r25, r26, r27, r28, r29, r30, r31, r32, r33, r34, r35, r36, r37, r38, r39, r40, r41, r42, r43, r44, r45, r46, r47, r48, r49, r50, r51, r52, r53, r54, r55, r56, r57, r58, r59, r60, r61, r62, r63}\nequilibrium 2: {} applicable {}\nconsistent\nend: 2 equilibria, need 117\n";
 
 /// Systems at the bounds, and their whole listings.
-const LISTINGS: &[(&[Rows], &str)] = &[
-    (&CHAIN, LAST_ATOM),
-    (&PROGRAM, LAST_ATOM),
-    (&FOUR_IN_THREE, BOTH_SEATS),
-    (&FIVE_IN_FIVE, NO_SEAT),
+static LISTINGS: [Made; 5] = [
+    Made {
+        rows: &CHAIN,
+        status: 0,
+        written: LAST_ATOM,
+        noted: "",
+    },
+    Made {
+        rows: &PROGRAM,
+        status: 0,
+        written: LAST_ATOM,
+        noted: "",
+    },
+    Made {
+        rows: &FOUR_IN_THREE,
+        status: 0,
+        written: BOTH_SEATS,
+        noted: "",
+    },
+    Made {
+        rows: &FIVE_IN_FIVE,
+        status: 0,
+        written: NO_SEAT,
+        noted: "",
+    },
     // As many contexts and rules as may be.
-    (&WIDE, WIDE_LISTING),
+    Made {
+        rows: &WIDE,
+        status: 0,
+        written: WIDE_LISTING,
+        noted: "",
+    },
 ];
 
 #[test]
 fn systems_at_the_bounds_are_listed(rt: HostRuntime) {
-    for (rows, listing) in LISTINGS {
-        let end = (0, listing.as_bytes(), "");
-        assert!(rt; made_ends(&rt, rt.alloc(), rows, end) == Ok(true));
-    }
+    assert!(rt; all_made_end(&rt, rt.alloc(), &LISTINGS));
 }
 
 /// Contexts in a ring, each of which takes over what the one before it believes.
@@ -195,18 +220,16 @@ fn ring_listing(count: u64) -> [Rows; 6] {
     ]
 }
 
-fn is_ring_listed<R: Threads + Wait + Sync>(
-    rt: &R,
-    alloc: Global,
-    count: u64,
-) -> Result<bool, Memory> {
-    let listing = text_of(alloc, &ring_listing(count))?;
-    made_ends(rt, alloc, &ring(count), (0, listing.bytes(), ""))
+fn is_ring_listed<R: Threads + Wait + Sync>(rt: &R, alloc: Global, count: u64) -> bool {
+    let Ok(listing) = text_of(alloc, &ring_listing(count)) else {
+        return false;
+    };
+    let is_listed = made_ends(rt, alloc, &ring(count), (0, listing.bytes(), ""));
+    drop(listing);
+    is_listed
 }
 
 #[test]
 fn rings_of_contexts_are_listed(rt: HostRuntime) {
-    for count in [3, 64] {
-        assert!(rt; is_ring_listed(&rt, rt.alloc(), count) == Ok(true));
-    }
+    assert!(rt; is_ring_listed(&rt, rt.alloc(), 3) && is_ring_listed(&rt, rt.alloc(), 64));
 }

@@ -1,6 +1,6 @@
 //! Runs within a budget of questions.
 
-use crate::runs::{Run, SELF_ATTACK, SELF_DENIAL};
+use crate::runs::{Run, SELF_ATTACK, SELF_DENIAL, all_end};
 
 /// Two contexts of which each is asked twice.
 const CHOICE: &str =
@@ -11,7 +11,7 @@ pub(crate) const TOLD: &str =
     "context c1 program { a. }\ncontext c2 program { :- p. }\nbridge r1: c2:p if c1:a.\n";
 
 /// A budget below the need leaves what is listed before its level.
-pub(crate) const RUNS: [Run; 8] = [
+pub(crate) static RUNS: [Run; 8] = [
     Run {
         words: "equilibria f --budget 1",
         text: SELF_ATTACK,
@@ -73,7 +73,5 @@ pub(crate) const RUNS: [Run; 8] = [
 
 #[test]
 fn budgets_suffice_or_leave_what_is_before_their_level(rt: HostRuntime) {
-    for run in &RUNS {
-        assert!(rt; run.ends_so(&rt, rt.alloc()) == Ok(true));
-    }
+    assert!(rt; all_end(&rt, rt.alloc(), &RUNS));
 }

@@ -1,8 +1,7 @@
 //! Runs in which several threads ask the same context at once.
 
-use crate::runs::{sink_of, status_with};
+use crate::runs::{SOUND, ends_with};
 use crate::workers::are_same;
-use mcs_base::Memory;
 use mcs_ports::Gate;
 use std::alloc::Global;
 use std::sync::Wait;
@@ -17,16 +16,6 @@ struct Crowd {
     seen: AtomicBool,
     /// For how many turns it keeps one at most.
     turns: u64,
-}
-
-impl Crowd {
-    fn new(turns: u64) -> Self {
-        Crowd {
-            inside: AtomicU64::new(0),
-            seen: AtomicBool::new(false),
-            turns,
-        }
-    }
 }
 
 impl Gate for Crowd {
@@ -63,29 +52,30 @@ fn is_crowded<R: Threads + Wait + Sync>(
     alloc: Global,
     words: &str,
     turns: u64,
-) -> Result<Option<bool>, Memory> {
-    let gate = Crowd::new(turns);
-    let mut sink = sink_of(alloc)?;
+) -> Option<bool> {
+    let gate = Crowd {
+        inside: AtomicU64::new(0),
+        seen: AtomicBool::new(false),
+        turns,
+    };
     let files: [(&str, &[u8]); 1] = [("f", EIGHT.as_bytes())];
-    let status = status_with(rt, alloc, words, &files, &mut sink, &gate)?;
-    if status != 0 || sink.written() != EIGHT_LISTING.as_bytes() {
-        return Ok(None);
-    }
-    Ok(Some(gate.seen.load(Ordering::SeqCst)))
+    let end = (0, EIGHT_LISTING.as_bytes(), "");
+    let is_listed = ends_with(rt, alloc, words, &files, &SOUND, &gate, end);
+    is_listed.then_some(gate.seen.load(Ordering::SeqCst))
 }
 
 #[test]
 fn a_worker_that_waits_helps_to_ask(rt: HostRuntime) {
-    assert!(rt; is_crowded(&rt, rt.alloc(), "solve f --workers 2", 1_000_000) == Ok(Some(true)));
+    assert!(rt; is_crowded(&rt, rt.alloc(), "solve f --workers 2", 1_000_000) == Some(true));
 }
 
 #[test]
 fn one_worker_asks_alone(rt: HostRuntime) {
-    assert!(rt; is_crowded(&rt, rt.alloc(), "solve f --workers 1", 1000) == Ok(Some(false)));
+    assert!(rt; is_crowded(&rt, rt.alloc(), "solve f --workers 1", 1000) == Some(false));
 }
 
 #[test]
 fn questions_in_parts_have_the_same_answers(rt: HostRuntime) {
     let end = (0, EIGHT_LISTING.as_bytes(), "");
-    assert!(rt; are_same(&rt, rt.alloc(), "solve f", EIGHT, end) == Ok(true));
+    assert!(rt; are_same(&rt, rt.alloc(), "solve f", EIGHT, end));
 }

@@ -1,6 +1,6 @@
 //! Texts that are cut at each byte.
 
-use crate::breaking::{SOUND, ends};
+use crate::runs::{JOB, ends};
 use mcs_base::Memory;
 use std::alloc::Global;
 use std::sync::Wait;
@@ -113,21 +113,30 @@ fn noted_of(alloc: Global, outcome: Outcome) -> Result<String, Memory> {
 }
 
 /// Whether the equilibria of the text that is cut to this length end as told.
-fn is_told<R: Threads + Wait + Sync>(rt: &R, alloc: Global, length: usize) -> Result<bool, Memory> {
+fn is_told<R: Threads + Wait + Sync>(rt: &R, alloc: Global, length: usize) -> bool {
     let front = TEXT.as_bytes().get(..length).unwrap_or(b"");
     let outcome = told(length);
-    let noted = noted_of(alloc, outcome)?;
+    let Ok(noted) = noted_of(alloc, outcome) else {
+        return false;
+    };
     let (status, written) = written_of(outcome);
     let end = (status, written.as_bytes(), noted.as_str());
-    let is_told = ends(rt, alloc, "equilibria f", &[("f", front)], SOUND, end);
+    let is_told = ends(rt, alloc, JOB, front, end);
     drop(noted);
     is_told
 }
 
+/// Whether this is so of each length.
+fn are_told<R: Threads + Wait + Sync>(rt: &R, alloc: Global) -> bool {
+    for length in 0..LENGTH + 1 {
+        if !is_told(rt, alloc, length) {
+            return false;
+        }
+    }
+    true
+}
+
 #[test]
 fn a_text_that_is_cut_is_told_to_be(rt: HostRuntime) {
-    assert!(rt; TEXT.len() == LENGTH);
-    for length in 0..LENGTH + 1 {
-        assert!(rt; is_told(&rt, rt.alloc(), length) == Ok(true));
-    }
+    assert!(rt; TEXT.len() == LENGTH && are_told(&rt, rt.alloc()));
 }

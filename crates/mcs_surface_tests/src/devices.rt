@@ -1,10 +1,11 @@
 //! Devices that fail.
 
-use crate::breaking::{Devices, ends, ends_over, lines};
-use crate::reports::{CONTRADICTION, TOLD, TOLD_REPORT};
-use crate::runs::End;
+use crate::cheapest::TOLD_LISTING;
+use crate::reports::{CONTRADICTION, TOLD, TOLD_REPORT, lines};
+use crate::runs::{Devices, End, ends_with};
 use crate::wards::{WARDS, WARDS_LISTING};
 use mcs_base::Memory;
+use mcs_ports::IdleGate;
 use std::alloc::Global;
 use std::sync::Wait;
 use std::thread::Threads;
@@ -51,7 +52,7 @@ struct Job {
     noted: &'static str,
 }
 
-static JOBS: [Job; 11] = [
+static JOBS: [Job; 12] = [
     // A file of 5047 bytes is opened; 4096 bytes of it are read, then what is left, and then
     // nothing. One that is shorter is read at once, and an empty one has nothing to read.
     Job {
@@ -130,6 +131,19 @@ static JOBS: [Job; 11] = [
         most: 4096,
         status: 0,
         written: "valid\n",
+        noted: "",
+    },
+    Job {
+        words: "cheapest f r",
+        has_files: true,
+        line_feeds: 0,
+        text: TOLD,
+        report: TOLD_REPORT,
+        calls: 6,
+        writes: 4,
+        most: 4096,
+        status: 0,
+        written: TOLD_LISTING,
         noted: "",
     },
     // Each write is of one byte.
@@ -234,12 +248,7 @@ impl Job {
 
     /// Whether the run ends so where a call or a write fails: the call with this number, up to one
     /// past the last, and then the writes.
-    fn is_told<R: Threads + Wait + Sync>(
-        &self,
-        rt: &R,
-        alloc: Global,
-        number: usize,
-    ) -> Result<bool, Memory> {
+    fn is_told<R: Threads + Wait + Sync>(&self, rt: &R, alloc: Global, number: usize) -> bool {
         let past = number.saturating_sub(self.calls.saturating_add(1));
         let call = if past == 0 { number } else { 0 };
         let devices = Devices {
@@ -248,31 +257,30 @@ impl Job {
             most: self.most,
         };
         let end = self.end(call, past);
-        if self.has_files {
-            let text = self.file(alloc)?;
-            let report = self.report.as_bytes();
-            let is_told = ends_over(rt, alloc, self.words, &text, report, devices, end);
-            drop(text);
-            is_told
-        } else {
-            ends(rt, alloc, self.words, &[], devices, end)
+        if !self.has_files {
+            return ends_with(rt, alloc, self.words, &[], &devices, &IdleGate, end);
         }
+        let Ok(text) = self.file(alloc) else {
+            return false;
+        };
+        let files: [(&str, &[u8]); 2] = [("f", &text), ("r", self.report.as_bytes())];
+        ends_with(rt, alloc, self.words, &files, &devices, &IdleGate, end)
     }
 
     /// Whether it ends so where none fails, and for each that may.
-    fn are_told<R: Threads + Wait + Sync>(&self, rt: &R, alloc: Global) -> Result<bool, Memory> {
+    fn are_told<R: Threads + Wait + Sync>(&self, rt: &R, alloc: Global) -> bool {
         for number in 0..self.calls.saturating_add(self.writes).saturating_add(3) {
-            if !self.is_told(rt, alloc, number)? {
-                return Ok(false);
+            if !self.is_told(rt, alloc, number) {
+                return false;
             }
         }
-        Ok(true)
+        true
     }
 }
 
 #[test]
 fn each_call_and_each_write_may_fail(rt: HostRuntime) {
     for job in &JOBS {
-        assert!(rt; job.are_told(&rt, rt.alloc()) == Ok(true));
+        assert!(rt; job.are_told(&rt, rt.alloc()));
     }
 }

@@ -1,7 +1,6 @@
 //! What a gate is told of the questions of a run.
 
-use crate::runs::{sink_of, status_with};
-use mcs_base::Memory;
+use crate::runs::{SOUND, sink_of, status_with};
 use mcs_ports::Gate;
 use std::alloc::Global;
 use std::sync::Wait;
@@ -17,22 +16,11 @@ struct Counts {
 }
 
 impl Counts {
-    /// No question yet.
-    fn new() -> Self {
-        Counts {
-            first: AtomicU64::new(0),
-            second: AtomicU64::new(0),
-            other: AtomicU64::new(0),
-        }
-    }
-
-    /// The three counts.
-    fn counted(&self) -> (u64, u64, u64) {
-        (
-            self.first.load(Ordering::SeqCst),
-            self.second.load(Ordering::SeqCst),
-            self.other.load(Ordering::SeqCst),
-        )
+    /// Whether these are the three counts.
+    fn are(&self, (first, second, other): (u64, u64, u64)) -> bool {
+        self.first.load(Ordering::SeqCst) == first
+            && self.second.load(Ordering::SeqCst) == second
+            && self.other.load(Ordering::SeqCst) == other
     }
 }
 
@@ -60,18 +48,24 @@ fn is_called<R: Threads + Wait + Sync>(
     words: &str,
     status: u8,
     counted: (u64, u64, u64),
-) -> Result<bool, Memory> {
-    let mut sink = sink_of(alloc)?;
-    let gate = Counts::new();
+) -> bool {
+    let Ok(mut sink) = sink_of(alloc, &SOUND) else {
+        return false;
+    };
+    let gate = Counts {
+        first: AtomicU64::new(0),
+        second: AtomicU64::new(0),
+        other: AtomicU64::new(0),
+    };
     let files: [(&str, &[u8]); 1] = [("f", FORBIDDEN.as_bytes())];
-    let ended = status_with(rt, alloc, words, &files, &mut sink, &gate);
+    let ended = status_with(rt, alloc, words, &files, &SOUND, &mut sink, &gate);
     drop(sink);
-    Ok(ended == Ok(status) && gate.counted() == counted)
+    ended == Some(status) && gate.are(counted)
 }
 
 /// Words, the status with which they end, and the questions. Where the budget does not suffice for
 /// a context, nothing is asked of it at that level.
-const CALLS: [(&str, u8, (u64, u64, u64)); 4] = [
+static CALLS: [(&str, u8, (u64, u64, u64)); 4] = [
     ("equilibria f", 0, (1, 1, 0)),
     ("solve f", 0, (1, 4, 0)),
     ("solve f --budget 1", 4, (1, 0, 0)),
@@ -81,6 +75,6 @@ const CALLS: [(&str, u8, (u64, u64, u64)); 4] = [
 #[test]
 fn the_gate_is_called_once_before_each_question(rt: HostRuntime) {
     for (words, status, counted) in &CALLS {
-        assert!(rt; is_called(&rt, rt.alloc(), words, *status, *counted) == Ok(true));
+        assert!(rt; is_called(&rt, rt.alloc(), words, *status, *counted));
     }
 }

@@ -1,8 +1,8 @@
 //! Grounded equilibria: systems by their texts, and their listings.
 
-use crate::runs::{Run, SELF_ATTACK, SELF_SUPPORT};
+use crate::runs::{Run, SELF_ATTACK, SELF_SUPPORT, all_end};
 
-pub const RUNS: [Run; 14] = [
+pub static RUNS: [Run; 14] = [
     // A rule that supports itself.
     Run {
         words: "grounded f",
@@ -117,7 +117,5 @@ pub const RUNS: [Run; 14] = [
 
 #[test]
 fn grounded_equilibria_are_listed(rt: HostRuntime) {
-    for run in &RUNS {
-        assert!(rt; run.ends_so(&rt, rt.alloc()) == Ok(true));
-    }
+    assert!(rt; all_end(&rt, rt.alloc(), &RUNS));
 }

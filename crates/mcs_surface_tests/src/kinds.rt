@@ -1,8 +1,8 @@
 //! Default theories and programs by their texts, and their listings.
 
-use crate::runs::{JOB, Listed};
+use crate::runs::{JOB, Listed, all_given};
 
-const LISTINGS: [Listed; 20] = [
+static LISTINGS: [Listed; 20] = [
     // Two extensions.
     Listed {
         text: "context c1 default {\n  quaker. republican.\n  quaker : pacifist / pacifist.\n  republican : ~pacifist / ~pacifist.\n}\ncontext c2 classical {}\nbridge r1: c2:vote if c1:pacifist.\n",
@@ -107,7 +107,5 @@ const LISTINGS: [Listed; 20] = [
 
 #[test]
 fn contexts_of_each_kind_are_evaluated(rt: HostRuntime) {
-    for listed in &LISTINGS {
-        assert!(rt; listed.is_given(&rt, rt.alloc(), JOB) == Ok(true));
-    }
+    assert!(rt; all_given(&rt, rt.alloc(), JOB, &LISTINGS));
 }

@@ -1,24 +1,17 @@
 //! Files at the greatest length.
 
-use crate::breaking::{SOUND, ends};
 use crate::devices::EMPTY_LISTING;
-use crate::runs::End;
-use mcs_base::Memory;
+use crate::runs::{End, ends};
 use std::alloc::Global;
 use std::sync::Wait;
 use std::thread::Threads;
 
 /// Whether a file of as many spaces ends so.
-fn spaces_end<R: Threads + Wait + Sync>(
-    rt: &R,
-    alloc: Global,
-    count: usize,
-    end: End<'_>,
-) -> Result<bool, Memory> {
-    let spaces = vec![in alloc; b' '; count]?;
-    let are_told = ends(rt, alloc, "solve f", &[("f", &spaces)], SOUND, end);
-    drop(spaces);
-    are_told
+fn spaces_end<R: Threads + Wait + Sync>(rt: &R, alloc: Global, count: usize, end: End<'_>) -> bool {
+    let Ok(spaces) = vec![in alloc; b' '; count] else {
+        return false;
+    };
+    ends(rt, alloc, "solve f", &spaces, end)
 }
 
 /// How many spaces there are, and how the run ends.
@@ -31,6 +24,6 @@ static SPACES: [(usize, u8, &str, &str); 2] = [
 fn files_are_taken_up_to_a_length(rt: HostRuntime) {
     for (count, status, written, noted) in &SPACES {
         let end = (*status, written.as_bytes(), *noted);
-        assert!(rt; spaces_end(&rt, rt.alloc(), *count, end) == Ok(true));
+        assert!(rt; spaces_end(&rt, rt.alloc(), *count, end));
     }
 }

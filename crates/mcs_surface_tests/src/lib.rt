@@ -6,9 +6,9 @@
 #[cfg(test)]
 mod bounds;
 #[cfg(test)]
-mod breaking;
-#[cfg(test)]
 mod budgets;
+#[cfg(test)]
+mod cheapest;
 #[cfg(test)]
 mod crowd;
 #[cfg(test)]

@@ -1,9 +1,9 @@
 //! Generated systems, in runs of `make`.
 
-use crate::runs::Run;
+use crate::runs::{Run, all_end};
 
 /// What is made, and what is printed for it.
-const MADE: [Run; 3] = [
+static MADE: [Run; 3] = [
     // The number nought: a program that chooses, and a classical context that reads it.
     Run {
         words: "make 0",
@@ -32,7 +32,5 @@ const MADE: [Run; 3] = [
 
 #[test]
 fn systems_are_made(rt: HostRuntime) {
-    for run in &MADE {
-        assert!(rt; run.ends_so(&rt, rt.alloc()) == Ok(true));
-    }
+    assert!(rt; all_end(&rt, rt.alloc(), &MADE));
 }

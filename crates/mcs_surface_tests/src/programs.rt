@@ -1,71 +1,106 @@
 //! Runs of the whole program, from the words that a system gives.
 
-use crate::runs::{End, SELF_SUPPORT, SELF_SUPPORT_LISTING, shelf_of, sink_of, words_of};
+use crate::runs::{End, SELF_SUPPORT, SELF_SUPPORT_LISTING, SOUND, shelf_of, sink_of, words_of};
 use mcs_base::Memory;
-use mcs_ports::{IdleGate, MemoryShelf, MemorySink};
+use mcs_ports::{IdleGate, MemorySink};
 use mcs_top::run_program;
 use std::alloc::Global;
 use std::sync::Wait;
 use std::thread::Threads;
 use std::{env, io};
 
-/// A shelf with a file `f`, and a sink.
-fn devices_of(alloc: Global) -> Result<(MemoryShelf, MemorySink), Memory> {
-    let shelf = shelf_of(alloc, &[("f", SELF_SUPPORT.as_bytes())])?;
-    Ok((shelf, sink_of(alloc)?))
+/// What the system gives: the words of a line, or an error in their place.
+enum Given {
+    Line(&'static str),
+    Error(io::ErrorKind),
 }
 
-/// Whether the program ends so on these words, over these devices.
+impl Given {
+    /// It, as the program takes it.
+    fn words(&self, alloc: Global) -> Result<io::Result<env::Args>, Memory> {
+        match self {
+            Given::Line(line) => Ok(Ok(words_of(alloc, line)?.into_iter())),
+            Given::Error(kind) => Ok(Err(io::Error::from(*kind))),
+        }
+    }
+}
+
+/// The number with which the program ends on this, over a file `f`.
+fn number_of<R: Threads + Wait + Sync>(
+    rt: &R,
+    alloc: Global,
+    given: &Given,
+    sink: &mut MemorySink,
+) -> Option<u8> {
+    let files: [(&str, &[u8]); 1] = [("f", SELF_SUPPORT.as_bytes())];
+    let Ok(mut shelf) = shelf_of(alloc, &files, &SOUND) else {
+        return None;
+    };
+    let number = match given.words(alloc) {
+        Ok(words) => Some(run_program(rt, alloc, words, &mut shelf, sink, &IdleGate)),
+        Err(_) => None,
+    };
+    drop(shelf);
+    number
+}
+
+/// Whether the program ends so on this, over a file `f`.
 fn is_run<R: Threads + Wait + Sync>(
     rt: &R,
     alloc: Global,
-    words: io::Result<env::Args>,
-    (mut shelf, mut sink): (MemoryShelf, MemorySink),
+    given: &Given,
     (number, written, noted): End<'_>,
 ) -> bool {
-    let ended = run_program(rt, alloc, words, &mut shelf, &mut sink, &IdleGate);
-    let (is_written, is_noted) = (sink.written() == written, sink.noted() == noted.as_bytes());
-    (ended == number) & is_written & is_noted
+    let Ok(mut sink) = sink_of(alloc, &SOUND) else {
+        return false;
+    };
+    let ended = number_of(rt, alloc, given, &mut sink);
+    let is_right = ended == Some(number)
+        && sink.written() == written
+        && sink.noted() == noted.as_bytes();
+    drop(sink);
+    is_right
 }
 
-/// Whether it ends so on the words of the line, over a file `f`.
-fn is_line_run<R: Threads + Wait + Sync>(
-    rt: &R,
-    alloc: Global,
-    line: &str,
-    end: End<'_>,
-) -> Result<bool, Memory> {
-    let devices = devices_of(alloc)?;
-    let words = words_of(alloc, line)?;
-    Ok(is_run(rt, alloc, Ok(words.into_iter()), devices, end))
+/// What the system gives, and how the program ends: its number, what is written and what is noted.
+type Row = (Given, u8, &'static str, &'static str);
+
+/// Whether the program ends so in each row.
+fn are_run<R: Threads + Wait + Sync>(rt: &R, alloc: Global, rows: &[Row]) -> bool {
+    let mut are_right = true;
+    for (given, number, written, noted) in rows {
+        let end = (*number, written.as_bytes(), *noted);
+        are_right = are_right && is_run(rt, alloc, given, end);
+    }
+    are_right
 }
 
 const USAGE: &str = "mcs: usage: mcs JOB FILE [REPORT] [--budget N] [--workers N] [--proof]\n";
 
+static LINES: [Row; 5] = [
+    (Given::Line("mcs equilibria f"), 0, SELF_SUPPORT_LISTING, ""),
+    (Given::Line(""), 2, "", USAGE),
+    (Given::Line("mcs"), 2, "", USAGE),
+    (Given::Line("equilibria f"), 2, "", USAGE),
+    (Given::Line("mcs mcs equilibria f"), 2, "", USAGE),
+];
+
 #[test]
 fn the_name_of_the_program_is_left_out(rt: HostRuntime) {
-    let listed = (0, SELF_SUPPORT_LISTING.as_bytes(), "");
-    assert!(rt; is_line_run(&rt, rt.alloc(), "mcs equilibria f", listed) == Ok(true));
-    for line in ["", "mcs", "equilibria f", "mcs mcs equilibria f"] {
-        assert!(rt; is_line_run(&rt, rt.alloc(), line, (2, b"", USAGE)) == Ok(true));
-    }
+    assert!(rt; are_run(&rt, rt.alloc(), &LINES));
 }
 
-/// Whether it ends so where the words do not come.
-fn is_unheard<R: Threads + Wait + Sync>(
-    rt: &R,
-    alloc: Global,
-    kind: io::ErrorKind,
-    end: End<'_>,
-) -> Result<bool, Memory> {
-    let devices = devices_of(alloc)?;
-    Ok(is_run(rt, alloc, Err(io::Error::from(kind)), devices, end))
-}
+static ERRORS: [Row; 2] = [
+    (Given::Error(io::ErrorKind::InvalidData), 2, "", USAGE),
+    (
+        Given::Error(io::ErrorKind::OutOfMemory),
+        7,
+        "",
+        "mcs: out of memory\n",
+    ),
+];
 
 #[test]
 fn words_that_do_not_come_are_no_job(rt: HostRuntime) {
-    let unheard = (2, b"".as_slice(), USAGE);
-    assert!(rt; is_unheard(&rt, rt.alloc(), io::ErrorKind::InvalidData, unheard) == Ok(true));
-    let wanting = (7, b"".as_slice(), "mcs: out of memory\n");
-    assert!(rt; is_unheard(&rt, rt.alloc(), io::ErrorKind::OutOfMemory, wanting) == Ok(true));
+    assert!(rt; are_run(&rt, rt.alloc(), &ERRORS));
 }

@@ -1,9 +1,9 @@
 //! Texts that are refused, and what is noted of them.
 
 use crate::made::Rows;
-use crate::runs::{Run, SELF_SUPPORT, made_ends};
+use crate::runs::{Made, Run, SELF_SUPPORT, all_end, all_made_end};
 
-const REFUSALS: [Run; 7] = [
+static REFUSALS: [Run; 7] = [
     Run {
         words: "equilibria f",
         text: "context c1 program { a. }\nbridge r1: c1:b if c1:",
@@ -58,9 +58,7 @@ const REFUSALS: [Run; 7] = [
 
 #[test]
 fn texts_are_refused_for_what_is_wrong_with_them(rt: HostRuntime) {
-    for run in &REFUSALS {
-        assert!(rt; run.ends_so(&rt, rt.alloc()) == Ok(true));
-    }
+    assert!(rt; all_end(&rt, rt.alloc(), &REFUSALS));
 }
 
 /// A formula with 512 signs before its atom.
@@ -78,17 +76,22 @@ const MANY_RULES: [Rows; 3] = [
 ];
 
 /// Texts beyond a limit, and what is noted of them.
-const BEYOND: &[(&[Rows], &str)] = &[
-    (&LARGE, "mcs: refused: F5 at 535: formula_size 512\n"),
-    (
-        &MANY_RULES,
-        "mcs: refused: F5 at 250: rules_per_context 12\n",
-    ),
+static BEYOND: [Made; 2] = [
+    Made {
+        rows: &LARGE,
+        status: 3,
+        written: "",
+        noted: "mcs: refused: F5 at 535: formula_size 512\n",
+    },
+    Made {
+        rows: &MANY_RULES,
+        status: 3,
+        written: "",
+        noted: "mcs: refused: F5 at 250: rules_per_context 12\n",
+    },
 ];
 
 #[test]
 fn texts_beyond_a_limit_are_refused(rt: HostRuntime) {
-    for (rows, noted) in BEYOND {
-        assert!(rt; made_ends(&rt, rt.alloc(), rows, (3, b"", noted)) == Ok(true));
-    }
+    assert!(rt; all_made_end(&rt, rt.alloc(), &BEYOND));
 }

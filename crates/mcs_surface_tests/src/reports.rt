@@ -1,14 +1,11 @@
 //! Reports and what is found of them, in runs of `check` and of `solve` with its proof.
 
-use crate::breaking::{SOUND, ends_over, lines, sink_of, status_of};
-use crate::runs::End;
+use crate::runs::{SOUND, ends_with, sink_of, status_with};
 use mcs_base::{Memory, Text};
+use mcs_ports::IdleGate;
 use std::alloc::Global;
 use std::sync::Wait;
 use std::thread::Threads;
-
-/// How `check` of a valid report ends.
-const VALID: End<'static> = (0, b"valid\n", "");
 
 /// Lines of a report, from the first number up to the second, counted from 1; what is put in their
 /// place, before the first of them where there are none; and the line and the test at which the
@@ -16,6 +13,20 @@ const VALID: End<'static> = (0, b"valid\n", "");
 type Change = (usize, usize, &'static str, Option<(usize, &'static str)>);
 
 const UNCHANGED: Change = (1, 0, "", None);
+
+/// The first lines of the text.
+pub fn lines(text: &str, count: usize) -> &[u8] {
+    let mut left = count;
+    for (place, byte) in text.as_bytes().iter().enumerate() {
+        if left == 0 {
+            return text.as_bytes().get(..place).unwrap_or(b"");
+        }
+        if *byte == b'\n' {
+            left = left.saturating_sub(1);
+        }
+    }
+    text.as_bytes()
+}
 
 /// What is written of a report with this fault, or of a valid one.
 fn found(alloc: Global, fault: Option<(usize, &str)>) -> Result<String, Memory> {
@@ -26,6 +37,24 @@ fn found(alloc: Global, fault: Option<(usize, &str)>) -> Result<String, Memory> 
             Ok(found)
         }
     }
+}
+
+/// Whether this fault, or that it is valid, is found of the report on the system.
+fn is_found<R: Threads + Wait + Sync>(
+    rt: &R,
+    alloc: Global,
+    system: &str,
+    report: &[u8],
+    fault: Option<(usize, &str)>,
+) -> bool {
+    let Ok(found) = found(alloc, fault) else {
+        return false;
+    };
+    let end = (u8::from(fault.is_some()), found.as_bytes(), "");
+    let files: [(&str, &[u8]); 2] = [("f", system.as_bytes()), ("r", report)];
+    let is_found = ends_with(rt, alloc, "check f r", &files, &SOUND, &IdleGate, end);
+    drop(found);
+    is_found
 }
 
 /// The text of a system, a valid report on it, the number of the last line of the listing in the
@@ -78,25 +107,24 @@ impl Case {
         rt: &R,
         alloc: Global,
         (first, last, with, fault): Change,
-    ) -> Result<bool, Memory> {
-        let report = self.changed(alloc, first, last, with)?;
-        let found = found(alloc, fault)?;
-        let end = (u8::from(fault.is_some()), found.as_bytes(), "");
-        let (words, text) = ("check f r", self.system.as_bytes());
-        let is_told = ends_over(rt, alloc, words, text, report.bytes(), SOUND, end);
-        drop((found, report));
+    ) -> bool {
+        let Ok(report) = self.changed(alloc, first, last, with) else {
+            return false;
+        };
+        let is_told = is_found(rt, alloc, self.system, report.bytes(), fault);
+        drop(report);
         is_told
     }
 
     /// Whether this is so of each change.
-    fn are_told<R: Threads + Wait + Sync>(&self, rt: &R, alloc: Global) -> Result<bool, Memory> {
+    fn are_told<R: Threads + Wait + Sync>(&self, rt: &R, alloc: Global) -> bool {
         let count = self.report.split_terminator('\n').count();
         for number in 0..self.changes.len().saturating_add(count).saturating_add(1) {
-            if !self.is_told(rt, alloc, self.change_at(number))? {
-                return Ok(false);
+            if !self.is_told(rt, alloc, self.change_at(number)) {
+                return false;
             }
         }
-        Ok(true)
+        true
     }
 }
 
@@ -215,24 +243,21 @@ static CASES: [Case; 3] = [
 #[test]
 fn the_first_test_that_fails_is_told(rt: HostRuntime) {
     for case in &CASES {
-        assert!(rt; case.are_told(&rt, rt.alloc()) == Ok(true));
+        assert!(rt; case.are_told(&rt, rt.alloc()));
     }
 }
 
 /// Whether what `solve` writes of the text with its proof is found valid.
-fn is_proved<R: Threads + Wait + Sync>(
-    rt: &R,
-    alloc: Global,
-    text: &str,
-    words: &str,
-) -> Result<bool, Memory> {
-    let mut sink = sink_of(alloc, SOUND)?;
-    let status = status_of(rt, alloc, words, &[("f", text.as_bytes())], 0, &mut sink);
-    let (words, text, report) = ("check f r", text.as_bytes(), sink.written());
-    let is_valid = ends_over(rt, alloc, words, text, report, SOUND, VALID);
-    let is_noted = !sink.noted().is_empty();
+fn is_proved<R: Threads + Wait + Sync>(rt: &R, alloc: Global, text: &str, words: &str) -> bool {
+    let Ok(mut sink) = sink_of(alloc, &SOUND) else {
+        return false;
+    };
+    let files: [(&str, &[u8]); 1] = [("f", text.as_bytes())];
+    let status = status_with(rt, alloc, words, &files, &SOUND, &mut sink, &IdleGate);
+    let is_written = status == Some(0) && sink.noted().is_empty();
+    let is_valid = is_found(rt, alloc, text, sink.written(), None);
     drop(sink);
-    Ok((status == Ok(0)) & !is_noted & (is_valid == Ok(true)))
+    is_written && is_valid
 }
 
 /// Systems of all kinds, consistent and not: choices, a set of defaults of each verdict, an
@@ -247,13 +272,15 @@ static SYSTEMS: [&str; 7] = [
     "context c1 program {}\ncontext c2 program {}\nbridge r1: c1:a if not c1:a.\nbridge r2: c2:b if not c2:b.\n",
 ];
 
-static PROVE: [&str; 2] = ["solve f --proof --workers 1", "solve f --proof --workers 2"];
+/// The same with one worker and with two.
+fn are_proved<R: Threads + Wait + Sync>(rt: &R, alloc: Global, text: &str) -> bool {
+    is_proved(rt, alloc, text, "solve f --proof --workers 1")
+        && is_proved(rt, alloc, text, "solve f --proof --workers 2")
+}
 
 #[test]
 fn what_is_solved_with_its_proof_is_valid(rt: HostRuntime) {
     for text in &SYSTEMS {
-        for words in &PROVE {
-            assert!(rt; is_proved(&rt, rt.alloc(), text, words) == Ok(true));
-        }
+        assert!(rt; are_proved(&rt, rt.alloc(), text));
     }
 }

@@ -1,11 +1,11 @@
 //! The equilibria, diagnoses and explanations of systems by their texts, in runs of `solve`.
 
-use crate::runs::Listed;
+use crate::runs::{Listed, all_given};
 
 /// The words that ask for the whole listing of the file `f`.
 const SOLVE: &str = "solve f";
 
-pub(crate) const LISTINGS: [Listed; 11] = [
+pub(crate) static LISTINGS: [Listed; 11] = [
     // A text without contexts.
     Listed {
         text: "",
@@ -65,7 +65,5 @@ pub(crate) const LISTINGS: [Listed; 11] = [
 
 #[test]
 fn systems_are_solved(rt: HostRuntime) {
-    for listed in &LISTINGS {
-        assert!(rt; listed.is_given(&rt, rt.alloc(), SOLVE) == Ok(true));
-    }
+    assert!(rt; all_given(&rt, rt.alloc(), SOLVE, &LISTINGS));
 }

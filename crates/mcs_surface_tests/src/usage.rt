@@ -1,24 +1,18 @@
 //! Words of the command line, and the runs that they start.
 
 use crate::runs::{End, SELF_SUPPORT, SELF_SUPPORT_LISTING, ends};
-use mcs_base::Memory;
 use std::alloc::Global;
 use std::sync::Wait;
 use std::thread::Threads;
 
 /// Whether the words of each line end so over a file `f`.
-fn all_end<R: Threads + Wait + Sync>(
-    rt: &R,
-    alloc: Global,
-    lines: &str,
-    end: End<'_>,
-) -> Result<bool, Memory> {
+fn all_end<R: Threads + Wait + Sync>(rt: &R, alloc: Global, lines: &str, end: End<'_>) -> bool {
     for words in lines.split('\n') {
-        if !ends(rt, alloc, words, &[("f", SELF_SUPPORT.as_bytes())], end)? {
-            return Ok(false);
+        if !ends(rt, alloc, words, SELF_SUPPORT.as_bytes(), end) {
+            return false;
         }
     }
-    Ok(true)
+    true
 }
 
 /// Words that ask for no job, at first none at all. Where a line ends or begins with a space, an
@@ -33,13 +27,7 @@ const JOBS: &str =
 #[test]
 fn words_start_runs_or_are_told_to_be_no_job(rt: HostRuntime) {
     let usage = "mcs: usage: mcs JOB FILE [REPORT] [--budget N] [--workers N] [--proof]\n";
-    assert!(rt; all_end(&rt, rt.alloc(), NO_JOBS, (2, b"", usage)) == Ok(true));
-    assert!(rt;
-        all_end(
-            &rt,
-            rt.alloc(),
-            JOBS,
-            (0, SELF_SUPPORT_LISTING.as_bytes(), "")
-        ) == Ok(true)
-    );
+    let are_none = all_end(&rt, rt.alloc(), NO_JOBS, (2, b"", usage));
+    let listed = (0, SELF_SUPPORT_LISTING.as_bytes(), "");
+    assert!(rt; are_none && all_end(&rt, rt.alloc(), JOBS, listed));
 }

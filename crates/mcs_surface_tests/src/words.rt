@@ -1,90 +1,75 @@
 //! Words of the command line, and the job that they ask for.
 
 use crate::runs::words_of;
-use mcs_base::{Memory, Text};
 use mcs_words::{Job, WordsFault, one_job, read_words};
-use std::alloc::Global;
+use std::alloc::{AllocError, Global};
 
-/// Appends how many questions may be asked, and by how many workers.
-fn push_limits(text: &mut Text, budget: u64, workers: u64) -> Result<(), Memory> {
-    text.push(b", budget ")?;
-    text.push_number(budget)?;
-    text.push(b", workers ")?;
-    text.push_number(workers)
-}
-
-/// Appends the job, in a line.
-fn push_job(text: &mut Text, job: &Job) -> Result<(), Memory> {
+/// The job, in a line.
+fn told(alloc: Global, job: &Job) -> Result<String, AllocError> {
     match job {
         Job::Equilibria {
             file,
             budget,
             workers,
-        } => {
-            text.push(b"equilibria of ")?;
-            text.push(file.as_bytes())?;
-            push_limits(text, *budget, *workers as u64)
-        }
+        } => format!(in alloc; "equilibria of {file}, budget {budget}, workers {workers}"),
         Job::Solve {
             file,
             budget,
             workers,
             proof,
-        } => {
-            text.push(b"solve ")?;
-            text.push(file.as_bytes())?;
-            push_limits(text, *budget, *workers as u64)?;
-            text.push(if *proof {
-                b", proof true".as_slice()
-            } else {
-                b", proof false"
-            })
-        }
-        Job::Check { file, report } => {
-            text.push(b"check ")?;
-            text.push(report.as_bytes())?;
-            text.push(b" on ")?;
-            text.push(file.as_bytes())
-        }
+        } => format!(in alloc; "solve {file}, budget {budget}, workers {workers}, proof {proof}"),
+        Job::Check { file, report } => format!(in alloc; "check {report} on {file}"),
         Job::Grounded {
             file,
             budget,
             workers,
-        } => {
-            text.push(b"grounded of ")?;
-            text.push(file.as_bytes())?;
-            push_limits(text, *budget, *workers as u64)
-        }
+        } => format!(in alloc; "grounded of {file}, budget {budget}, workers {workers}"),
+        Job::Cheapest {
+            file,
+            report: None,
+            budget,
+            workers,
+        } => format!(in alloc; "cheapest of {file}, budget {budget}, workers {workers}"),
+        Job::Cheapest {
+            file,
+            report: Some(report),
+            budget,
+            workers,
+        } => format!(in alloc;
+            "cheapest of {file} by {report}, budget {budget}, workers {workers}"
+        ),
         Job::Make {
             number,
             budget,
             workers,
-        } => {
-            text.push(b"make ")?;
-            text.push_number(*number)?;
-            push_limits(text, *budget, *workers as u64)
-        }
+        } => format!(in alloc; "make {number}, budget {budget}, workers {workers}"),
     }
 }
 
 /// Whether this line is of the job.
-fn is_told(alloc: Global, job: &Job, wanted: &str) -> Result<bool, Memory> {
-    let mut told = Text::new(alloc);
-    push_job(&mut told, job)?;
-    Ok(told.bytes() == wanted.as_bytes())
+fn is_told(alloc: Global, job: &Job, wanted: &str) -> bool {
+    match told(alloc, job) {
+        Ok(told) => told.as_str() == wanted,
+        Err(_) => false,
+    }
+}
+
+/// The job that the words of the line ask for.
+fn job_of(alloc: Global, line: &str) -> Result<Job, WordsFault> {
+    let Ok(words) = words_of(alloc, line) else {
+        return Err(WordsFault::Memory);
+    };
+    read_words(alloc, &words)
 }
 
 /// Whether the words of the line ask for the job that is told so.
-fn asks_for(alloc: Global, line: &str, wanted: &str) -> Result<bool, Memory> {
-    let words = words_of(alloc, line)?;
-    match read_words(alloc, &words) {
-        Ok(job) => {
-            let is_told = is_told(alloc, &job, wanted);
-            drop(job);
-            is_told
-        }
-        Err(_) => Ok(false),
-    }
+fn asks_for(alloc: Global, line: &str, wanted: &str) -> bool {
+    let Ok(job) = job_of(alloc, line) else {
+        return false;
+    };
+    let is_told = is_told(alloc, &job, wanted);
+    drop(job);
+    is_told
 }
 
 /// Words and what they ask for.
@@ -111,20 +96,27 @@ make 007 --budget 2 => make 7, budget 2, workers 1
 make 4294967295 => make 4294967295, budget 100000, workers 1
 make --workers 4 -- 1023 => make 1023, budget 100000, workers 4
 grounded f => grounded of f, budget 100000, workers 1
---budget 5 grounded --proof --workers=2 -- -f => grounded of -f, budget 5, workers 2";
+--budget 5 grounded --proof --workers=2 -- -f => grounded of -f, budget 5, workers 2
+cheapest f => cheapest of f, budget 100000, workers 1
+cheapest --budget 7 f --proof --workers 3 => cheapest of f, budget 7, workers 3
+cheapest f r => cheapest of f by r, budget 100000, workers 1
+--workers=4 cheapest --budget 7 f r => cheapest of f by r, budget 7, workers 4
+cheapest -- -f --proof => cheapest of -f by --proof, budget 100000, workers 1";
 
 #[test]
 fn words_that_ask_for_a_job(rt: HostRuntime) {
     for row in JOBS.split('\n') {
         let (line, wanted) = row.split_once(" => ").unwrap_or((row, ""));
-        assert!(rt; asks_for(rt.alloc(), line, wanted) == Ok(true));
+        assert!(rt; asks_for(rt.alloc(), line, wanted));
     }
 }
 
 /// Whether the words of the line ask for no job.
-fn asks_for_none(alloc: Global, line: &str) -> Result<bool, Memory> {
-    let words = words_of(alloc, line)?;
-    Ok(read_words(alloc, &words).err() == Some(WordsFault::Usage))
+fn asks_for_none(alloc: Global, line: &str) -> bool {
+    let job = job_of(alloc, line);
+    let is_none = matches!(&job, Err(WordsFault::Usage));
+    drop(job);
+    is_none
 }
 
 /// Words that ask for no job, at first none at all. Where two spaces stand together, a word is
@@ -180,12 +172,18 @@ grounded
 grounded -
 grounded f g
 grounded f --proof=true
-Grounded f";
+Grounded f
+cheapest
+cheapest -
+cheapest f -
+cheapest f  --proof
+cheapest f r x
+cheapest f --budget 0";
 
 #[test]
 fn words_that_ask_for_none(rt: HostRuntime) {
     one_job();
     for line in NO_JOBS.split('\n') {
-        assert!(rt; asks_for_none(rt.alloc(), line) == Ok(true));
+        assert!(rt; asks_for_none(rt.alloc(), line));
     }
 }

@@ -3,8 +3,8 @@
 
 use crate::budgets::{RUNS, TOLD};
 use crate::gates::FORBIDDEN;
-use crate::runs::{JOB, Run, run_with, sink_of, status_with};
-use crate::{equilibria, grounded, solutions};
+use crate::runs::{End, JOB, Listed, Run, SOUND, ends_with, run_with, sink_of, status_with};
+use crate::{cheapest, equilibria, grounded, solutions};
 use mcs_base::Memory;
 use mcs_ports::{Gate, IdleGate};
 use mcs_top::Trail;
@@ -29,7 +29,7 @@ impl Gate for Spins {
 }
 
 /// Numbers of workers.
-const WORKERS: [u32; 7] = [2, 3, 4, 5, 8, 63, 64];
+static WORKERS: [u32; 7] = [2, 3, 4, 5, 8, 63, 64];
 
 /// Whether the words end so over this text, with so many workers.
 fn is_same<R: Threads + Wait + Sync>(
@@ -38,18 +38,16 @@ fn is_same<R: Threads + Wait + Sync>(
     words: &str,
     workers: u32,
     text: &str,
-    (status, written, noted): (u8, &[u8], &str),
+    end: End<'_>,
 ) -> Result<bool, Memory> {
     let words: String = format!(in alloc; "{words} --workers {workers}")?;
-    let mut sink = sink_of(alloc)?;
     let gate = Spins {
         seed: AtomicU64::new(workers as u64),
     };
     let files: [(&str, &[u8]); 1] = [("f", text.as_bytes())];
-    let ended = status_with(rt, alloc, words.as_str(), &files, &mut sink, &gate);
-    let (is_written, is_noted) = (sink.written() == written, sink.noted() == noted.as_bytes());
-    drop(sink);
-    Ok((ended == Ok(status)) & is_written & is_noted)
+    let is_same = ends_with(rt, alloc, words.as_str(), &files, &SOUND, &gate, end);
+    drop(words);
+    Ok(is_same)
 }
 
 /// Whether they end so with each number of workers.
@@ -58,34 +56,42 @@ pub(crate) fn are_same<R: Threads + Wait + Sync>(
     alloc: Global,
     words: &str,
     text: &str,
-    end: (u8, &[u8], &str),
-) -> Result<bool, Memory> {
+    end: End<'_>,
+) -> bool {
+    let mut are_same = true;
     for workers in &WORKERS {
-        if !is_same(rt, alloc, words, *workers, text, end)? {
-            return Ok(false);
-        }
+        are_same = are_same && is_same(rt, alloc, words, *workers, text, end) == Ok(true);
     }
-    Ok(true)
+    are_same
+}
+
+/// Whether the words give each listing of its text with each number of workers.
+fn all_same<R: Threads + Wait + Sync>(
+    rt: &R,
+    alloc: Global,
+    words: &str,
+    listings: &[Listed],
+) -> bool {
+    let mut are_right = true;
+    for listed in listings {
+        let end = (0, listed.listing.as_bytes(), "");
+        are_right = are_right && are_same(rt, alloc, words, listed.text, end);
+    }
+    are_right
 }
 
 #[test]
 fn listings_are_the_same_for_each_number_of_workers(rt: HostRuntime) {
-    for listed in &equilibria::LISTINGS {
-        let end = (0, listed.listing.as_bytes(), "");
-        assert!(rt; are_same(&rt, rt.alloc(), JOB, listed.text, end) == Ok(true));
-    }
+    assert!(rt; all_same(&rt, rt.alloc(), JOB, &equilibria::LISTINGS));
 }
 
 #[test]
 fn solutions_are_the_same_for_each_number_of_workers(rt: HostRuntime) {
-    for listed in &solutions::LISTINGS {
-        let end = (0, listed.listing.as_bytes(), "");
-        assert!(rt; are_same(&rt, rt.alloc(), "solve f", listed.text, end) == Ok(true));
-    }
+    assert!(rt; all_same(&rt, rt.alloc(), "solve f", &solutions::LISTINGS));
 }
 
 /// Whether the run ends as it does with one worker.
-fn is_run_same<R: Threads + Wait + Sync>(rt: &R, alloc: Global, run: &Run) -> Result<bool, Memory> {
+fn is_run_same<R: Threads + Wait + Sync>(rt: &R, alloc: Global, run: &Run) -> bool {
     let end = (run.status, run.written.as_bytes(), run.noted);
     are_same(rt, alloc, run.words, run.text, end)
 }
@@ -93,15 +99,36 @@ fn is_run_same<R: Threads + Wait + Sync>(rt: &R, alloc: Global, run: &Run) -> Re
 #[test]
 fn budgets_are_the_same_for_each_number_of_workers(rt: HostRuntime) {
     for run in &RUNS {
-        assert!(rt; is_run_same(&rt, rt.alloc(), run) == Ok(true));
+        assert!(rt; is_run_same(&rt, rt.alloc(), run));
     }
 }
 
 #[test]
 fn grounded_equilibria_are_the_same_for_each_number_of_workers(rt: HostRuntime) {
     for run in &grounded::RUNS {
-        assert!(rt; is_run_same(&rt, rt.alloc(), run) == Ok(true));
+        assert!(rt; is_run_same(&rt, rt.alloc(), run));
     }
+}
+
+#[test]
+fn cheapest_diagnoses_are_the_same_for_each_number_of_workers(rt: HostRuntime) {
+    for run in &cheapest::RUNS {
+        assert!(rt; is_run_same(&rt, rt.alloc(), run));
+    }
+}
+
+/// Whether the words, which read no file, end with each number of workers as they do with one.
+fn are_words_same<R: Threads + Wait + Sync>(rt: &R, alloc: Global, words: &str) -> bool {
+    let Ok(mut sink) = sink_of(alloc, &SOUND) else {
+        return false;
+    };
+    let status = status_with(rt, alloc, words, &[], &SOUND, &mut sink, &IdleGate);
+    let is_same = match status {
+        Some(status) => are_same(rt, alloc, words, "", (status, sink.written(), "")),
+        None => false,
+    };
+    drop(sink);
+    is_same
 }
 
 /// Whether the counts of the generated system of this number are the same with each number of
@@ -112,9 +139,9 @@ fn is_made_same<R: Threads + Wait + Sync>(
     number: u64,
 ) -> Result<bool, Memory> {
     let words: String = format!(in alloc; "make {number}")?;
-    let mut sink = sink_of(alloc)?;
-    let status = status_with(rt, alloc, words.as_str(), &[], &mut sink, &IdleGate)?;
-    are_same(rt, alloc, words.as_str(), "", (status, sink.written(), ""))
+    let is_same = are_words_same(rt, alloc, words.as_str());
+    drop(words);
+    Ok(is_same)
 }
 
 #[test]
@@ -134,7 +161,7 @@ struct Traced {
     total: Option<u64>,
 }
 
-const TRACED: [Traced; 7] = [
+static TRACED: [Traced; 8] = [
     // The first context supplies the second, which has all the others of five questions.
     Traced {
         words: "solve f --workers 2",
@@ -174,6 +201,14 @@ const TRACED: [Traced; 7] = [
         got: &[0, 1],
         total: Some(2),
     },
+    // The cheapest diagnosis has one mark, so the last level is 1.
+    Traced {
+        words: "cheapest f --workers 2",
+        text: TOLD,
+        status: 0,
+        got: &[0, 1],
+        total: Some(3),
+    },
     Traced {
         words: "solve f --budget 3 --workers 2",
         text: TOLD,
@@ -209,14 +244,26 @@ fn total_of(trail: &Trail) -> Option<u64> {
     }
 }
 
+/// What the words give over the text: the status by its number, and the trail.
+fn trail_of<R: Threads + Wait + Sync>(
+    rt: &R,
+    alloc: Global,
+    words: &str,
+    text: &str,
+) -> Result<(u8, Trail), Memory> {
+    let mut sink = sink_of(alloc, &SOUND)?;
+    let files: [(&str, &[u8]); 1] = [("f", text.as_bytes())];
+    let given = run_with(rt, alloc, words, &files, &SOUND, &mut sink, &IdleGate);
+    drop(sink);
+    given
+}
+
 impl Traced {
     /// Whether this is to be seen.
     fn is_shown<R: Threads + Wait + Sync>(&self, rt: &R, alloc: Global) -> Result<bool, Memory> {
-        let mut sink = sink_of(alloc)?;
-        let files: [(&str, &[u8]); 1] = [("f", self.text.as_bytes())];
-        let (status, trail) = run_with(rt, alloc, self.words, &files, &mut sink, &IdleGate)?;
+        let (status, trail) = trail_of(rt, alloc, self.words, self.text)?;
         let is_right = have_got(&trail, self.got) && total_of(&trail) == self.total;
-        drop((trail, sink));
+        drop(trail);
         Ok(status == self.status && is_right)
     }
 }
@@ -231,12 +278,9 @@ fn the_last_round_is_shown(rt: HostRuntime) {
 /// Whether the total is shown that is above the budget: of level 1, which has one question more
 /// than two.
 fn is_spent_shown<R: Threads + Wait + Sync>(rt: &R, alloc: Global) -> Result<bool, Memory> {
-    let mut sink = sink_of(alloc)?;
-    let files: [(&str, &[u8]); 1] = [("f", TOLD.as_bytes())];
-    let words = "solve f --budget 2 --workers 2";
-    let (status, trail) = run_with(rt, alloc, words, &files, &mut sink, &IdleGate)?;
+    let (status, trail) = trail_of(rt, alloc, "solve f --budget 2 --workers 2", TOLD)?;
     let is_right = trail.wires.len() == 2 && total_of(&trail) == Some(3);
-    drop((trail, sink));
+    drop(trail);
     Ok(status == 4 && is_right)
 }
 
@@ -253,17 +297,6 @@ struct Meeting {
     met: AtomicU64,
     /// For how many turns it goes round at most.
     turns: u64,
-}
-
-impl Meeting {
-    fn new(turns: u64) -> Self {
-        Meeting {
-            first: AtomicBool::new(false),
-            second: AtomicBool::new(false),
-            met: AtomicU64::new(0),
-            turns,
-        }
-    }
 }
 
 impl Gate for Meeting {
@@ -290,28 +323,26 @@ const TWO_LISTING: &str =
 
 /// How many of the two contexts met the other at the gate; `None` if the listing is not the one of
 /// both.
-fn met<R: Threads + Wait + Sync>(
-    rt: &R,
-    alloc: Global,
-    words: &str,
-    turns: u64,
-) -> Result<Option<u64>, Memory> {
-    let gate = Meeting::new(turns);
-    let mut sink = sink_of(alloc)?;
+fn met<R: Threads + Wait + Sync>(rt: &R, alloc: Global, words: &str, turns: u64) -> Option<u64> {
+    let gate = Meeting {
+        first: AtomicBool::new(false),
+        second: AtomicBool::new(false),
+        met: AtomicU64::new(0),
+        turns,
+    };
     let files: [(&str, &[u8]); 1] = [("f", TWO.as_bytes())];
-    let status = status_with(rt, alloc, words, &files, &mut sink, &gate);
-    let is_listed = status == Ok(0) && sink.written() == TWO_LISTING.as_bytes();
-    drop(sink);
-    Ok(is_listed.then_some(gate.met.load(Ordering::SeqCst)))
+    let end = (0, TWO_LISTING.as_bytes(), "");
+    let is_listed = ends_with(rt, alloc, words, &files, &SOUND, &gate, end);
+    is_listed.then_some(gate.met.load(Ordering::SeqCst))
 }
 
 #[test]
 fn two_workers_ask_at_once(rt: HostRuntime) {
-    assert!(rt; met(&rt, rt.alloc(), "equilibria f --workers 2", 100_000_000) == Ok(Some(2)));
+    assert!(rt; met(&rt, rt.alloc(), "equilibria f --workers 2", 100_000_000) == Some(2));
 }
 
 #[test]
 fn one_worker_asks_one_context_after_the_other(rt: HostRuntime) {
     // The second context sees the flag that the first has set.
-    assert!(rt; met(&rt, rt.alloc(), "equilibria f --workers 1", 1000) == Ok(Some(1)));
+    assert!(rt; met(&rt, rt.alloc(), "equilibria f --workers 1", 1000) == Some(1));
 }
