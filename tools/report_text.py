@@ -23,6 +23,8 @@ EXPLANATION = re.compile(f"explanation ({NUMBER}): {SET}")
 END = re.compile(f"end: {COUNT} equilibria(?:, {COUNT} diagnoses, {COUNT} explanations)?, need {COUNT}")
 GROUNDED = re.compile(f"grounded ({NUMBER}): {SET} applicable {SET}")
 GROUNDED_END = re.compile(f"end: {COUNT} grounded of {COUNT} equilibria, need {COUNT}")
+CHEAPEST = re.compile(f"cheapest ({NUMBER}): {SET} cost {COUNT} state {SET} active {SET}")
+CHEAPEST_END = re.compile(f"end: {COUNT} cheapest(?:, cost {COUNT})?, need {COUNT}")
 ANSWER = re.compile(f"answer ({NAME}) {SET}")
 STEP = re.compile(f"step((?: -?{NUMBER})*) by((?: {NUMBER})+)")
 
@@ -144,6 +146,8 @@ class Reader:
                  "variables": [{"context": read.context, "belief": system_text.belief(read.belief)} for read in variables]}
         if self.begins("grounded ") or self.next is not None and GROUNDED_END.fullmatch(self.next):
             return self.grounded(found, counts)
+        if self.lists_cheapest():
+            return self.cheapest(found, counts)
         equilibria = self.states("equilibrium", EQUILIBRIUM)
         consistent = self.verdict()
         if consistent != bool(equilibria):
@@ -177,6 +181,31 @@ class Reader:
             self.fault("the end of the listing tells another number of grounded equilibria than stand before it", 1)
         counts.update({"grounded": told, "equilibria": equilibria})
         found.update({"job": "grounded", "grounded": grounded, "counts": counts, "need": need})
+        return found
+
+    def lists_cheapest(self):
+        """Whether what follows the verdict, which comes next, is of the cheapest diagnoses."""
+        if self.next not in ("consistent", "inconsistent"):
+            return False
+        after = self.lines[self.at + 1] if self.at + 1 < len(self.lines) else ""
+        return after.startswith("cheapest ") or bool(CHEAPEST_END.fullmatch(after))
+
+    def cheapest(self, found, counts):
+        """The rest of a listing of the cheapest diagnoses."""
+        consistent = self.verdict()
+        cheapest = [{**self.marks("diagnosis", marks), "cost": int(cost), "state": self.state(state), "active": self.names(rules)}
+                    for marks, cost, state, rules in self.numbered("cheapest", CHEAPEST)]
+        told, cost, need = self.take(CHEAPEST_END, "the line `end: ..`")
+        if int(told) != len(cheapest):
+            self.fault("the end of the listing tells another number of cheapest diagnoses than stand before it", 1)
+        costs = {each["cost"] for each in cheapest}
+        if costs != ({int(cost)} if cost else set()):
+            self.fault("the end of the listing tells another cost than stands before it", 1)
+        if consistent != (costs == {0}):
+            self.fault("the verdict does not fit the cost of the repairs after it", 1)
+        counts["cheapest"] = int(told)
+        found.update({"job": "cheapest", "consistent": consistent, "cheapest": cheapest, "counts": counts})
+        found.update({"cost": int(cost) if cost else None, "need": int(need)})
         return found
 
     def states(self, word, form):

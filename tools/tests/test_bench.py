@@ -103,6 +103,19 @@ class Clingo(Ground):
             self.assertEqual(listed["diagnosis"], diagnoses, path)
             self.assertEqual(listed["explanation"], answers.explanations(diagnoses)[0], path)
 
+    def test_the_least_cost_and_not_the_fewest_marks(self):
+        import questions
+        text = self.file("a text.mcs", """version 2.
+context c1 program { a. }
+context c2 program { :- p, not s. :- q, not s. }
+bridge r1: c2:p if c1:a.
+bridge r2: c2:q if not c1:b.
+bridge r3 weight 5: c2:s if c1:b.
+""")
+        answers = questions.Answers(shutil.which("clingo"), text, self.room, 60)
+        self.assertEqual(answers.cheapest()[0], {frozenset({"-r1", "-r2"})})
+        self.assertEqual(answers.grounded()[0], None)
+
     def test_a_circle_is_not_grounded(self):
         import questions
         text = self.file("a text.mcs", "context c1 program {} bridge r1: c1:a if c1:a. bridge r2: c1:b if not c1:a.")

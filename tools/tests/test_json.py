@@ -38,6 +38,13 @@ class Printed:
         for number, each in enumerate(document.get("equilibria", []), 1):
             self.lines.append(f"equilibrium {number}: {self.state(each)} applicable {told(each['applicable'])}")
         self.lines.append("consistent" if document["consistent"] else "inconsistent")
+        if document["job"] == "cheapest":
+            for number, each in enumerate(document["cheapest"], 1):
+                shown = f"state {self.state(each)} active {told(each['active'])}"
+                self.lines.append(f"cheapest {number}: {self.marks(each)} cost {each['cost']} {shown}")
+            cost = "" if document["cost"] is None else f", cost {document['cost']}"
+            self.lines.append(f"end: {counts['cheapest']} cheapest{cost}, need {document['need']}")
+            return
         for number, each in enumerate(document.get("diagnoses", []), 1):
             self.lines.append(f"diagnosis {number}: {self.marks(each)} state {self.state(each)} active {told(each['active'])}")
         for number, each in enumerate(document.get("explanations", []), 1):
@@ -161,6 +168,27 @@ class Json(Ground):
         heading, _, end = whole.splitlines(True)
         self.assertEqual(self.assertTurned(path, heading + "end: 0 grounded of 0 equilibria, need 4\n")["grounded"], [])
         for content, line in [(heading + end, 2), (whole.replace("of 2", "of 0"), 3), (whole[:-1], 3), (whole + end, 4)]:
+            listing = self.file("a listing", content)
+            status, printed, noted = self.ran("tools/json", path, listing)
+            self.assertEqual((status, printed), (1, ""), content)
+            self.assertTrue(noted.startswith(f"{listing}:{line}:1: "), (content, noted))
+
+    def test_cheapest_diagnoses_by_hand(self):
+        path = example("prescription.mcs")
+        with open(example("prescription.cheapest")) as file:
+            whole = file.read()
+        document = self.assertTurned(path, whole)
+        self.assertEqual(document["cheapest"], [{
+            "removed": ["liver"], "forced": ["substitute"], "cost": 5,
+            "state": {"record": ["infection", "allergic", "hepatitis"], "pharmacy": []},
+            "active": ["report", "warn", "substitute"]}])
+        self.assertEqual((document["consistent"], document["cost"], document["need"]), (False, 5, 9))
+        self.assertEqual(document["counts"], {"contexts": 2, "rules": 5, "variables": 5, "cheapest": 1})
+        heading, verdict, cheapest, end = whole.splitlines(True)
+        none = self.assertTurned(path, heading + verdict + "end: 0 cheapest, need 9\n")
+        self.assertEqual((none["cheapest"], none["cost"]), ([], None))
+        for content, line in [(heading + verdict + end, 3), (whole.replace("cost 5,", "cost 4,"), 4), (heading + cheapest + end, 2),
+                              (whole.replace("inconsistent", "consistent"), 4), (whole[:-1], 4), (whole + end, 5)]:
             listing = self.file("a listing", content)
             status, printed, noted = self.ran("tools/json", path, listing)
             self.assertEqual((status, printed), (1, ""), content)
