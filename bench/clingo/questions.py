@@ -1,5 +1,5 @@
-"""Asks clingo the questions of a text, its equilibria, minimal diagnoses, minimal explanations and grounded equilibria,
-and reads the lists of mcs to compare them."""
+"""Asks clingo the questions of a text, its equilibria, minimal diagnoses, minimal explanations, cheapest diagnoses and
+grounded equilibria, and reads the lists of mcs to compare them."""
 import importlib.machinery
 import importlib.util
 import json
@@ -12,7 +12,8 @@ sys.path.insert(0, os.path.dirname(HERE))
 import measure  # noqa: E402
 
 LEAST = ["--heuristic=Domain", "--enum-mode=domRec"]
-KINDS = ("equilibrium", "diagnosis", "explanation", "grounded")
+KINDS = ("equilibrium", "diagnosis", "explanation", "grounded", "cheapest")
+CHEAPEST = ["--opt-mode=optN", "--quiet=1", "--project=show"]
 
 
 def translation():
@@ -77,6 +78,11 @@ class Answers:
     def diagnoses(self):
         """The minimal diagnoses as sets of marks."""
         models, seconds = self.of_system(LEAST, "diagnoses")
+        return marks_of(models), seconds
+
+    def cheapest(self):
+        """The diagnoses of least cost as sets of marks."""
+        models, seconds = self.of_system(CHEAPEST, "cheapest")
         return marks_of(models), seconds
 
     def explanations(self, diagnoses):
