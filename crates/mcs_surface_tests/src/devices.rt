@@ -2,7 +2,7 @@
 
 use crate::cheapest::TOLD_LISTING;
 use crate::reports::{CONTRADICTION, TOLD, TOLD_REPORT, lines};
-use crate::runs::{Devices, End, ends_with};
+use crate::runs::{Devices, End, ends_over, ends_with};
 use crate::wards::{WARDS, WARDS_LISTING};
 use mcs_base::Memory;
 use mcs_ports::IdleGate;
@@ -263,8 +263,10 @@ impl Job {
         let Ok(text) = self.file(alloc) else {
             return false;
         };
-        let files: [(&str, &[u8]); 2] = [("f", &text), ("r", self.report.as_bytes())];
-        ends_with(rt, alloc, self.words, &files, &devices, &IdleGate, end)
+        let report = self.report.as_bytes();
+        let is_told = ends_over(rt, alloc, self.words, &text, report, &devices, end);
+        drop(text);
+        is_told
     }
 
     /// Whether it ends so where none fails, and for each that may.

@@ -147,6 +147,20 @@ pub fn ends_with<G: Gate + Sync, R: Threads + Wait + Sync>(
     is_right
 }
 
+/// Whether the words end so over a file `f` of this text and a file `r` of this report.
+pub fn ends_over<R: Threads + Wait + Sync>(
+    rt: &R,
+    alloc: Global,
+    words: &str,
+    text: &[u8],
+    report: &[u8],
+    devices: &Devices,
+    end: End<'_>,
+) -> bool {
+    let files = [("f", text), ("r", report)];
+    ends_with(rt, alloc, words, &files, devices, &IdleGate, end)
+}
+
 /// Whether the words end so over a file `f` of this text.
 pub fn ends<R: Threads + Wait + Sync>(
     rt: &R,
