@@ -1,8 +1,8 @@
 -- What is among a list, and what holds of each that is.
 -- `among_filter` and the like tell what is among the filtered list, `filter_among` what follows for one that is.
-use Rattle.std.proofs.Common.{◌≡◌, ℕ, ◌+◌, ◌-◌, ◌<◌, ◌≤◌, zero, suc, Bool, true, false, cond, List, [], ◌∷◌, ◌++◌, map, filter, reverse, length, take, drop, get_or, slice_get, Some, refl, sym, ap, ◌∙◌, subst, inl, inr, ◌⊎◌, ◌↔◌, arith, true≢false, ap₂}
+use Rattle.std.proofs.Common.{◌≡◌, ℕ, ◌+◌, ◌-◌, ◌<◌, ◌≤◌, zero, suc, Bool, true, false, cond, List, [], ◌∷◌, ◌++◌, map, filter, reverse, length, take, drop, get_or, slice_get, set, Some, refl, sym, ap, ◌∙◌, subst, inl, inr, ◌⊎◌, ◌↔◌, arith, true≢false, ap₂}
 use Rattle.std.proofs.lemmas.Bool.{false_from_ne_true, cases_eq}
-use Rattle.std.proofs.lemmas.List.{take-append-drop, take_more, drop_more, drop_all, get_or-take, get_or-drop, length-take, length-drop, map_more}
+use Rattle.std.proofs.lemmas.List.{take-append-drop, take_more, drop_more, drop_all, get_or-set_same, get_or-set_other, length-set, get_or-take, get_or-drop, length-take, length-drop, map_more}
 use Rattle.std.proofs.lemmas.List.Folds.{Any-from_list_any, list_any-from_Any}
 use Rattle.std.proofs.lemmas.List.Sorted.{Contains-permutation, IsPermutation-sym, IsPermutation-reverse}
 use Rattle.std.proofs.lemmas.Option.{slice_get-get_or, slice_get_within, get_or_from_slice_get}
@@ -255,3 +255,19 @@ pub among_take_longer : {A : Type 0} (xs : List A) (n k : ℕ) (x : A) → n ≤
 among_take_longer xs n k x fewer h =
     let (rest, is) = take_front n k xs fewer in
     subst (IsAmong x) (sym is) (among_left x (take n xs) rest h)
+
+-- what stands at a place is among the items from there on
+pub among_from : {A : Type 0} (xs : List A) (i : ℕ) (x : A) → slice_get xs i ≡ Some x → IsAmong x (drop i xs)
+among_from [] i x is = cc
+among_from (y ∷ xs) zero x is = inl (cc)
+among_from (y ∷ xs) (suc i) x is = among_from xs i x is
+
+-- what stands in a list where an item was put in place of another
+pub set_among : {A : Type 0} (xs : List A) (i : ℕ) (x y : A) → i < length xs → IsAmong y (set xs i x) → (y ≡ x) ⊎ IsAmong y xs
+set_among {A = A} xs i x y less among =
+    let (k, less_k, at) = place_among (set xs i x) y among in
+    let less' : k < length xs = (let same = length-set xs i x in omega arith) in
+    elim (cases_eq k i) [
+      | inl same ↦ inl (sym (at x) ∙ (ap (λ n. get_or (set xs i x) n x) same ∙ get_or-set_same xs i x x less))
+      | inr apart ↦ inr (subst (λ (z : A). IsAmong z xs) (sym (get_or-set_other xs i k x x apart) ∙ at x) (among_at xs k x less'))
+    ]

@@ -1,6 +1,7 @@
 -- The images of a list, by what is read at an index.
-use Rattle.std.proofs.Common.{◌≡◌, ℕ, ◌+◌, ◌<◌, List, [], ◌∷◌, ◌++◌, map, length, drop, get_or, slice_get, Some, sym, ap, ◌∙◌, subst, Bool, false, IsTrue, ◌-◌, ◌≤◌, ◌==◌, ◌↔◌, zero, suc, take, refl, append_assoc, add-one, arith, true≢false}
+use Rattle.std.proofs.Common.{◌≡◌, ℕ, ◌+◌, ◌<◌, List, [], ◌∷◌, ◌++◌, map, length, drop, get_or, slice_get, slice_set, Option, Some, sym, ap, ◌∙◌, subst, Bool, false, IsTrue, ◌-◌, ◌≤◌, ◌==◌, ◌↔◌, zero, suc, take, refl, append_assoc, add-one, arith, true≢false}
 use Rattle.std.proofs.lemmas.List.{drop_more, map_push, map_more, append-nil, length-map}
+use Rattle.std.proofs.lemmas.Option.{none-some, same_Some}
 use Rattle.std.specs.List.{AllByRecursion, flat_map, range_with_len}
 use Rattle.mcs_base.proofs.Each.{all_get}
 use Rattle.mcs_base.proofs.Lists.{slice_get-map_at, slice_get-map_some}
@@ -84,3 +85,17 @@ copied_each f z (x ∷ xs) [] e each = absurd (omega (arith, e))
 copied_each {C = C} f z (x ∷ xs) (y ∷ ys) e each =
     let rest : map f xs ≡ map (λ y. z) ys = copied_each f z xs ys (omega (arith, e)) each.1 in
     ap (λ (c : C). c ∷ map f xs) each.0 ∙ ap (λ (cs : List C). z ∷ cs) rest
+
+-- a list whose items are mapped in place, one after the other: one item more, and what stood there before
+pub mapped_in_place : {A : Type 0} (f : A → A) (first now : List A) (k : ℕ) (a b : A) → now ≡ map f (take k first) ++ drop k first → slice_get now k ≡ Some a → b ≡ f a
+    → (slice_set now k b ≡ map f (take (k + 1) first) ++ drop (k + 1) first) × (slice_get first k ≡ Some a)
+mapped_in_place {A = A} f first now k a b is at image =
+    let (set, there) = over first k (subst (λ (xs : List A). slice_get xs k ≡ Some a) is at) in
+    (rw add-one (ap (λ (xs : List A). slice_set xs k b) is ∙ set), there)
+  where
+    over : (xs : List A) (j : ℕ) → slice_get (map f (take j xs) ++ drop j xs) j ≡ Some a
+        → (slice_set (map f (take j xs) ++ drop j xs) j b ≡ map f (take (suc j) xs) ++ drop (suc j) xs) × (slice_get xs j ≡ Some a)
+    over [] zero there = absurd (none-some a there)
+    over [] (suc j) there = absurd (none-some a there)
+    over (x ∷ xs) zero there = let one : x ≡ a = same_Some x a there in (ap (λ (z : A). z ∷ xs) (image ∙ ap f (sym one)), there)
+    over (x ∷ xs) (suc j) there = let (set, at') = over xs j there in (ap (λ (zs : List A). f x ∷ zs) set, at')

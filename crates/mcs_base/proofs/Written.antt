@@ -87,9 +87,6 @@ append_five t a b c d e = simp append_assoc
 pub append_seven : {A : Type 0} (t a b c d e f g : List A) → ((((((t ++ a) ++ b) ++ c) ++ d) ++ e) ++ f) ++ g ≡ t ++ (a ++ (b ++ (c ++ (d ++ (e ++ (f ++ g))))))
 append_seven t a b c d e f g = simp append_assoc
 
-pub append_nine : {A : Type 0} (t a b c d e f g h i : List A) → ((((((((t ++ a) ++ b) ++ c) ++ d) ++ e) ++ f) ++ g) ++ h) ++ i ≡ t ++ (a ++ (b ++ (c ++ (d ++ (e ++ (f ++ (g ++ (h ++ i))))))))
-append_nine t a b c d e f g h i = simp append_assoc
-
 -- the first items, with the next one
 pub take_next : {A : Type 0} (xs : List A) (i : ℕ) (x : A) → slice_get xs i ≡ Some x → take (i + 1) xs ≡ take i xs ++ x ∷ []
 take_next xs i x at = take_more xs i x (slice_get_within xs i x at) ∙ ap (λ y. take i xs ++ y ∷ []) (get_or_from_slice_get xs i x x at)

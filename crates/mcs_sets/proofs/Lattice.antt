@@ -116,6 +116,12 @@ cases_within a b = elim (cases_Bool (eqb (common a b) a)) [
   | inr e ↦ inr (λ within. let same = common_where_within a b within in grind (arith, nat_tests))
 ]
 
+pub meets_either : (a b e : ℕ) → ¬ Meets a e → ¬ Meets b e → ¬ Meets (union a b) e
+meets_either a b e first second meets = elim (in_union a b meets.member meets.in_first) [
+  | inl one ↦ first (record { member = meets.member; in_first = one; in_second = meets.in_second })
+  | inr other ↦ second (record { member = meets.member; in_first = other; in_second = meets.in_second })
+]
+
 pub meets_within : (a b e : ℕ) → Within a b → Meets a e → Meets b e
 meets_within a b e within meets = record { member = meets.member; in_first = within meets.member meets.in_first; in_second = meets.in_second }
 
