@@ -8,7 +8,7 @@ use Rattle.std.specs.List.Sorted.{IsPermutation}
 use Rattle.mcs_sets.specs.Sets.{union, Within}
 use Rattle.mcs_sets.proofs.Lattice.{size_within, union_within}
 use Rattle.mcs_base.specs.Listings.{IsAmong}
-use Rattle.mcs_base.proofs.Among.{among_permutation, among_at, place_among}
+use Rattle.mcs_base.proofs.Among.{among_permutation, among_at, set_among}
 use Rattle.mcs_base.proofs.Each.{all_among, all_from_among}
 use Rattle.mcs_base.proofs.Lists.{zip_get_or, length_zip}
 use Rattle.mcs_base.proofs.Zipped.{zip_from_get_or}
@@ -22,13 +22,14 @@ use Rattle.mcs_joint.specs.Reduced.{IsReduced}
 use Rattle.mcs_joint.proofs.Covering.{MarksCover, apart_moved, apart_fewer}
 
 pub reduced-refl : (level : ℕ) (ts : List TableData) → EachApart ts → IsReduced level ts ts
-reduced-refl level ts apart = record { one_each = refl; tables = λ h. h; apart = apart; joint = λ r. (λ h. h, λ h. h) }
+reduced-refl level ts apart = record { one_each = refl; tables = λ h. h; apart = apart; rows = λ u among r in_rows. (u, among, in_rows); joint = λ r. (λ h. h, λ h. h) }
 
 pub reduced-trans : (level : ℕ) (ts us vs : List TableData) → IsReduced level ts us → IsReduced level us vs → IsReduced level ts vs
 reduced-trans level ts us vs a b = record {
   one_each = b.one_each ∙ a.one_each;
   tables = λ h. b.tables (a.tables h);
   apart = b.apart;
+  rows = λ v among r in_rows. let (u, there, in_u) = b.rows v among r in_rows in a.rows u there r in_u;
   joint = λ r. (λ h. (b.joint r).0 ((a.joint r).0 h), λ h. (a.joint r).1 ((b.joint r).1 h));
 }
 
@@ -37,6 +38,7 @@ reduced_moved level ts us moved apart = record {
   one_each = length_permutation ts us moved;
   tables = λ all. all_from_among IsTable us (λ t among. all_among IsTable ts t all ((among_permutation ts us moved t).0 among));
   apart = apart_moved ts us moved apart;
+  rows = λ u among r in_rows. (u, (among_permutation ts us moved u).0 among, in_rows);
   joint = λ r. (joint_moved level r ts us moved, joint_moved level r us ts (IsPermutation-sym ts us moved));
 }
 
@@ -122,23 +124,27 @@ module _ (level : ℕ) (ts : List TableData) (i j : ℕ) (a b u : TableData) (le
     one_each = length-set ts i u;
     tables = λ all. all_from_among IsTable (set ts i u) (λ t among. is_table all t among);
     apart = apart_fewer ts (set ts i u) fewer apart;
+    rows = λ t among r in_rows. elim (set_among ts i u t less_i among) [
+      | inl same ↦ (a, is_in, ((semi.rows.exactly r).0 (subst (λ (w : TableData). IsAmong r w.rows) same in_rows)).0)
+      | inr there ↦ (t, there, in_rows)
+    ];
     joint = λ r. (kept r, λ joint. record { parts = joint.parts; of_tables = back joint.parts ts (set ts i u) fewer joint.of_tables; fit = joint.fit; is = joint.is; few = joint.few });
   }
     where
+      is_in : IsAmong a ts
+      is_in = subst (λ (t : TableData). IsAmong t ts) at_i (among_at ts i unit_table less_i)
+
       is_u : AllByRecursion IsTable ts → IsTable u
       is_u all =
-          let is : IsTable a = all_among IsTable ts a all (subst (λ (t : TableData). IsAmong t ts) at_i (among_at ts i unit_table less_i)) in
+          let is : IsTable a = all_among IsTable ts a all is_in in
           let same : u ≡ record { scope = a.scope; rows = u.rows } = table_is u (record { scope = a.scope; rows = u.rows }) semi.scope refl in
           subst IsTable (sym same) (part_is_table a (HasPartner b.rows level) u.rows is semi.rows)
 
       is_table : AllByRecursion IsTable ts → (t : TableData) → IsAmong t (set ts i u) → IsTable t
-      is_table all t among =
-          let (k, less, at) = place_among (set ts i u) t among in
-          let less' : k < length ts = (let same = length-set ts i u in omega arith) in
-          elim (cases_eq k i) [
-            | inl same ↦ let e : u ≡ t = sym (get_or-set_same ts i u unit_table less_i) ∙ (ap (λ n. get_or (set ts i u) n unit_table) (sym same) ∙ at unit_table) in subst IsTable e (is_u all)
-            | inr apart ↦ let e : get_or ts k unit_table ≡ t = sym (get_or-set_other ts i k u unit_table apart) ∙ at unit_table in subst IsTable e (all_among IsTable ts (get_or ts k unit_table) all (among_at ts k unit_table less'))
-          ]
+      is_table all t among = elim (set_among ts i u t less_i among) [
+        | inl same ↦ subst IsTable (sym same) (is_u all)
+        | inr there ↦ all_among IsTable ts t all there
+      ]
 
 pub two_apart : (ts : List TableData) (i j : ℕ) (a b : TableData) → i < length ts → j < length ts → ¬ (i ≡ j) → a ≡ get_or ts i a → b ≡ get_or ts j b → EachApart ts → ShareNoMark a.rows b.rows
 two_apart ts i j a b less_i less_j differ is_a is_b apart =

@@ -9,11 +9,16 @@ use Rattle.mcs_table.specs.Tables.{TableData, IsTable}
 use Rattle.mcs_table.specs.Joins.{IsJointRow}
 use Rattle.mcs_joint.specs.Apart.{EachApart}
 
--- as many tables, still without a mark in common, that have the same joint rows
+-- each row of one of the fewer tables is one of all tables
+abbrev pub HaveRowsOf : List TableData → List TableData → Type 0
+HaveRowsOf all fewer = (u : TableData) → IsAmong u fewer → (r : Row) → IsAmong r u.rows → (t : TableData) × IsAmong t all × IsAmong r t.rows
+
+-- as many tables, still without a mark in common, that have the same joint rows and no other rows
 pub record IsReduced (level : ℕ) (all fewer : List TableData) : Type 0 where
   pub one_each : length fewer ≡ length all
   pub tables : AllByRecursion IsTable all → AllByRecursion IsTable fewer
   pub apart : EachApart fewer
+  pub rows : HaveRowsOf all fewer
   pub joint : (r : Row) → IsJointRow level all r ↔ IsJointRow level fewer r
 
 -- u has exactly the rows of t with at most so many marks

@@ -9,5 +9,7 @@ mod repairs;
 mod states;
 
 pub use first::first_state_in;
-pub use repairs::repairs_in;
+pub use order::scopes;
+pub use reduce::reduced;
+pub use repairs::{marks_of, repairs_in};
 pub use states::states_in;

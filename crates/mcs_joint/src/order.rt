@@ -10,7 +10,7 @@ use mcs_base::Vars;
 use mcs_table::Table;
 
 /// The variables of all of the tables.
-pub(crate) fn scopes(tables: &[Table]) -> Vars
+pub fn scopes(tables: &[Table]) -> Vars
     ensures value { result ≡ union_of (λ (t : TableData). t.scope) tables.now }
     ensures kept { AllByRecursion IsTable tables.now }
 {

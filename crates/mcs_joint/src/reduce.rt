@@ -13,7 +13,7 @@ use std::alloc::Global;
 /// with which theirs shares variables. They have the same joint rows. Each round takes away what
 /// the rounds before have left without a partner; where the tables are shaped as a tree, the rows
 /// that are left are those of joint rows, as far as states go.
-pub(crate) fn reduced(alloc: Global, tables: Vec<Table>, level: u32) -> Result<Vec<Table>, Memory>
+pub fn reduced(alloc: Global, tables: Vec<Table>, level: u32) -> Result<Vec<Table>, Memory>
     requires { EachApart tables.items }
     ensures { IfOk result (λ fewer. IsReduced level tables.items fewer.items) }
 {

@@ -52,7 +52,7 @@ pub fn repairs_in(
 }
 
 /// The marks of each row.
-fn marks_of(alloc: Global, rows: &[Row]) -> Result<Vec<Marks>, Memory>
+pub fn marks_of(alloc: Global, rows: &[Row]) -> Result<Vec<Marks>, Memory>
     ensures { IfOk result (λ all. all.items ≡ map (λ (r : declared.Row). r.marks) rows.now) }
 {
     let all = rows.iter().map(|row| row.marks).collect(alloc)?;

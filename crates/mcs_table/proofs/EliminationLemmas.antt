@@ -71,10 +71,10 @@ pub elimination_apart : EliminationStaysApart
 elimination_apart level keep tables t c eliminates all = apart_eliminated level keep tables unit_table t c (unit_apart c) eliminates all
 
 -- ---- what is still kept
-later_kept : (keep : ℕ) (a : TableData) (rest : List TableData) → common (still_kept keep (a ∷ rest)) (still_kept keep rest) ≡ still_kept keep rest
+pub later_kept : (keep : ℕ) (a : TableData) (rest : List TableData) → common (still_kept keep (a ∷ rest)) (still_kept keep rest) ≡ still_kept keep rest
 later_kept keep a rest = same_set _ _ (λ k. grind (arith, sets))
 
-scope_kept : (keep : ℕ) (a : TableData) (rest : List TableData) → Within a.scope (still_kept keep (a ∷ rest))
+pub scope_kept : (keep : ℕ) (a : TableData) (rest : List TableData) → Within a.scope (still_kept keep (a ∷ rest))
 scope_kept keep a rest k is = grind (arith, sets)
 
 -- ---- table after table
@@ -103,7 +103,7 @@ eliminates_scope level keep (a ∷ rest) from t s is (joined, next, j, forget, l
     eliminates_scope level keep rest next t (union s a.scope) of_next later ∙ ap (λ u. common u keep) (union_assoc s a.scope (union_of (λ (b : TableData). b.scope) rest))
 
 -- the row of no variables says nothing of any
-unit_restricted : (keep : ℕ) → unit_row ≡ restricted_row unit_row keep
+pub unit_restricted : (keep : ℕ) → unit_row ≡ restricted_row unit_row keep
 unit_restricted keep = same_row _ _ (sym (none-common keep)) (sym (none-common keep)) refl
 
 unit_alike : (keep : ℕ) (r : Row) → is_unit r ↔ IsRestrictionOf is_unit keep r
@@ -112,7 +112,7 @@ unit_alike keep r = (
   λ u. u.is ∙ (ap (λ (w : Row). restricted_row w keep) u.holds ∙ sym (unit_restricted keep)),
 )
 
-restricts_alike : (P Q : Row → Type 0) (keep : ℕ) → ((r : Row) → P r ↔ Q r) → (r : Row) → IsRestrictionOf P keep r ↔ IsRestrictionOf Q keep r
+pub restricts_alike : (P Q : Row → Type 0) (keep : ℕ) → ((r : Row) → P r ↔ Q r) → (r : Row) → IsRestrictionOf P keep r ↔ IsRestrictionOf Q keep r
 restricts_alike P Q keep same r = (λ u. record { row = u.row; holds = (same u.row).0 u.holds; is = u.is }, λ u. record { row = u.row; holds = (same u.row).1 u.holds; is = u.is })
 
 pub elimination_is_minimal : EliminationIsMinimal

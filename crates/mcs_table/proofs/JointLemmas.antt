@@ -1,5 +1,5 @@
 -- Several tables joined one after the other: the minimal unions of one row of each.
-use Rattle.std.proofs.Common.{◌≡◌, ◌≤◌, ℕ, true, List, [], ◌∷◌, refl, sym, ap, ◌∙◌, subst, inl, inr, ◌↔◌, arith, true≢false, IsTrue}
+use Rattle.std.proofs.Common.{◌≡◌, ◌≤◌, ℕ, true, List, [], ◌∷◌, ◌++◌, refl, sym, ap, ◌∙◌, subst, inl, inr, ◌↔◌, arith, true≢false, IsTrue}
 use Rattle.std.specs.List.{AllByRecursion, AllZip}
 use Rattle.mcs_sets.specs.Sets.{has, union, size, Within}
 use Rattle.mcs_sets.proofs.SetLemmas.{has-union, has-empty, members-empty}
@@ -98,6 +98,11 @@ presents_alike S T t same p = record {
 abbrev pub UnionsFrom : ℕ → (Row → Type 0) → List TableData → Row → Type 0
 UnionsFrom level S [] = S
 UnionsFrom level S (a ∷ rest) = UnionsFrom level (IsUnionOf S a.rows level) rest
+
+-- the unions with one table more
+pub unions_more : (level : ℕ) (tables : List TableData) (a : TableData) (S : Row → Type 0) (r : Row) → UnionsFrom level S (tables ++ a ∷ []) r ↔ IsUnionOf (UnionsFrom level S tables) a.rows level r
+unions_more level [] a S r = (λ h. h, λ h. h)
+unions_more level (t ∷ tables) a S r = unions_more level tables a (IsUnionOf S t.rows level) r
 
 joins_present : (level : ℕ) (tables : List TableData) (S : Row → Type 0) (from t : TableData) → Presents S from → JoinsFrom level from tables t → Presents (UnionsFrom level S tables) t
 joins_present level [] S from t p e = subst (Presents S) (sym e) p

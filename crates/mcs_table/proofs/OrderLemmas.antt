@@ -1,15 +1,20 @@
 -- The order of rows.
-use Rattle.std.proofs.Common.{◌≡◌, ℕ, List, sym, ◌∙◌, subst, inl, inr}
+use Rattle.std.proofs.Common.{◌≡◌, ℕ, List, sym, ap, ◌∙◌, subst, inl, inr}
 use Rattle.std.specs.declared.cmp.Ordering.TheVariants.{Less}
 use Rattle.mcs_sets.specs.Orders.{StateBefore}
 use Rattle.mcs_sets.proofs.SetLemmas.{StateBefore-asymmetric, PairBefore-asymmetric, not_before_itself}
 use Rattle.mcs_base.specs.Listings.{IsListing}
+use Rattle.mcs_base.specs.Partials.{PartialState}
 use Rattle.mcs_base.specs.StateOrder.{StateBefore-transitive}
 use Rattle.mcs_base.specs.PairOrder.{PairBefore-transitive}
 use Rattle.mcs_base.proofs.ListingLemmas.{Sorts}
 use Rattle.mcs_base.proofs.Ascending.{ascending_as}
 use Rattle.mcs_table.specs.declared.row.Row.{Row}
-use Rattle.mcs_table.specs.RowOrder.{RowBefore, row_cmp, row_cmp_total, row_less_is, row_equal_is}
+use Rattle.mcs_table.specs.RowOrder.{RowBefore, row_cmp, row_cmp_total, row_less_is, row_equal_is, same_row}
+
+-- rows of one state with the same marks are one
+pub same_state_and_marks : (a b : Row) → a.state ≡ b.state → a.marks ≡ b.marks → a ≡ b
+same_state_and_marks a b state marks = same_row a b (ap (λ (s : PartialState). s.mask) state) (ap (λ (s : PartialState). s.values) state) marks
 
 pub rows_sort : Sorts (λ (a b : Row). row_cmp a b ≡ Less) row_cmp
 rows_sort = record { total = row_cmp_total; less = λ a b e. e; equal = row_equal_is }
