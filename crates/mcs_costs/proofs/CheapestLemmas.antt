@@ -21,18 +21,22 @@ less_within m valid t p k known within is out =
     let some = mark_weight_some m valid k (mark_below m p known k is) in
     omega (arith, cost-without m p k is, rest, some)
 
-pub cheapest_minimal : (m : System) (p : ℕ) → IsValid m → IsCheapest m p → IsMinimal (IsDiagnosis m) p
-cheapest_minimal m p valid cheapest = record { one = cheapest.one; least = λ t d within. at t d within (least_below (minus p t) p (small t)) }
+-- so marks within others that cost as much are the same
+pub cost_within_same : (m : System) → IsValid m → (t p : ℕ) → Within p (all_marks m) → Within t p → cost m p ≤ cost m t → t ≡ p
+cost_within_same m valid t p known within no_less = at (least_below (minus p t) p (omega (arith, minus-le p t, below_power p)))
   where
-    small : (t : ℕ) → minus p t < 2 ^ p
-    small t = omega (arith, minus-le p t, below_power p)
-
-    at : (t : ℕ) → IsDiagnosis m t → Within t p → (minus p t ≡ 0) ⊎ ((k : ℕ) × (k < p) × (has (minus p t) k ≡ true) × ((j : ℕ) → j < k → has (minus p t) j ≡ false)) → t ≡ p
-    at t d within (inl none) = nothing_missing t p within none
-    at t d within (inr (k, less, missing, first)) =
+    at : (minus p t ≡ 0) ⊎ ((k : ℕ) × (k < p) × (has (minus p t) k ≡ true) × ((j : ℕ) → j < k → has (minus p t) j ≡ false)) → t ≡ p
+    at (inl none) = nothing_missing t p within none
+    at (inr (k, less, missing, first)) =
         let (is, out) = in_minus p t k missing in
-        let cheaper = less_within m valid t p k (allowed_known m p cheapest.one.allowed) within is out in
-        absurd (let least = cheapest.least t d in omega (arith, cheaper, least))
+        let cheaper = less_within m valid t p k known within is out in
+        absurd (omega (arith, cheaper, no_less))
+
+pub cheapest_minimal : (m : System) (p : ℕ) → IsValid m → IsCheapest m p → IsMinimal (IsDiagnosis m) p
+cheapest_minimal m p valid cheapest = record {
+  one = cheapest.one;
+  least = λ t d within. cost_within_same m valid t p (allowed_known m p cheapest.one.allowed) within (cheapest.least t d);
+}
 
 -- ---- how many marks
 -- what costs less than one mark more than so many would has no more than so many

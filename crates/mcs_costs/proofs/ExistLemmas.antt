@@ -88,7 +88,7 @@ cases_cheapest m d = elim (cases_diagnosis m d) [
 ]
 
 -- ---- a stop level
-least_exists : (xs : List ℕ) → (xs ≡ []) ⊎ ((n : ℕ) × IsLeastOf xs (Some n))
+pub least_exists : (xs : List ℕ) → (xs ≡ []) ⊎ ((n : ℕ) × IsLeastOf xs (Some n))
 least_exists [] = inl refl
 least_exists (x ∷ xs) = elim (least_exists xs) [
   | inl none ↦ inr (x, (inl refl, ((let same : x ≤ x = omega arith in same), subst (λ ys. AllByRecursion (λ k. x ≤ k) ys) (sym none) tt)))

@@ -1,8 +1,10 @@
 -- What a repair costs, which diagnoses cost least, and how many marks such a one may have.
 use Rattle.std.specs.Prelude.{◌≡◌, ◌⊎◌, ℕ, ◌+◌, ◌*◌, ◌/◌, ◌<◌, ◌≤◌, List, map, length, Option, Some, None, slice_get}
 use Rattle.std.specs.List.{sum_by}
+use Rattle.mcs_sets.specs.Orders.{PairBefore}
 use Rattle.mcs_sets.specs.Sets.{members, size}
 use Rattle.mcs_base.specs.Least.{IsLeastOf}
+use Rattle.mcs_base.specs.Listings.{IsListing}
 use Rattle.mcs_system.specs.Plain.{Bridge, System}
 use Rattle.mcs_system.specs.Repairs.{IsDiagnosis}
 use Rattle.mcs_system.specs.Systems.{IsConsistent}
@@ -49,6 +51,18 @@ pub record IsFirstSettling (m : System) (level : ℕ) : Type 0 where
   pub settles : SettlesCost m level
   pub first : (k : ℕ) → k < level → ¬ SettlesCost m k
   pub within : level ≤ length m.bridges
+
+-- the level settles that no other diagnosis costs less than this pair, by its cost, or since there is no higher level
+abbrev pub IsSettledAt : System → ℕ → ℕ → Type 0
+IsSettledAt m level pair = ((weight : ℕ) × IsLeastWeight m weight × (cost m pair < (level + 1) * weight)) ⊎ (length m.bridges ≤ level)
+
+-- the level settles of no diagnosis that none costs less
+abbrev pub SettlesNone : System → ℕ → Type 0
+SettlesNone m level = (pair : ℕ) → IsDiagnosis m pair → ¬ IsSettledAt m level pair
+
+-- exactly the cheapest diagnoses, in the order of pairs
+abbrev pub AreCheapest : System → List ℕ → Type 0
+AreCheapest m pairs = IsListing (IsCheapest m) PairBefore pairs
 
 -- the number of rules, where no level up to it settles the least cost
 pub record IsNeverSettled (m : System) (level : ℕ) : Type 0 where
