@@ -1,0 +1,4 @@
+pub mod CheapestRows
+pub mod Runs
+pub mod Lightest
+pub mod Eliminating
