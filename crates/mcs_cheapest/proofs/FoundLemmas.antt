@@ -15,13 +15,12 @@ use Rattle.mcs_states.specs.Evaluators.{EvaluatorState, KeepsRest, HasHalted, Is
 use Rattle.mcs_states.specs.declared.halt.Halt.{Halt}
 use Rattle.mcs_states.proofs.Causes.{cause_before, told}
 use Rattle.mcs_diagnosis.specs.declared.diagnosis.Diagnosis as shown
-use Rattle.mcs_diagnosis.specs.Courses.{CanShow}
 use Rattle.mcs_diagnosis.specs.Diagnoses.{ShowsFirstState, pairs_of}
 use Rattle.mcs_costs.specs.Costs.{cost, IsCheapest, IsStopLevel}
-use Rattle.mcs_costs.proofs.StopLemmas.{stop_is_one}
+use Rattle.mcs_costs.proofs.StopLemmas.{cheapest_few, stop_is_one}
 use Rattle.mcs_cheapest.specs.declared.cheapest.Cheapest as code
 use Rattle.mcs_cheapest.specs.Found.{HasSearched, HasBrokenOff, IsLeastCost}
-use Rattle.mcs_cheapest.specs.Searching.{CostsLeast, IsDoneBefore, HasTakenEnough}
+use Rattle.mcs_cheapest.specs.Searching.{CostsLeast, HasStopped, HasTakenEnough, IsDoneBefore}
 use Rattle.mcs_cheapest.proofs.CountLemmas.{settled_count}
 use Rattle.mcs_cheapest.proofs.EndLemmas.{cheapest_told, least_cost_told, some_taken, stops_last}
 
@@ -52,7 +51,7 @@ done_still a b done level is few up = up ∙ ap (λ (d : Option ℕ). raised d l
 -- ---- enough levels were taken, and these are the cheapest of their pairs
 module _ (first e : EvaluatorState) (n : System) (same : first.system ≡ n) (level : ℕ) (pairs : List ℕ) (least : Option ℕ) (t : HasTakenEnough first e level pairs least) where
   -- the last level that was taken
-  abbrev pub last : ℕ
+  abbrev last : ℕ
   last = level - 1
 
   level_is : level ≡ last + 1
@@ -71,50 +70,56 @@ module _ (first e : EvaluatorState) (n : System) (same : first.system ≡ n) (le
       at zero fresh is = absurd (omega (arith, is))
       at (suc k) done is = (done.0 ∙ ap (λ (j : ℕ). Some j) (let equal : k ≡ last = omega (arith, is) in equal), done.1)
 
-  pub is_done : e.done ≡ Some last
-  is_done = done_last.0
+  -- the search has stopped
+  pub has_stopped : (cheapest : List ℕ) → IsListing (λ p. IsAmong p pairs × CostsLeast least (cost n p)) PairBefore cheapest → HasStopped first e cheapest
+  has_stopped cheapest listed = record {
+    valid = t.valid;
+    listed = IsListing-same PairBefore _ (IsCheapest first.system) cheapest (cheapest_told first.system t.valid level pairs t.searching.listed least t.searching.least_is t.enough)
+        (subst (λ (m : System). IsListing (λ p. IsAmong p pairs × CostsLeast least (cost m p)) PairBefore cheapest) (sym same) listed);
+    stop = last;
+    is_stop = stop_reached;
+    level_done = done_last.0;
+    settled = done_last.1;
+    taken = λ k few. t.searching.taken k (omega (arith, few, last_taken));
+  }
 
-  pub is_settled : IsEvaluatorSettled e
-  is_settled = done_last.1
+  pub cost_told : IsLeastCost first.system least
+  cost_told = least_cost_told first.system t.valid level pairs t.searching.listed least t.searching.least_is t.enough
 
-  module _ (cheapest : List ℕ) (listed : IsListing (λ p. IsAmong p pairs × CostsLeast least (cost n p)) PairBefore cheapest) where
-    pub cheapest_listed : IsListing (IsCheapest first.system) PairBefore cheapest
-    cheapest_listed = IsListing-same PairBefore _ (IsCheapest first.system) cheapest (cheapest_told first.system t.valid level pairs t.searching.listed least t.searching.least_is t.enough)
-        (subst (λ (m : System). IsListing (λ p. IsAmong p pairs × CostsLeast least (cost m p)) PairBefore cheapest) (sym same) listed)
+-- ---- these are shown, and all is told
+module _ (first e : EvaluatorState) (pairs : List ℕ) (stopped : HasStopped first e pairs) where
+  module _ (p : ℕ) (among : IsAmong p pairs) where
+    is_cheapest : IsCheapest first.system p
+    is_cheapest = (stopped.listed.exactly p).0 among
 
-    module _ (p : ℕ) (among : IsAmong p cheapest) where
-      is_diagnosis : IsDiagnosis first.system p
-      is_diagnosis = ((cheapest_listed.exactly p).0 among).one
+    pub has_few : size p ≤ stopped.stop
+    has_few = cheapest_few first.system p stopped.stop stopped.valid is_cheapest stopped.is_stop
 
-      pub has_few : size p ≤ last
-      has_few = let below = ((t.searching.listed.exactly p).0 ((listed.exactly p).0 among).0).1 in omega (arith, below, level_is)
+    pub is_diagnosis : (n : System) → first.system ≡ n → IsDiagnosis n p
+    is_diagnosis n same = subst (λ (m : System). IsDiagnosis m p) same is_cheapest.one
 
-      -- it can be shown
-      pub can_show : (e' : EvaluatorState) → KeepsRest first e' → IsEvaluatorSettled e' → CanShow e' p
-      can_show e' kept settled = record { going = settled.going; diagnosis = subst (λ (m : System). IsDiagnosis m p) (sym kept.system) is_diagnosis }
-
-      -- the call for it halted
-      pub showing_broke_off : (a e' : EvaluatorState) (halt : Halt) → KeepsRest first a → HasHalted a e' (size p) halt → HasBrokenOff first e' halt
-      showing_broke_off a e' halt kept h = record {
-        level = size p;
-        up_to_stop = λ stop is. omega (arith, has_few, stop_is_one first.system stop last is stop_reached);
-        cause = cause_before first a kept (size p) halt h.cause;
-        told = told a e' (size p) halt h;
-        within = λ k less. (t.searching.taken k (omega (arith, less, has_few, last_taken))).within;
-        answered = λ k i x less. (t.searching.taken k (omega (arith, less, has_few, last_taken))).answered i x;
-      }
-
-    -- all were shown
-    pub search_told : (e' : EvaluatorState) (c : code.Cheapest) → KeepsRest first e' → IsEvaluatorSettled e' → e'.done ≡ Some last → pairs_of c.found.items ≡ cheapest → AllByRecursion (ShowsFirstState first.system) c.found.items
-        → c.cost ≡ least → (e'.halted ≡ false → c.need ≡ asked_of e') → HasSearched first e' c
-    search_told e' c kept settled done paired shown cost_is need_is = record {
-      found = record { listed = subst (IsListing (IsCheapest first.system) PairBefore) (sym paired) cheapest_listed; shown = shown };
-      cost = subst (λ (o : Option ℕ). IsLeastCost first.system o) (sym cost_is) (least_cost_told first.system t.valid level pairs t.searching.listed least t.searching.least_is t.enough);
-      stop = last;
-      is_stop = stop_reached;
-      need = subst (λ (m : System). IsCount m last c.need) kept.system (subst (λ (k : ℕ). IsCount e'.system last k) (sym (need_is settled.going)) (settled_count e' last settled done));
-      level_done = done;
-      settled = settled;
-      within = λ k few. (t.searching.taken k (omega (arith, few, last_taken))).within;
-      answered = λ k i x few. (t.searching.taken k (omega (arith, few, last_taken))).answered i x;
+    -- the call for it halted
+    pub showing_broke_off : (a e' : EvaluatorState) (halt : Halt) → KeepsRest first a → HasHalted a e' (size p) halt → HasBrokenOff first e' halt
+    showing_broke_off a e' halt kept h = record {
+      level = size p;
+      up_to_stop = λ stop is. (let few = has_few in omega (arith, few, stop_is_one first.system stop stopped.stop is stopped.is_stop));
+      cause = cause_before first a kept (size p) halt h.cause;
+      told = told a e' (size p) halt h;
+      within = λ k less. (let few = has_few in stopped.taken k (omega (arith, less, few))).within;
+      answered = λ k i x less. (let few = has_few in stopped.taken k (omega (arith, less, few))).answered i x;
     }
+
+  -- all were shown
+  pub search_told : (e' : EvaluatorState) (c : code.Cheapest) → KeepsRest first e' → IsEvaluatorSettled e' → e'.done ≡ Some stopped.stop → pairs_of c.found.items ≡ pairs → AllByRecursion (ShowsFirstState first.system) c.found.items
+      → IsLeastCost first.system c.cost → (e'.halted ≡ false → c.need ≡ asked_of e') → HasSearched first e' c
+  search_told e' c kept settled done paired shown cost_is need_is = record {
+    found = record { listed = subst (IsListing (IsCheapest first.system) PairBefore) (sym paired) stopped.listed; shown = shown };
+    cost = cost_is;
+    stop = stopped.stop;
+    is_stop = stopped.is_stop;
+    need = subst (λ (m : System). IsCount m stopped.stop c.need) kept.system (subst (λ (k : ℕ). IsCount e'.system stopped.stop k) (sym (need_is settled.going)) (settled_count e' stopped.stop settled done));
+    level_done = done;
+    settled = settled;
+    within = λ k few. (stopped.taken k few).within;
+    answered = λ k i x few. (stopped.taken k few).answered i x;
+  }

@@ -3,3 +3,4 @@ pub mod EndLemmas
 pub mod SearchLemmas
 pub mod FoundLemmas
 pub mod ListedLaws
+pub mod LeastLemmas

@@ -69,11 +69,11 @@ search_begins m e level none can = subst (λ (n : ℕ). IsSearching e e n [] Non
 })
 
 -- ---- a level more
-raised_next : (e e' : EvaluatorState) (level : ℕ) → IsDoneBefore e level → e'.done ≡ raised e.done level → e'.done ≡ Some level
+pub raised_next : (e e' : EvaluatorState) (level : ℕ) → IsDoneBefore e level → e'.done ≡ raised e.done level → e'.done ≡ Some level
 raised_next e e' zero fresh up = up ∙ ap (λ (d : Option ℕ). raised d 0) fresh
 raised_next e e' (suc k) done up = up ∙ ap (λ (d : Option ℕ). raised d (suc k)) done.0 ∙ ap (λ (n : ℕ). Some n) (let most : max k (suc k) ≡ suc k = omega arith in most)
 
-done_next : (e : EvaluatorState) (level : ℕ) → e.done ≡ Some level → IsEvaluatorSettled e → IsDoneBefore e (level + 1)
+pub done_next : (e : EvaluatorState) (level : ℕ) → e.done ≡ Some level → IsEvaluatorSettled e → IsDoneBefore e (level + 1)
 done_next e level done settled = subst (IsDoneBefore e) (let next : suc level ≡ level + 1 = omega arith in next) (done, settled)
 
 module _ (first e : EvaluatorState) (n : System) (same : first.system ≡ n) (valid : IsValid n) (level : ℕ) (pairs : List ℕ) (least : Option ℕ) (s : IsSearching first e level pairs least) (open_yet : ¬ IsPast e.system level) (not_yet : ¬ IsBelowMarks first.system level least) where

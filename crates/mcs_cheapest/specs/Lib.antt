@@ -1,3 +1,4 @@
 pub mod Found
 pub mod Searching
 pub mod Laws
+pub mod Least

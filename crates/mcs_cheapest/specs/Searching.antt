@@ -1,5 +1,5 @@
 -- The search for the cheapest diagnoses while it is under way.
-use Rattle.std.specs.Prelude.{◌≡◌, ◌⊎◌, ℕ, zero, suc, ◌*◌, ◌<◌, false, List, map, Option, Some, None}
+use Rattle.std.specs.Prelude.{◌≡◌, ◌⊎◌, ℕ, zero, suc, ◌*◌, ◌<◌, ◌≤◌, false, List, map, Option, Some, None}
 use Rattle.std.specs.List.{AllByRecursion}
 use Rattle.mcs_sets.specs.Orders.{PairBefore}
 use Rattle.mcs_sets.specs.Sets.{size, Within}
@@ -11,7 +11,7 @@ use Rattle.mcs_system.specs.Repairs.{all_marks, IsDiagnosis}
 use Rattle.mcs_states.specs.Evaluators.{EvaluatorState, KeepsRest, IsEvaluatorSettled, ExceedsBudget, IsUnanswered}
 use Rattle.mcs_diagnosis.specs.Courses.{IsPast}
 use Rattle.mcs_base.specs.Least.{IsLeastOf}
-use Rattle.mcs_costs.specs.Costs.{cost, IsLeastWeight, IsUpToStop}
+use Rattle.mcs_costs.specs.Costs.{cost, IsCheapest, IsLeastWeight, IsStopLevel, IsUpToStop}
 
 -- sets of marks of rules, in the order of pairs
 pub record ArePairs (m : System) (pairs : List ℕ) : Type 0 where
@@ -63,3 +63,13 @@ pub record HasTakenEnough (first now : EvaluatorState) (level : ℕ) (pairs : Li
   pub valid : IsValid first.system
   pub searching : IsSearching first now level pairs least
   pub enough : IsEnough first.system level least
+
+-- the levels up to the stop level were taken, and these are the cheapest diagnoses
+pub record HasStopped (first now : EvaluatorState) (pairs : List ℕ) : Type 0 where
+  pub valid : IsValid first.system
+  pub listed : IsListing (IsCheapest first.system) PairBefore pairs
+  pub stop : ℕ
+  pub is_stop : IsStopLevel first.system stop
+  pub level_done : now.done ≡ Some stop
+  pub settled : IsEvaluatorSettled now
+  pub taken : (k : ℕ) → k ≤ stop → IsTaken first k

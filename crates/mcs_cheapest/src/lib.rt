@@ -5,10 +5,12 @@
 mod cheapest;
 mod choosing;
 mod laws;
+mod least;
 mod listing;
 mod searching;
 
 pub use cheapest::Cheapest;
 pub use laws::cheapest_are_listed;
+pub use least::list_least;
 pub use listing::list_cheapest;
 pub use mcs_costs::cost;

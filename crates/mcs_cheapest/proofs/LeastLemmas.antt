@@ -1,0 +1,185 @@
+-- The search by an evaluator that tells the cheapest diagnoses alone takes the same levels.
+use Rattle.std.proofs.Common.{◌≡◌, ℕ, suc, ◌+◌, ◌*◌, ◌/◌, ◌<◌, ◌≤◌, min, List, [], map, length, Option, Some, None, Vec, unwrap_or, sym, ap, ◌∙◌, subst, inl, inr, arith}
+use Rattle.std.proofs.lemmas.Bool.{cases_lt}
+use Rattle.std.proofs.lemmas.List.{length-map}
+use Rattle.std.proofs.lemmas.Nat.{mul-le}
+use Rattle.std.specs.Prelude.{MatchOption}
+use Rattle.std.specs.declared.alloc.Global.{Global}
+use Rattle.mcs_sets.specs.Orders.{PairBefore}
+use Rattle.mcs_sets.proofs.Lattice.{size-none}
+use Rattle.mcs_base.specs.Least.{IsLeastOf}
+use Rattle.mcs_base.specs.Listings.{IsAmong}
+use Rattle.mcs_base.proofs.ListingLemmas.{IsListing-nil, none_listed}
+use Rattle.mcs_base.proofs.NumberCases.{not_less}
+use Rattle.mcs_system.specs.Faults.{IsValid}
+use Rattle.mcs_system.specs.Plain.{Bridge, System}
+use Rattle.mcs_system.specs.Seen.{bridge_of}
+use Rattle.mcs_system.specs.Systems.{IsConsistent}
+use Rattle.mcs_laws.proofs.Choices.{consistent_needs_nothing}
+use Rattle.mcs_states.specs.Calls.{CanBegin}
+use Rattle.mcs_states.specs.Evaluators.{EvaluatorState, KeepsRest, HasDone, HasHalted}
+use Rattle.mcs_states.specs.declared.halt.Halt.{Halt}
+use Rattle.mcs_states.proofs.Causes.{cause_before, rest_kept, rest_same, told}
+use Rattle.mcs_costs.specs.Costs.{cost, weights, AreCheapest, IsCheapest, IsLeastWeight, SettlesCost, SettlesNone, IsStopLevel, IsUpToStop}
+use Rattle.mcs_costs.proofs.CostLemmas.{cost-none, least_weight_some}
+use Rattle.mcs_costs.proofs.ExistLemmas.{cheapest_exists, least_exists, stop_exists}
+use Rattle.mcs_costs.proofs.StopLemmas.{stop_is_one, stop_is_quotient, stop_without}
+use Rattle.mcs_system.specs.declared.bridge.Bridge as code
+use Rattle.mcs_cheapest.specs.Found.{HasBrokenOff, IsLeastCost}
+use Rattle.mcs_cheapest.specs.Least.{HasTold, IsAsking, IsLooking}
+use Rattle.mcs_cheapest.specs.Searching.{HasStopped, IsDoneBefore, IsTaken}
+use Rattle.mcs_cheapest.proofs.CountLemmas.{beyond_after, unanswered_after}
+use Rattle.mcs_cheapest.proofs.SearchLemmas.{done_next, raised_next}
+
+-- ---- how far the search goes
+module _ (m : System) (valid : IsValid m) where
+  -- the empty pair, which costs nothing, settles the least cost of a consistent system that has rules
+  consistent_settles : IsConsistent m → (level : ℕ) → level < length m.bridges → SettlesCost m level
+  consistent_settles c level low = elim (least_exists (weights m)) [
+    | inl none ↦ absurd (let many = length-map m.bridges (λ (b : Bridge). b.weight) in let no = ap length none in omega (arith, many, no, low))
+    | inr (w, least) ↦ record {
+      pair = 0;
+      diagnosis = consistent_needs_nothing m c.equilibrium c.balanced;
+      few = omega (arith, size-none);
+      weight = w;
+      least = least;
+      cheap = (
+          let some = least_weight_some m valid w least in
+          let once : 1 * w ≤ (level + 1) * w = mul-le 1 w (level + 1) w (omega arith) (omega arith) in
+          omega (arith, cost-none m, some, once)
+          );
+    }
+  ]
+
+  -- what settles the least cost settles it of a diagnosis
+  settles_some : (level : ℕ) → SettlesCost m level → ¬ SettlesNone m level
+  settles_some level s none = none s.pair s.diagnosis (inl (s.weight, s.least, s.cheap))
+
+  -- the stop level does, where it is not that of all rules: of a consistent system by the empty pair, which costs nothing
+  stop_settles : (stop : ℕ) → stop < length m.bridges → IsStopLevel m stop → ¬ SettlesNone m stop
+  stop_settles stop low (inl (c, first)) = settles_some stop (consistent_settles c stop low)
+  stop_settles stop low (inr (none, inl f)) = settles_some stop f.settles
+  stop_settles stop low (inr (none, inr n)) = absurd (omega (arith, low, n.all))
+
+  -- so a level below which none does is not above the stop level
+  looks_up_to : (level : ℕ) → level ≤ length m.bridges → ((k : ℕ) → k < level → SettlesNone m k) → IsUpToStop m level
+  looks_up_to level low not_yet stop is = not_less stop level (λ above. stop_settles stop (omega (arith, above, low)) is (not_yet stop above))
+
+-- no stop level is above the number of rules
+pub stop_low : (m : System) (stop : ℕ) → IsStopLevel m stop → stop ≤ length m.bridges
+stop_low m stop (inl (c, first)) = omega (arith, first)
+stop_low m stop (inr (none, inl f)) = f.within
+stop_low m stop (inr (none, inr n)) = omega (arith, n.all)
+
+-- the level of all rules settles it of each diagnosis
+pub none_cheapest : (m : System) (level : ℕ) → length m.bridges ≤ level → SettlesNone m level → AreCheapest m []
+none_cheapest m level all none = IsListing-nil PairBefore (IsCheapest m) (λ p c. none p c.one (inr all))
+
+-- what is told there
+pub last_told : (m : System) (level : ℕ) (told : Option (Vec ℕ Global)) (empty : Vec ℕ Global) → length m.bridges ≤ level → MatchOption told (SettlesNone m level) (λ pairs. AreCheapest m pairs.items) → empty.items ≡ [] → AreCheapest m (unwrap_or told empty).items
+last_told m level None empty all none is = subst (AreCheapest m) (sym is) (none_cheapest m level all none)
+last_told m level (Some pairs) empty all listed is = listed
+
+-- ---- the cost
+module _ (m : System) (pairs : List ℕ) (listed : AreCheapest m pairs) where
+  pub none_costs : length pairs ≡ 0 → IsLeastCost m None
+  none_costs none d is = let (best, c) = cheapest_exists m d is in none_listed (IsCheapest m) PairBefore pairs none listed best c
+
+  pub one_costs : (p price : ℕ) → IsAmong p pairs → price ≡ cost m p → IsLeastCost m (Some price)
+  one_costs p price among is = (p, (listed.exactly p).0 among, sym is)
+
+-- ---- the stop level of the cheapest diagnoses
+-- where there is none
+pub stops_last : (m : System) (last : ℕ) → last ≡ length m.bridges → IsLeastCost m None → IsStopLevel m last
+stops_last m last all none = (stop_without m last none).1 all
+
+-- where there are no rules
+pub stops_first : (m : System) → IsValid m → (last : ℕ) → last ≡ length m.bridges → IsLeastOf (weights m) None → IsStopLevel m last
+stops_first m valid last all none =
+    let (stop, is) = stop_exists m valid in
+    let low = stop_low m stop is in
+    let many = length-map m.bridges (λ (b : Bridge). b.weight) in
+    let no = ap length none in
+    let same : stop ≡ last = omega (arith, low, many, no, all) in
+    subst (IsStopLevel m) same is
+
+-- elsewhere
+pub stops_at : (m : System) → IsValid m → (price weight last stop : ℕ) → last ≡ length m.bridges → IsLeastCost m (Some price) → IsLeastWeight m weight → stop ≡ min (price / weight) last → IsStopLevel m stop
+stops_at m valid price weight last stop all (p, cheapest, is) least same =
+    (stop_is_quotient m p weight stop valid cheapest least).1 (same ∙ ap (λ (n : ℕ). min (n / weight) last) (sym is) ∙ ap (λ (n : ℕ). min (cost m p / weight) n) all)
+
+-- ---- a level is taken
+-- before level 0
+asking_begins : (m : System) (e : EvaluatorState) → CanBegin m e → IsAsking e e 0
+asking_begins m e can = record { going = can.going; rest = rest_same e; done = can.fresh; taken = λ k less. absurd (omega (arith, less)) }
+
+module _ (first e e' : EvaluatorState) (level : ℕ) (a : IsAsking first e level) (up : IsUpToStop first.system level) (kept : KeepsRest e e') where
+  -- the call of the level halted
+  pub asking_breaks_off : (halt : Halt) → HasHalted e e' level halt → HasBrokenOff first e' halt
+  asking_breaks_off halt h = record {
+    level = level;
+    up_to_stop = up;
+    cause = cause_before first e a.rest level halt h.cause;
+    told = told e e' level halt h;
+    within = λ k less. (a.taken k less).within;
+    answered = λ k i x less. (a.taken k less).answered i x;
+  }
+
+  -- it was done
+  pub asks_on : HasDone e e' level → IsAsking first e' (level + 1)
+  asks_on h = record {
+    going = h.settled.going;
+    rest = rest_kept first e e' a.rest kept;
+    done = done_next e' level (raised_next e e' level a.done h.level_done) h.settled;
+    taken = λ k low. elim (cases_lt k level) [
+      | inl less ↦ a.taken k less
+      | inr past ↦ subst (IsTaken first) (let same : level ≡ k = omega (arith, past, low) in same) here
+    ];
+  }
+    where
+      here : IsTaken first level
+      here = record { up_to_stop = up; within = λ beyond. h.within (beyond_after first e a.rest level beyond); answered = λ i x u. h.answered i x (unanswered_after first e a.rest level i x u) }
+
+-- ---- the levels at which nothing is told yet
+-- the last level is that of all rules
+pub last_counted : (m n : System) (rules : List code.Bridge) → m ≡ n → map bridge_of rules ≡ n.bridges → length rules ≡ length m.bridges
+last_counted m n rules same seen = sym (length-map rules bridge_of) ∙ ap length (seen ∙ ap (λ (s : System). s.bridges) (sym same))
+
+pub look_begins : (m : System) (e : EvaluatorState) → CanBegin m e → IsLooking e e 0
+look_begins m e can = record { asking = asking_begins m e can; low = omega arith; not_yet = λ k less. absurd (omega (arith, less)) }
+
+module _ (first e e' : EvaluatorState) (level : ℕ) (valid : IsValid first.system) (l : IsLooking first e level) (kept : KeepsRest e e') where
+  pub look_breaks_off : (halt : Halt) → HasHalted e e' level halt → HasBrokenOff first e' halt
+  look_breaks_off halt h = asking_breaks_off first e e' level l.asking (looks_up_to first.system valid level l.low l.not_yet) kept halt h
+
+  module _ (h : HasDone e e' level) where
+    asked : IsAsking first e' (level + 1)
+    asked = asks_on first e e' level l.asking (looks_up_to first.system valid level l.low l.not_yet) kept h
+
+    pub looks_on : level < length first.system.bridges → SettlesNone first.system level → IsLooking first e' (level + 1)
+    looks_on low none = record {
+      asking = asked;
+      low = omega (arith, low);
+      not_yet = λ k less. elim (cases_lt k level) [
+        | inl earlier ↦ l.not_yet k earlier
+        | inr past ↦ subst (SettlesNone first.system) (let same : level ≡ k = omega (arith, past, less) in same) none
+      ];
+    }
+
+    pub look_ends : (pairs : List ℕ) → AreCheapest first.system pairs → HasTold first e' level pairs
+    look_ends pairs listed = record { valid = valid; listed = listed; asking = asked }
+
+-- ---- the levels up to the stop level are asked
+module _ (first e : EvaluatorState) (level : ℕ) (pairs : List ℕ) (t : HasTold first e level pairs) where
+  pub told_up_to : IsUpToStop first.system level
+  told_up_to = (t.asking.taken level (omega arith)).up_to_stop
+
+-- a level that is not above the stop level
+pub below_stop : (m : System) (level stop : ℕ) → level ≤ stop → IsStopLevel m stop → IsUpToStop m level
+below_stop m level stop low is other other_is = let same = stop_is_one m stop other is other_is in omega (arith, low, same)
+
+-- all were asked
+pub asked_all : (first e now : EvaluatorState) (level : ℕ) (pairs : List ℕ) → HasTold first e level pairs → (stop : ℕ) → IsStopLevel first.system stop → IsAsking first now (stop + 1) → HasStopped first now pairs
+asked_all first e now level pairs t stop is a =
+    let done = subst (IsDoneBefore now) (let next : stop + 1 ≡ suc stop = omega arith in next) a.done in
+    record { valid = t.valid; listed = t.listed; stop = stop; is_stop = is; level_done = done.0; settled = done.1; taken = λ k few. a.taken k (omega (arith, few)) }

@@ -1,0 +1,25 @@
+-- The search for the cheapest diagnoses by an evaluator that tells them alone.
+use Rattle.std.specs.Prelude.{◌≡◌, ℕ, ◌+◌, ◌<◌, ◌≤◌, false, List, length}
+use Rattle.mcs_system.specs.Faults.{IsValid}
+use Rattle.mcs_states.specs.Evaluators.{EvaluatorState, KeepsRest}
+use Rattle.mcs_costs.specs.Costs.{AreCheapest, SettlesNone}
+use Rattle.mcs_cheapest.specs.Searching.{IsDoneBefore, IsTaken}
+
+-- the levels before this one were taken
+pub record IsAsking (first now : EvaluatorState) (level : ℕ) : Type 0 where
+  pub going : now.halted ≡ false
+  pub rest : KeepsRest first now
+  pub done : IsDoneBefore now level
+  pub taken : (k : ℕ) → k < level → IsTaken first k
+
+-- and none of them settles of a diagnosis that none costs less
+pub record IsLooking (first now : EvaluatorState) (level : ℕ) : Type 0 where
+  pub asking : IsAsking first now level
+  pub low : level ≤ length first.system.bridges
+  pub not_yet : (k : ℕ) → k < level → SettlesNone first.system k
+
+-- these are the cheapest diagnoses, and the levels up to this one were taken
+pub record HasTold (first now : EvaluatorState) (level : ℕ) (pairs : List ℕ) : Type 0 where
+  pub valid : IsValid first.system
+  pub listed : AreCheapest first.system pairs
+  pub asking : IsAsking first now (level + 1)

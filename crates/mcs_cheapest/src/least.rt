@@ -1,0 +1,115 @@
+//! The cheapest diagnoses of a system, by an evaluator that tells them alone.
+
+ghost use Rattle.mcs_states.specs.Calls.{CanBegin};
+ghost use Rattle.mcs_costs.specs.Costs.{AreCheapest, IsStopLevel};
+ghost use Rattle.mcs_cheapest.specs.Found.{HasSearched, IsLeastCost, Searches};
+ghost use Rattle.mcs_cheapest.specs.Least.{HasTold};
+ghost use Rattle.mcs_cheapest.specs.Searching.{HasStopped};
+
+use crate::cheapest::Cheapest;
+use mcs_base::{Marks, Pair};
+use mcs_costs::{CheapestEvaluator, cost, least_weight};
+use mcs_diagnosis::show;
+use mcs_states::Halt;
+use mcs_system::System;
+use std::alloc::Global;
+
+/// The cheapest diagnoses of the system, as `list_cheapest` finds them, by an evaluator that tells
+/// them alone: the other minimal ones, of which there may be many, are not made. The evaluator has
+/// to be one of this system that has done no level yet. The levels that are taken are the same, and
+/// each halt has the same causes.
+pub fn list_least<E: CheapestEvaluator>(
+    alloc: Global,
+    evaluator: &mut E,
+    system: &System,
+) -> Result<Cheapest, Halt>
+    requires { CanBegin system.now (E.stands evaluator.old) }
+    ensures { Searches (HasSearched (E.stands evaluator.old) (E.stands evaluator.new))
+        (E.stands evaluator.old) (E.stands evaluator.new) result }
+{
+    let pairs = least_pairs(alloc, evaluator, system)?;
+    let mut found = Vec::new(alloc);
+    for marks in &pairs {
+        let shown = show(alloc, evaluator, system, Pair::new(*marks))?;
+        found.push(shown)?;
+    }
+    Ok(Cheapest {
+        found,
+        cost: cost_of_each(system, &pairs),
+        need: evaluator.asked(),
+    })
+}
+
+/// The cheapest diagnoses, and the level at which they were told.
+#[derive(Drop)]
+struct Told {
+    pairs: Vec<Marks>,
+    level: u32,
+}
+
+/// The cheapest diagnoses, once the levels up to the stop level were taken.
+fn least_pairs<E: CheapestEvaluator>(
+    alloc: Global,
+    evaluator: &mut E,
+    system: &System,
+) -> Result<Vec<Marks>, Halt>
+    requires { CanBegin system.now (E.stands evaluator.old) }
+    ensures { Searches (λ pairs. HasStopped (E.stands evaluator.old) (E.stands evaluator.new)
+        pairs.items) (E.stands evaluator.old) (E.stands evaluator.new) result }
+{
+    let Told { pairs, level } = first_told(alloc, evaluator, system)?;
+    let stop = stop_level(system, &pairs);
+    for before in level..stop {
+        evaluator.reach(alloc, before + 1)?;
+    }
+    Ok(pairs)
+}
+
+/// Takes levels from 0 on, until the cheapest diagnoses are told, or the level is that of all
+/// rules.
+fn first_told<E: CheapestEvaluator>(
+    alloc: Global,
+    evaluator: &mut E,
+    system: &System,
+) -> Result<Told, Halt>
+    requires { CanBegin system.now (E.stands evaluator.old) }
+    ensures { Searches (λ told. HasTold (E.stands evaluator.old) (E.stands evaluator.new)
+        told.level told.pairs.items) (E.stands evaluator.old) (E.stands evaluator.new) result }
+{
+    let last = system.bridges().len() as u32;
+    for level in 0..last {
+        if let Some(pairs) = evaluator.cheapest(alloc, level)? {
+            return Ok(Told { pairs, level });
+        }
+    }
+    let told = evaluator.cheapest(alloc, last)?;
+    Ok(Told {
+        pairs: told.unwrap_or(Vec::new(alloc)),
+        level: last,
+    })
+}
+
+/// The stop level of the system, which has these cheapest diagnoses: their cost divided by the
+/// least weight of a rule, or the number of rules, if this is less or there are no diagnoses.
+fn stop_level(system: &System, pairs: &[Marks]) -> u32
+    requires { AreCheapest system.now pairs.now }
+    ensures { IsStopLevel system.now result }
+{
+    let last = system.bridges().len() as u32;
+    let Some(cost) = cost_of_each(system, pairs) else {
+        return last;
+    };
+    let Some(weight) = least_weight(system) else {
+        return last;
+    };
+    (cost / weight).min(last as u64) as u32
+}
+
+/// What each of the cheapest diagnoses costs, or `None` if there are none.
+fn cost_of_each(system: &System, pairs: &[Marks]) -> Option<u64>
+    requires { AreCheapest system.now pairs.now }
+    ensures { IsLeastCost system.now result }
+{
+    let first = *pairs.first()?;
+    Some(cost(system, first))
+}
