@@ -44,7 +44,7 @@ pub fn beliefs_of(alloc: Global, system: &System, context: u32) -> Result<Vec<&F
 }
 
 /// The members of the set whose places among its members, counted from 0, are these.
-fn at_places(set: Vars, places: Vars) -> Vars
+pub fn at_places(set: Vars, places: Vars) -> Vars
     ensures { result ≡ at_places set places }
 {
     let mut chosen = Vars::empty();

@@ -6,6 +6,6 @@ mod asking;
 mod certificate;
 mod laws;
 
-pub use asking::{beliefs_of, heads_into, parts_at};
+pub use asking::{at_places, beliefs_of, heads_into, parts_at};
 pub use certificate::AnswerCert;
 pub use laws::accepted_answers_are_right;

@@ -1,14 +1,15 @@
 -- Assumptions that hold in a model, by their numbers.
-use Rattle.std.proofs.Common.{◌≡◌, ℕ, ◌+◌, ◌<◌, Bool, true, false, cond, map, filter, List, [], ◌∷◌, ◌++◌, ◌⊎◌, inl, inr, length, take, get_or, refl, sym, ap, ◌∙◌, subst, true≢false, Bor}
+use Rattle.std.proofs.Common.{◌≡◌, ℕ, ◌+◌, ◌<◌, Bool, true, false, ◌&&◌, cond, nat_eq, map, filter, List, [], ◌∷◌, ◌++◌, ◌⊎◌, inl, inr, length, take, get_or, refl, sym, ap, ◌∙◌, subst, true≢false, Bor}
 use Rattle.std.proofs.lemmas.Bool.{false_from_ne_true}
-use Rattle.std.proofs.lemmas.List.{append-nil, map_push, take_more}
+use Rattle.std.proofs.lemmas.List.{append-nil, append_assoc, map_push, take_more}
 use Rattle.std.specs.List.{AllByRecursion}
-use Rattle.mcs_sets.specs.Sets.{has, minus, single, union}
-use Rattle.mcs_sets.proofs.Lattice.{in_minus, in_with}
+use Rattle.mcs_sets.specs.Sets.{has, minus, single, such_that, union}
+use Rattle.mcs_sets.proofs.Lattice.{has-all, in_minus, in_with}
 use Rattle.mcs_sets.proofs.SetLemmas.{has-minus}
 use Rattle.mcs_base.proofs.Each.{all_left, all_right, all_take_more, all_weaker}
-use Rattle.mcs_system.specs.Plain.{Name, Formula}
+use Rattle.mcs_system.specs.Plain.{Name, Formula, Bridge}
 use Rattle.mcs_system.specs.Seen.{formula_of}
+use Rattle.mcs_system.specs.Systems.{heads_from}
 use Rattle.mcs_system.specs.declared.formula.Formula as code
 use Rattle.mcs_classical.specs.Assumptions.{assumed, DoHold, HoldsAt}
 use Rattle.mcs_classical.specs.declared.assumptions.Assumption.{Assumption}
@@ -97,3 +98,36 @@ module _ (set i : ℕ) (xs : List Assumption) (x : Assumption) (less : i < lengt
 
   pub assumed_passed : has set x.number ≡ false → assumed set (take (i + 1) xs) ≡ assumed set (take i xs)
   assumed_passed out = one_more ∙ ap (λ (b : Bool). assumed set (take i xs) ++ map (λ (a : Assumption). formula_of a.formula.now) (cond b (x ∷ []) [])) out ∙ append-nil (assumed set (take i xs))
+
+-- what holds of the formulas of all numbers holds of each
+pub each_of_all : (P : Formula → Type 0) (xs : List Assumption) → AllByRecursion (λ (a : Assumption). a.number < 64) xs → AllByRecursion P (assumed (such_that 64 (λ k. true)) xs)
+    → AllByRecursion P (map (λ (a : Assumption). formula_of a.formula.now) xs)
+each_of_all P [] numbers all = tt
+each_of_all P (x ∷ xs) numbers all =
+    let taken = subst (λ (u : Bool). AllByRecursion P (map (λ (a : Assumption). formula_of a.formula.now) (cond u (x ∷ filter (λ (a : Assumption). has (such_that 64 (λ k. true)) a.number) xs) (filter (λ (a : Assumption). has (such_that 64 (λ k. true)) a.number) xs))))
+    (has-all 64 x.number numbers.0) all in
+    (taken.0, each_of_all P xs numbers.1 taken.1)
+
+-- ---- the heads of rules, one by one
+module _ (k : ℕ) (b : Bridge) (bs : List Bridge) (i : ℕ) where
+  -- of a rule into the context
+  pub assumed_more : (old now : List Assumption) (a : Assumption) (set : ℕ) (all : List Formula) → nat_eq b.target i ≡ true → now ≡ old ++ a ∷ [] → a.number ≡ k → formula_of a.formula.now ≡ b.head
+      → assumed set old ++ heads_from k (b ∷ bs) i set ≡ all → assumed set now ++ heads_from (k + 1) bs i set ≡ all
+  assumed_more old now a set all own pushed number same is =
+      ap (λ xs. assumed set xs ++ rest) pushed ∙ ap (λ fs. fs ++ rest) (assumed-append set old (a ∷ [])) ∙ append_assoc (assumed set old) (assumed set (a ∷ [])) rest
+      ∙ ap (λ fs. assumed set old ++ fs) (ap (λ n. map (λ (x : Assumption). formula_of x.formula.now) (cond (has set n) (a ∷ []) []) ++ rest) number ∙ one (has set k)) ∙ rw own at is
+    where
+      rest : List Formula
+      rest = heads_from (k + 1) bs i set
+
+      one : (u : Bool) → map (λ (x : Assumption). formula_of x.formula.now) (cond u (a ∷ []) []) ++ rest ≡ cond (u && true) (b.head ∷ rest) rest
+      one true = ap (λ f. f ∷ rest) same
+      one false = refl
+
+  -- of a rule into another one
+  pub assumed_so : (old : List Formula) (set : ℕ) (all : List Formula) → nat_eq b.target i ≡ false → old ++ heads_from k (b ∷ bs) i set ≡ all → old ++ heads_from (k + 1) bs i set ≡ all
+  assumed_so old set all other is = sym (ap (λ fs. old ++ fs) (at (has set k))) ∙ rw other at is
+    where
+      at : (u : Bool) → cond (u && false) (b.head ∷ heads_from (k + 1) bs i set) (heads_from (k + 1) bs i set) ≡ heads_from (k + 1) bs i set
+      at true = refl
+      at false = refl

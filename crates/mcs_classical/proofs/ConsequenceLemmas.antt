@@ -21,10 +21,11 @@ use Rattle.mcs_system.proofs.Consequence.{each_holds, member_follows}
 use Rattle.mcs_cnf.specs.ClauseLists.{IsOver, AreOver}
 use Rattle.mcs_cnf.specs.Entailments.{IsRefuted}
 use Rattle.mcs_classical.specs.Assumptions.{assumed, HoldsAt}
-use Rattle.mcs_classical.specs.Consequences.{with_assumed, holds_there, holds_goal, FollowsAt, DoFollow, NoOthersFollow, IsLowerConsequence, IsUpperConsequence, AreGoalsTold, IsGoalAnswer, is_one_of, stands_at}
+use Rattle.mcs_classical.specs.Consequences.{with_assumed, holds_there, holds_goal, FollowsAt, DoFollow, NoOthersFollow, IsLowerConsequence, IsUpperConsequence, AreConsequences, AreGoalsTold, IsGoalAnswer, is_one_of, stands_at}
 use Rattle.mcs_classical.specs.declared.assumptions.Assumption.{Assumption}
 use Rattle.mcs_classical.specs.declared.bounds.Lower.{Lower}
 use Rattle.mcs_classical.specs.declared.bounds.Upper.{Upper}
+use Rattle.mcs_classical.specs.declared.consequences.Consequences.{Consequences}
 use Rattle.mcs_classical.specs.declared.consequences.Told.{Told}
 
 -- ---- the formulas of assumptions
@@ -228,3 +229,11 @@ standing_follow fs more goals places are k is = at (slice_get goals k) refl
     at : (o : Option Formula) → slice_get goals k ≡ o → FollowsAt (fs ++ more) goals k
     at None there = absurd (true≢false (sym stands ∙ ap (is_one_of fs) there))
     at (Some p) there = (p, there, member_follows (fs ++ more) p (among_left p fs more (among_formulas p fs (sym (ap (is_one_of fs) there) ∙ stands))))
+
+-- ---- what was found
+-- it is right of all assumptions with the same formulas
+pub same_found : (fs goals : List Formula) (xs ys : List Assumption) (found : Consequences) → ((set : ℕ) → assumed set ys ≡ assumed set xs) → AreConsequences fs xs goals found → AreConsequences fs ys goals found
+same_found fs goals xs ys found same are = record {
+  lower = all_weaker (IsLowerConsequence fs xs goals) (IsLowerConsequence fs ys goals) (λ (l : Lower) h. subst (λ (hs : List Formula). DoFollow (fs ++ hs) goals l.entailed) (sym (same l.assumed)) h) found.lower.items are.lower;
+  upper = all_weaker (IsUpperConsequence fs xs goals) (IsUpperConsequence fs ys goals) (λ (u : Upper) h. subst (λ (hs : List Formula). NoOthersFollow (fs ++ hs) goals u.possible) (sym (same u.assumed)) h) found.upper.items are.upper;
+}

@@ -4,13 +4,13 @@ ghost use Rattle.std.specs.Prelude.{◌≡◌, ◌<◌, map, IfOk, IsTrue};
 ghost use Rattle.std.specs.List.{AllByRecursion};
 ghost use Rattle.mcs_sets.specs.Sets.{has};
 ghost use Rattle.mcs_system.specs.Seen.{formula_of};
-ghost use Rattle.mcs_classical.specs.Assumptions.{assumed, DoHold, HoldsAt};
+ghost use Rattle.mcs_classical.specs.Assumptions.{assumed, AreHeads, DoHold, HoldsAt};
 ghost use Rattle.mcs_classical.specs.Given.{given_names};
 ghost use Rattle.mcs_classical.specs.declared.assumptions.Assumption as declared;
 
 use crate::given::Given;
 use mcs_base::{Active, Memory, Vars};
-use mcs_system::{Formula, holds_at};
+use mcs_system::{Formula, System, holds_at};
 use std::alloc::Global;
 
 /// A formula that may be assumed, with its number. Several may have one number.
@@ -18,6 +18,27 @@ use std::alloc::Global;
 pub struct Assumption<'a> {
     pub number: u32,
     pub formula: &'a Formula,
+}
+
+/// The heads of all rules that go into the context, in the order of the rules. Each has the number
+/// of its rule, so the assumptions of a set of rules are the heads of these.
+pub fn assumptions_into(
+    alloc: Global,
+    system: &System,
+    context: u32,
+) -> Result<Vec<Assumption<'_>>, Memory>
+    ensures { IfOk result (λ heads. AreHeads system.now context heads.items) }
+{
+    let mut heads = Vec::new(alloc);
+    for (number, rule) in system.bridges().iter().enumerate() {
+        if rule.target == context {
+            heads.push(Assumption {
+                number: number as u32,
+                formula: &rule.head,
+            })?;
+        }
+    }
+    Ok(heads)
 }
 
 /// The formulas of the assumptions whose numbers are in the set, in the order of the assumptions.

@@ -13,7 +13,7 @@ mod refuting;
 mod satisfying;
 
 pub use adding::{add_formulas, add_meant};
-pub use assumptions::{Assumption, assumed, holding};
+pub use assumptions::{Assumption, assumed, assumptions_into, holding};
 pub use beliefs::{outputs, outputs_from, outputs_in, outputs_with};
 pub use consequence::{
     counterexample_in, entails, entails_beside, entails_from, entails_in, says_yes,

@@ -5,7 +5,6 @@ pub mod Places
 pub mod Cones
 pub mod Gathering
 pub mod Derivers
-pub mod Assuming
 pub mod Solving
 pub mod Telling
 pub mod Viewing

@@ -247,23 +247,6 @@ module _ (names : List Name) (places : ℕ) where
       at false true e rest = absurd (true≢false (sym e))
       at false false e rest = rest
 
--- ---- a filter of a list with one more
-pub filter_here : {A : Type 0} (p : A → Bool) (xs : List A) (x : A) → p x ≡ true → filter p (xs ++ x ∷ []) ≡ filter p xs ++ x ∷ []
-filter_here p [] x passes = ap (λ (v : Bool). cond v (x ∷ []) []) passes
-filter_here p (y ∷ ys) x passes = at (p y) (filter_here p ys x passes)
-  where
-    at : (v : Bool) → filter p (ys ++ x ∷ []) ≡ filter p ys ++ x ∷ [] → cond v (y ∷ filter p (ys ++ x ∷ [])) (filter p (ys ++ x ∷ [])) ≡ cond v (y ∷ filter p ys) (filter p ys) ++ x ∷ []
-    at true rest = ap (λ zs. y ∷ zs) rest
-    at false rest = rest
-
-pub filter_beside : {A : Type 0} (p : A → Bool) (xs : List A) (x : A) → p x ≡ false → filter p (xs ++ x ∷ []) ≡ filter p xs
-filter_beside p [] x fails = ap (λ (v : Bool). cond v (x ∷ []) []) fails
-filter_beside p (y ∷ ys) x fails = at (p y) (filter_beside p ys x fails)
-  where
-    at : (v : Bool) → filter p (ys ++ x ∷ []) ≡ filter p ys → cond v (y ∷ filter p (ys ++ x ∷ [])) (filter p (ys ++ x ∷ [])) ≡ cond v (y ∷ filter p ys) (filter p ys)
-    at true rest = ap (λ zs. y ∷ zs) rest
-    at false rest = rest
-
 -- ---- a list that a call wrote
 pub written_back : {A : Type 0} (n : ℕ) (xs ys : List A) → length ys ≡ length xs → n ≡ length xs → take n (ys ++ drop (length ys) xs) ≡ ys
 written_back n xs ys same long =

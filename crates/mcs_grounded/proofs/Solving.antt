@@ -9,13 +9,14 @@ use Rattle.mcs_system.specs.Views.{Shows, IsAcceptedView, at_places, beliefs_at}
 use Rattle.mcs_cnf.specs.ClauseLists.{clause_list, AreOver}
 use Rattle.mcs_meant.specs.Meanings.{AreMeantBy}
 use Rattle.mcs_meant.proofs.MeaningLemmas.{list_meant}
+use Rattle.mcs_classical.specs.Assumptions.{AreHeads}
 use Rattle.mcs_classical.specs.Consequences.{with_assumed, AreConsequences}
 use Rattle.mcs_classical.specs.declared.assumptions.Assumption.{Assumption}
+use Rattle.mcs_classical.proofs.ConsequenceLemmas.{same_found}
 use Rattle.mcs_laws.proofs.Views.{parts_are_views}
 use Rattle.mcs_asking.specs.Kinds.{IsOverKb}
 use Rattle.mcs_asking.proofs.CoverLemmas.{own_over}
-use Rattle.mcs_grounded.proofs.Assuming.{same_found}
-use Rattle.mcs_grounded.specs.Parts.{IsClassicalAt, AreHeads, IsSolverOf}
+use Rattle.mcs_grounded.specs.Parts.{IsClassicalAt, IsSolverOf}
 use Rattle.mcs_grounded.specs.declared.found.Solver.{Solver}
 
 module _ (m : System) (i : ℕ) (fs : List Formula) (classical : IsClassicalAt m i fs) where

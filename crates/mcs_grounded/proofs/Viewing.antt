@@ -12,7 +12,7 @@ use Rattle.mcs_base.proofs.Deciding.{places_where, has-places_where}
 use Rattle.mcs_base.proofs.Each.{all_among, all_from_among}
 use Rattle.mcs_base.proofs.ListingLemmas.{members_listing}
 use Rattle.mcs_base.proofs.Lists.{slice_get-map_some}
-use Rattle.mcs_system.specs.Plain.{Name, Formula, Atom, Kb, Program, ProgramRule, Context, Read, System}
+use Rattle.mcs_system.specs.Plain.{Name, Atom, Kb, Program, ProgramRule, Context, Read, System}
 use Rattle.mcs_system.specs.Atoms.{atoms_of}
 use Rattle.mcs_system.specs.Faults.{has_twins}
 use Rattle.mcs_system.specs.Logic.{is_in, true_names, BeliefSet, Theory, Atoms, Believes, Accepts, with_heads}
@@ -20,7 +20,6 @@ use Rattle.mcs_system.specs.Systems.{variables, variables_of, applicable, heads_
 use Rattle.mcs_system.specs.Views.{Shows, IsAcceptedView, at_places}
 use Rattle.mcs_laws.proofs.Views.{has-at_places}
 use Rattle.mcs_system.proofs.NameLemmas.{is_in-among}
-use Rattle.mcs_cnf.specs.ClauseLists.{AreOver}
 use Rattle.mcs_evidence.specs.Programs.{IsInRange}
 use Rattle.mcs_evidence.proofs.Models.{true_names-known}
 use Rattle.mcs_program.proofs.PlaceLemmas.{place_at}
@@ -203,11 +202,3 @@ module _ (c : Cone) (variables : ℕ) (sets found : List ℕ) (set : ℕ) (shown
       ]
     ],
   )
-
--- ---- atoms by their names
-pub names_over : (names ns : List Name) (fs : List Formula) → map Atom ns ≡ fs → AreOver names fs → AllByRecursion (λ n. IsTrue (is_in n names)) ns
-names_over names ns fs same over = go ns (subst (AreOver names) (sym same) over)
-  where
-    go : (ns : List Name) → AreOver names (map Atom ns) → AllByRecursion (λ n. IsTrue (is_in n names)) ns
-    go [] h = tt
-    go (n ∷ ns) h = (h.0, go ns h.1)

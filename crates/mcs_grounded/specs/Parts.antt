@@ -1,5 +1,5 @@
 -- What is kept of each context, so that its derivations take no reading of formulas and names.
-use Rattle.std.specs.Prelude.{◌≡◌, ℕ, ◌<◌, ◌≤◌, false, IsTrue, ◌↔◌, List, [], ◌∷◌, map, length, Some, None, slice_get, ◌⊎◌, Result, IfOk, IfSome}
+use Rattle.std.specs.Prelude.{◌≡◌, ℕ, ◌≤◌, false, IsTrue, ◌↔◌, List, [], ◌∷◌, map, length, Some, slice_get, ◌⊎◌, IfSome}
 use Rattle.std.specs.List.{AllByRecursion, AllZip}
 use Rattle.std.specs.BTreeMap.{BTreeMap, get}
 use Rattle.std.specs.Ordering.{nat_cmp}
@@ -9,16 +9,16 @@ use Rattle.mcs_system.specs.Plain.{Name, Formula, Atom, ProgramRule, Classical, 
 use Rattle.mcs_system.specs.Atoms.{atoms_of}
 use Rattle.mcs_system.specs.Faults.{IsValid, has_twins}
 use Rattle.mcs_system.specs.Logic.{true_names}
-use Rattle.mcs_system.specs.Systems.{variables_of, heads_into, IsVariable, IsAcceptedPart}
+use Rattle.mcs_system.specs.Systems.{variables_of, IsVariable, IsAcceptedPart}
 use Rattle.mcs_system.specs.Views.{beliefs_at}
 use Rattle.mcs_meant.specs.Meanings.{AreMeantBy}
-use Rattle.mcs_classical.specs.Assumptions.{assumed}
+use Rattle.mcs_classical.specs.Assumptions.{AreHeads}
 use Rattle.mcs_classical.specs.Consequences.{AreConsequences}
 use Rattle.mcs_classical.specs.declared.assumptions.Assumption.{Assumption}
 use Rattle.mcs_evidence.specs.Programs.{IsInRange}
 use Rattle.mcs_program.specs.Placing.{IsPlaceOf, ArePlaces}
 use Rattle.mcs_reduct.specs.Plain.{IsPlain}
-use Rattle.mcs_grounded.specs.Derivations.{rules_for, IsCone, Derives, atoms_at}
+use Rattle.mcs_grounded.specs.Derivations.{rules_for, IsCone}
 use Rattle.mcs_grounded.specs.declared.placed.NormalRule.{NormalRule}
 use Rattle.mcs_grounded.specs.declared.placed.Placed.{Placed}
 use Rattle.mcs_grounded.specs.declared.cone.Cone.{Cone}
@@ -153,12 +153,6 @@ abbrev pub cones_of : List Cone → List ℕ
 cones_of all = map (λ (c : Cone). c.places) all
 
 -- ---- classical contexts
--- the heads of the rules into context i of the system, which is a valid one, each with the number of its rule
-pub record AreHeads (m : System) (i : ℕ) (all : List Assumption) : Type 0 where
-  pub valid : IsValid m
-  pub of_rules : (rules : ℕ) → assumed rules all ≡ heads_into m i rules
-  pub numbers : AllByRecursion (λ (a : Assumption). a.number < 64) all
-
 -- the clauses mean the formulas of context i, and what was found to follow is right of these and of the heads of rules into it
 pub record IsSolverOf (m : System) (i : ℕ) (s : Solver) : Type 0 where
   pub meant : (formulas : List Formula) → IsClassicalAt m i formulas → AreMeantBy (atoms_of m i) formulas s.clauses
@@ -185,12 +179,6 @@ pub record CanTell (m : System) (i : ℕ) (formulas : List Formula) (found : Fou
   pub classical : IsClassicalAt m i formulas
   pub known : IsFoundOf m i found
 
--- the solver is taken out of what was found of the context, or made
-pub record Takes {E : Type 0} (m : System) (i : ℕ) (before after : Found) (result : Result Solver E) : Type 0 where
-  pub told : after.told ≡ before.told
-  pub none : after.solver ≡ None
-  pub own : IfOk result (IsSolverOf m i)
-
 -- so it is for each context
 pub record AreAllFound (m : System) (all : List Found) : Type 0 where
   pub one_each : length all ≡ length m.contexts
@@ -206,8 +194,3 @@ pub record IsSetUp (d : Derivation) : Type 0 where
 pub record IsDerivation (d : Derivation) (known : List Found) : Type 0 where
   pub set_up : IsSetUp d
   pub found : AreAllFound d.system.now known
-
--- what context i tells with the heads of x, where its program is reduced by the atoms at these places
-abbrev pub IsDerivedAt : Derivation → ℕ → ℕ → ℕ → ℕ → Type 0
-IsDerivedAt d against x i τ = (c : Context) → slice_get d.system.now.contexts i ≡ Some c
-    → Derives d.system.now i (atoms_at d.system.now (cones_of d.cones.now) i) (true_names 0 (atoms_of d.system.now i) against) c.kb x τ

@@ -1,7 +1,6 @@
 //! What is kept of a program for derivations: the rules on which depends what is read of it.
 
-ghost use Rattle.std.specs.Prelude.{◌≡◌, ◌<◌, ℕ, List, filter, length, map, IfOk, IsTrue};
-ghost use Rattle.mcs_sets.specs.Sets.{has};
+ghost use Rattle.std.specs.Prelude.{◌≡◌, ◌<◌, ℕ, List, length, map, IfOk, IsTrue};
 ghost use Rattle.mcs_system.specs.Atoms.{atoms_of};
 ghost use Rattle.mcs_system.specs.Faults.{is_atom};
 ghost use Rattle.mcs_system.specs.Logic.{true_names};
@@ -13,7 +12,6 @@ ghost use Rattle.mcs_grounded.specs.Derivations.{Derives};
 ghost use Rattle.mcs_grounded.specs.Parts.{AreConesOf, AreHeadsInto, AreNumbersAt, ArePlacesIn};
 ghost use Rattle.mcs_grounded.specs.Parts.{ArePlacesWith, AreReadsOf, IsConeFor, IsConeOf};
 ghost use Rattle.mcs_grounded.specs.Parts.{IsProgramAt, IsProgramContext};
-ghost use Rattle.mcs_grounded.specs.declared.placed.NormalRule as placed;
 
 use crate::normal::{dependent, least_model, normal_rules, place_of};
 use crate::placed::{NormalRule, Placed};
@@ -32,7 +30,7 @@ pub(crate) struct Cone {
 }
 
 /// The numbers that stand with one of the places.
-fn numbers_at(all: &[Placed], places: Vars) -> Vars
+pub(crate) fn numbers_at(all: &[Placed], places: Vars) -> Vars
     ensures { AreNumbersAt all.now places result }
 {
     let mut numbers = Vars::empty();
@@ -115,20 +113,6 @@ fn name_of(formula: &Formula) -> &Name
     }
 }
 
-/// The rules whose heads are at the places, in order.
-fn rules_at(alloc: Global, rules: &[NormalRule], places: Vars) -> Result<Vec<NormalRule>, Memory>
-    ensures { IfOk result (λ found. found.items
-        ≡ filter (λ (r : placed.NormalRule). has places r.head) rules.now) }
-{
-    let mut found = Vec::new(alloc);
-    for rule in rules {
-        if places.has(rule.head) {
-            found.push(*rule)?;
-        }
-    }
-    Ok(found)
-}
-
 impl Cone {
     /// What is kept of a classical context: nothing.
     fn empty(alloc: Global) -> Cone
@@ -149,11 +133,11 @@ impl Cone {
         requires plain { IsTrue (is_plain (Program (map rule_of rules.now))) }
         ensures { IfOk result (IsConeOf system.now context (map rule_of rules.now)) }
     {
-        let all = normal_rules(alloc, system.atoms_of(context), rules)?;
+        let mut rules = normal_rules(alloc, system.atoms_of(context), rules)?;
         let reads = reads_placed(alloc, system, context)?;
         let heads = heads_placed(alloc, system, context)?;
-        let places = dependent(&all, places_in(&reads));
-        let rules = rules_at(alloc, &all, places)?;
+        let places = dependent(&rules, places_in(&reads));
+        rules.retain(|rule| places.has(rule.head));
         Ok(Cone {
             places,
             rules,
@@ -172,13 +156,6 @@ impl Cone {
     {
         let start = places_with(&self.heads, rules);
         numbers_at(&self.reads, least_model(&self.rules, against, start))
-    }
-
-    /// The variables that stand with the places.
-    pub(crate) fn shown(&self, places: Vars) -> Vars
-        ensures { AreNumbersAt self.now.reads.items places result }
-    {
-        numbers_at(&self.reads, places)
     }
 }
 

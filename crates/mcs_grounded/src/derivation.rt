@@ -2,7 +2,7 @@
 
 ghost use Rattle.std.specs.Prelude.{◌≡◌, ◌<◌, length, IfOk};
 ghost use Rattle.mcs_grounded.specs.Derivations.{AreTold, IsDerived, IsTold};
-ghost use Rattle.mcs_grounded.specs.Parts.{AreAllFound, IsDerivation, IsDerivedAt, cones_of};
+ghost use Rattle.mcs_grounded.specs.Parts.{AreAllFound, IsDerivation, cones_of};
 
 use crate::cone::Cone;
 use crate::found::Found;
@@ -17,30 +17,6 @@ pub(crate) struct Derivation<'a> {
     pub(crate) system: &'a System,
     pub(crate) cones: &'a [Cone],
     pub(crate) state: Vars,
-}
-
-/// What the context tells with the heads of the rules, where its program is reduced by the atoms in
-/// `against`.
-fn derived(
-    alloc: Global,
-    derivation: &Derivation<'_>,
-    found: &mut [Found],
-    against: Vars,
-    rules: Active,
-    context: u32,
-) -> Result<Vars, Memory>
-    requires context { context < length derivation.now.system.now.contexts }
-    requires derivation { IsDerivation derivation.now found.old }
-    ensures found { AreAllFound derivation.now.system.now found.new }
-    ensures derived { IfOk result (IsDerivedAt derivation.now against rules context) }
-{
-    let system = derivation.system;
-    let place = context as usize;
-    match &system.contexts()[place].kb {
-        Kb::Classical(formulas) => found[place].told(alloc, system, context, formulas, rules),
-        Kb::DefaultTheory(_) => unreachable!(),
-        Kb::Program(_) => Ok(derivation.cones[place].derived(against, rules)),
-    }
 }
 
 /// What the context tells with the heads of the rules. Once these are all its rules that apply in
@@ -62,17 +38,15 @@ fn told(
         (cones_of derivation.now.cones.now) against.now rules context) }
 {
     let system = derivation.system;
+    let place = context as usize;
     if system.applicable(context, derivation.state).within(rules) {
         return Ok(derivation.state.common(system.vars_of(context)));
     }
-    derived(
-        alloc,
-        derivation,
-        found,
-        against[context as usize],
-        rules,
-        context,
-    )
+    match &system.contexts()[place].kb {
+        Kb::Classical(formulas) => found[place].told(alloc, system, context, formulas, rules),
+        Kb::DefaultTheory(_) => unreachable!(),
+        Kb::Program(_) => Ok(derivation.cones[place].derived(against[place], rules)),
+    }
 }
 
 /// What all contexts tell with the heads of the rules.

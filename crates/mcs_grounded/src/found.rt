@@ -3,36 +3,19 @@
 ghost use Rattle.std.specs.Prelude.{IfOk, map};
 ghost use Rattle.mcs_system.specs.Seen.{formula_of};
 ghost use Rattle.mcs_system.specs.Systems.{IsAcceptedPart};
-ghost use Rattle.mcs_grounded.specs.Parts.{AreAllFound, AreHeads, CanSolve, CanTell};
-ghost use Rattle.mcs_grounded.specs.Parts.{IsClassicalAt, IsFoundOf, IsSolverOf, Takes};
+ghost use Rattle.mcs_grounded.specs.Parts.{AreAllFound, CanSolve, CanTell};
+ghost use Rattle.mcs_grounded.specs.Parts.{IsClassicalAt, IsFoundOf, IsSolverOf};
 
 use mcs_asked::Asked;
-use mcs_asking::{beliefs_of, parts_at};
+use mcs_asking::{at_places, beliefs_of};
 use mcs_base::{Active, Memory, Vars};
-use mcs_classical::{Assumption, Consequences, Given};
+use mcs_classical::{Consequences, Given, assumptions_into};
 use mcs_cnf::clauses;
 use mcs_sat::ClauseBase;
 use mcs_system::{Formula, System};
 use std::alloc::Global;
 use std::collections::BTreeMap;
 use std::mem;
-
-/// The heads of the rules into the context, in the order of the rules, each with the number of its
-/// rule.
-fn heads_of(alloc: Global, system: &System, context: u32) -> Result<Vec<Assumption<'_>>, Memory>
-    ensures { IfOk result (λ heads. AreHeads system.now context heads.items) }
-{
-    let mut heads = Vec::new(alloc);
-    for (number, rule) in system.bridges().iter().enumerate() {
-        if rule.target == context {
-            heads.push(Assumption {
-                number: number as u32,
-                formula: &rule.head,
-            })?;
-        }
-    }
-    Ok(heads)
-}
 
 /// The solver of a classical context: clauses that mean its formulas, and what was found to follow
 /// from these with heads of rules.
@@ -76,7 +59,7 @@ impl Solver {
         ensures own { IsSolverOf system.now context self.new }
         ensures told { IfOk result (IsAcceptedPart system.now context rules) }
     {
-        let heads = heads_of(alloc, system, context)?;
+        let heads = assumptions_into(alloc, system, context)?;
         let beliefs = beliefs_of(alloc, system, context)?;
         let asked = Asked {
             atoms: system.atoms_of(context),
@@ -89,8 +72,7 @@ impl Solver {
         let view = self
             .found
             .following(alloc, &mut self.clauses, &given, rules)?;
-        let parts = parts_at(alloc, system.vars_of(context), &[view])?;
-        Ok(parts[0])
+        Ok(at_places(system.vars_of(context), view))
     }
 }
 
@@ -103,25 +85,8 @@ pub(crate) struct Found {
 }
 
 impl Found {
-    /// The solver of the context, which is classical. It is taken out, or made.
-    fn take_solver(
-        &mut self,
-        alloc: Global,
-        system: &System,
-        context: u32,
-        formulas: &[Formula],
-    ) -> Result<Solver, Memory>
-        requires { CanTell system.now context (map formula_of formulas.now) self.old }
-        ensures { Takes system.now context self.old self.new result }
-    {
-        match self.solver.take() {
-            Some(solver) => Ok(solver),
-            None => Solver::of(alloc, system, context, formulas),
-        }
-    }
-
     /// What the context, which has these formulas, tells with the heads of the rules, as its solver
-    /// finds it.
+    /// finds it. The solver is made if there is none.
     fn ask(
         &mut self,
         alloc: Global,
@@ -134,7 +99,10 @@ impl Found {
         ensures found { IsFoundOf system.now context self.new }
         ensures told { IfOk result (IsAcceptedPart system.now context rules) }
     {
-        let mut solver = self.take_solver(alloc, system, context, formulas)?;
+        let mut solver = match self.solver.take() {
+            Some(solver) => solver,
+            None => Solver::of(alloc, system, context, formulas)?,
+        };
         let told = solver.told(alloc, system, context, rules);
         drop(mem::replace(&mut self.solver, Some(solver)));
         told

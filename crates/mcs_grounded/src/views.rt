@@ -6,7 +6,7 @@ ghost use Rattle.mcs_evidence.specs.Programs.{IsInRange};
 ghost use Rattle.mcs_grounded.specs.Parts.{IsConeOf, IsProgramAt, IsProgramContext, IsSetUp};
 ghost use Rattle.mcs_grounded.specs.Views.{AreConeSets, AreConeViews, AreShown, names_there};
 
-use crate::cone::Cone;
+use crate::cone::{Cone, numbers_at};
 use crate::derivation::Derivation;
 use mcs_asking::{heads_into, parts_at};
 use mcs_base::{Memory, Vars};
@@ -59,7 +59,7 @@ fn shown(alloc: Global, cone: &Cone, sets: &[Vars], variables: Vars) -> Result<V
 {
     let mut found = Vec::new(alloc);
     for set in sets {
-        if cone.shown(*set) == variables {
+        if numbers_at(&cone.reads, *set) == variables {
             found.push(*set)?;
         }
     }

@@ -1,15 +1,12 @@
--- Clauses and names of formulas that are lent, and clauses that are taken off again.
-use Rattle.std.proofs.Common.{◌≡◌, ℕ, map, length, List, [], ◌∷◌, IsTrue, sym, ◌∙◌, subst, refl, true, true≢false, arith}
+-- Views of contexts that are asked for no belief.
+use Rattle.std.proofs.Common.{◌≡◌, ℕ, map, length, List, [], ◌∷◌, sym, ◌∙◌, subst, refl, true, true≢false, arith}
 use Rattle.std.proofs.lemmas.Option.{slice_get_within}
-use Rattle.std.specs.List.{AllByRecursion}
 use Rattle.mcs_sets.specs.Orders.{StateBefore}
 use Rattle.mcs_sets.proofs.SetLemmas.{has-empty}
 use Rattle.mcs_base.specs.Listings.{IsListing}
-use Rattle.mcs_system.specs.Plain.{Name, Formula, Atom, Classical}
-use Rattle.mcs_system.specs.Logic.{is_in}
+use Rattle.mcs_system.specs.Plain.{Name, Formula, Classical}
 use Rattle.mcs_system.specs.Views.{IsAcceptedView}
 use Rattle.mcs_cnf.specs.Classical.{IsAcceptedClassical}
-use Rattle.mcs_cnf.specs.ClauseLists.{AreOver}
 use Rattle.mcs_cnf.proofs.EntailmentLemmas.{one_view}
 
 -- ---- where no belief is asked for
@@ -33,11 +30,3 @@ none_shown names fs views is = record {
     exactly = λ k. (λ h. absurd (true≢false (sym h ∙ has-empty k)), λ h. absurd (omega (arith, slice_get_within [] k true h)));
   };
 }
-
--- ---- atoms by their names
-pub names_over : (names ns : List Name) (fs : List Formula) → map Atom ns ≡ fs → AreOver names fs → AllByRecursion (λ n. IsTrue (is_in n names)) ns
-names_over names ns fs same over = go ns (subst (AreOver names) (sym same) over)
-  where
-    go : (ns : List Name) → AreOver names (map Atom ns) → AllByRecursion (λ n. IsTrue (is_in n names)) ns
-    go [] h = tt
-    go (n ∷ ns) h = (h.0, go ns h.1)

@@ -1,7 +1,6 @@
 //! The solver of one context of a system: what it accepts, by the logic of its kind.
 #![tactic(auto)]
 
-mod assuming;
 mod known;
 mod parts;
 mod question;

@@ -8,14 +8,13 @@ ghost use Rattle.mcs_asking.specs.Certificates.{IsAccepted};
 ghost use Rattle.mcs_solver.specs.Kinds.{IsMadeOfContext};
 ghost use Rattle.mcs_keeping.specs.Certified.{IsCertified};
 
-use crate::assuming::assumptions_into;
 use crate::known::Known;
 use crate::question::Question;
 use crate::views::accepted_views;
 use mcs_asked::Asked;
 use mcs_asking::{AnswerCert, beliefs_of, parts_at};
 use mcs_base::{Active, Memory, Vars};
-use mcs_classical::Given;
+use mcs_classical::{Given, assumptions_into};
 use mcs_system::System;
 use std::alloc::Global;
 

@@ -30,3 +30,15 @@ returns-clause-told c =
     let all : c.loop-context.context ≡ length d.system.now.contexts = omega (arith, c.loop-context-test.false, c.loop-context.auto.context-end, ap length c.contexts.ensures.value, length-map c.contexts.result.now context_of) in
     told_all d.system.now d.state (cones_of d.cones.now) c.args.against.now c.args.rules c.loop-context.believed
     (subst (λ (n : ℕ). AreToldBelow d.system.now d.state (cones_of d.cones.now) c.args.against.now c.args.rules n c.loop-context.believed) all c.loop-context.invariant.told)
+
+pub overflow_cast-context-end : goal.overflow_cast-context-end
+overflow_cast-context-end c = omega (arith, c.contexts.ensures.few)
+
+pub told-requires-clause-context : goal.told-requires-clause-context
+told-requires-clause-context c = omega (arith, c.loop-context-test.true, ap length c.contexts.ensures.value, length-map c.contexts.result.now context_of)
+
+pub told-requires-clause-against : goal.told-requires-clause-against
+told-requires-clause-against c = c.requires.against
+
+pub returns-clause-found : goal.returns-clause-found
+returns-clause-found c = c.loop-context.invariant.found

@@ -5,7 +5,7 @@ use Rattle.mcs_base.specs.Listings.{IsAmong, IsListing}
 use Rattle.mcs_base.proofs.ListingLemmas.{kept_more, left_out}
 use Rattle.mcs_reduct.specs.Grounded.{IsGroundedState}
 use Rattle.mcs_reduct.proofs.GroundedLaws.{grounded_states}
-use Rattle.mcs_grounded.specs.Parts.{AreAllFound}
+use Rattle.mcs_grounded.specs.Parts.{AreAllFound, AreConesOf}
 use Rattle.mcs_grounded.proofs.Loops.{own_of, written_back}
 use Rattle.mcs_grounded.proofs.listing.grounded_among.Goals.{then-branch+in_ok-push, else-branch}
 use Rattle.mcs_grounded.proofs.listing.grounded_among.Goals as goal
@@ -47,3 +47,12 @@ returns c =
       );
       ascending = whole.ascending;
     }
+
+pub bounds-states-state-index : goal.bounds-states-state-index
+bounds-states-state-index c = c.loop-state-test.true
+
+pub is_grounded-requires-clause-derivation : goal.is_grounded-requires-clause-derivation
+is_grounded-requires-clause-derivation c = record {
+  set_up = record { plain = c.requires.plain; cones = subst (AreConesOf c.args.system.now) (sym c.deref.ensures.value) c.in_ok-cones.ensures };
+  found = rw c.deref_mut.ensures.value c.loop-state.invariant.found;
+}

@@ -73,3 +73,46 @@ returns-clause-answer t c =
     (c.requires.bounds.bounds_of.of_programs c.in-Open.context open_yet.1)
     (λ places among. c.loop-view.invariant.none places
     (subst (IsAmong places) (sym (take_all c.loop-view.view-index c.deref-view-items.result.now c.loop-view-test.false ∙ c.deref-view-items.ensures.value)) among))
+
+-- ---- what was found, and the answers that are given at once
+pub settle-requires-clause-derivation : goal.settle-requires-clause-derivation
+settle-requires-clause-derivation t c = c.requires.derivation
+
+pub settle-requires-clause-bounds : goal.settle-requires-clause-bounds
+settle-requires-clause-bounds t c = c.requires.bounds
+
+pub returns-in_err-settle-clause-found : goal.returns-in_err-settle-clause-found
+returns-in_err-settle-clause-found t c = c.settle.ensures.found
+
+pub returns-in-Grounded-clause-found : goal.returns-in-Grounded-clause-found
+returns-in-Grounded-clause-found t c = c.settle.ensures.found
+
+pub returns-in-Grounded-clause-answer : goal.returns-in-Grounded-clause-answer
+returns-in-Grounded-clause-answer t c = subst (IsSettled c.args.derivation.now c.args.bounds.now) c.in-Grounded.is c.in_ok-settle.ensures.settled
+
+pub returns-in-Ungrounded-clause-found : goal.returns-in-Ungrounded-clause-found
+returns-in-Ungrounded-clause-found t c = c.settle.ensures.found
+
+pub returns-in-Ungrounded-clause-answer : goal.returns-in-Ungrounded-clause-answer
+returns-in-Ungrounded-clause-answer t c = subst (IsSettled c.args.derivation.now c.args.bounds.now) c.in-Ungrounded.is c.in_ok-settle.ensures.settled
+
+pub returns-in_err-views-clause-found : goal.returns-in_err-views-clause-found
+returns-in_err-views-clause-found t c = c.settle.ensures.found
+
+pub bounds-view-items-view-index : goal.bounds-view-items-view-index
+bounds-view-items-view-index t c = c.loop-view-test.true
+
+pub returns-in_err-told-clause-found : goal.returns-in_err-told-clause-found
+returns-in_err-told-clause-found t c = c.loop-view.invariant.found
+
+pub returns-in_err-search-clause-found : goal.returns-in_err-search-clause-found
+returns-in_err-search-clause-found t c = c.search.ensures.found
+
+pub returns-then-branch-clause-found : goal.returns-then-branch-clause-found
+returns-then-branch-clause-found t c = c.search.ensures.found
+
+pub returns-then-branch-clause-answer : goal.returns-then-branch-clause-answer
+returns-then-branch-clause-answer t c = subst (IsAnswer c.args.derivation.now c.in_ok-told.told) c.if-branch.true c.in_ok-search.ensures.answer
+
+pub returns-clause-found : goal.returns-clause-found
+returns-clause-found t c = c.loop-view.invariant.found

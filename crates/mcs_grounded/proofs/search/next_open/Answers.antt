@@ -50,3 +50,15 @@ returns-then-ne-clause-some c =
       not_whole = λ whole. true≢false (sym (c.within.ensures.1 (subst (λ (x : ℕ). Within x c.args.rules) (sym c.applicable.ensures) whole)) ∙ c.if-not-within.true);
       not_known = λ known. true≢false (sym c.if-ne.true ∙ c.ne.ensures ∙ ap not (eq-eqb c.index.result.now c.index-then-not-within.result.now (first ∙ known ∙ sym second)));
     }
+
+pub overflow_cast-context-end : goal.overflow_cast-context-end
+overflow_cast-context-end c = omega (arith, c.contexts.ensures.few)
+
+pub applicable-requires : goal.applicable-requires
+applicable-requires c = omega (arith, c.loop-context-test.true, ap length c.contexts.ensures.value, length-map c.contexts.result.now context_of)
+
+pub index-requires : goal.index-requires
+index-requires c = omega (arith, c.loop-context-test.true, ap length c.contexts.ensures.value, length-map c.contexts.result.now context_of, c.requires.certain)
+
+pub index-requires-then-not-within : goal.index-requires-then-not-within
+index-requires-then-not-within c = omega (arith, c.loop-context-test.true, ap length c.contexts.ensures.value, length-map c.contexts.result.now context_of, c.requires.possible)

@@ -38,3 +38,22 @@ returns-else-eq-2-clause-settled c =
     settled_no d.system.now d.state (cones_of d.cones.now) c.requires.derivation.set_up.plain (have_cones d.system.now d.cones.now c.requires.derivation.set_up.cones) c.args.bounds.now c.in_ok-perhaps.perhaps
     (subst (λ (sets : List ℕ). IsDerived d.system.now d.state (cones_of d.cones.now) sets c.in_ok-perhaps.perhaps) c.deref-2.ensures.value c.in_ok-perhaps.ensures.derived)
     (λ e. true≢false (sym (eq-eqb c.in_ok-perhaps.perhaps c.applicable_rules-goal.result (e ∙ sym c.applicable_rules-goal.ensures)) ∙ (sym c.eq-2.ensures ∙ c.if-eq-2.false)))
+
+-- ---- what was found
+pub derive-requires-clause-derivation : goal.derive-requires-clause-derivation
+derive-requires-clause-derivation c = c.requires.derivation
+
+pub derive-requires-2-clause-derivation : goal.derive-requires-2-clause-derivation
+derive-requires-2-clause-derivation c = record { set_up = c.requires.derivation.set_up; found = c.derive.ensures.found }
+
+pub next_open-requires : goal.next_open-requires
+next_open-requires c = c.requires.bounds.bounds_of
+
+pub returns-in_err-surely-clause-found : goal.returns-in_err-surely-clause-found
+returns-in_err-surely-clause-found c = c.derive.ensures.found
+
+pub returns-then-eq-clause-found : goal.returns-then-eq-clause-found
+returns-then-eq-clause-found c = c.derive.ensures.found
+
+pub returns-in_default-clause-found : goal.returns-in_default-clause-found
+returns-in_default-clause-found c = c.derive.ensures.found

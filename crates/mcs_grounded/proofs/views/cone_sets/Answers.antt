@@ -16,10 +16,11 @@ use Rattle.mcs_cnf.specs.ClauseLists.{AreOver}
 use Rattle.mcs_cnf.proofs.OverLemmas.{context_atoms}
 use Rattle.mcs_evidence.specs.Programs.{AreOverRules, IsInRange}
 use Rattle.mcs_asking.specs.Kinds.{AreOfKind, IsOverKb}
+use Rattle.mcs_asking.proofs.AnswerLemmas.{names_over}
 use Rattle.mcs_asking.proofs.CoverLemmas.{own_over, heads_over}
 use Rattle.mcs_asking.proofs.KindLemmas.{heads_of_kind}
 use Rattle.mcs_grounded.specs.Views.{AreConeSets, names_there}
-use Rattle.mcs_grounded.proofs.Viewing.{names_known, names_over, sets_of_views}
+use Rattle.mcs_grounded.proofs.Viewing.{names_known, sets_of_views}
 use Rattle.mcs_grounded.proofs.views.cone_sets.Goals as goal
 
 pub atoms_of-atoms-requires : goal.atoms_of-atoms-requires

@@ -16,6 +16,7 @@ use Rattle.mcs_cnf.specs.ClauseLists.{AreOver, IsOver}
 use Rattle.mcs_cnf.proofs.OverLemmas.{context_atoms}
 use Rattle.mcs_classical.specs.Assumptions.{assumed}
 use Rattle.mcs_classical.specs.declared.assumptions.Assumption.{Assumption}
+use Rattle.mcs_classical.proofs.AssumptionLemmas.{each_of_all}
 use Rattle.mcs_laws.proofs.Views.{view_listings}
 use Rattle.mcs_asking.specs.Certificates.{IsAcceptedFor}
 use Rattle.mcs_asking.specs.Kinds.{AreOfKind, IsOverKb}
@@ -25,7 +26,7 @@ use Rattle.mcs_asking.proofs.CoverLemmas.{own_over, heads_over, beliefs_over, fe
 use Rattle.mcs_asking.proofs.KindLemmas.{heads_of_kind, beliefs_of_kind}
 use Rattle.mcs_keeping.specs.Certified.{IsCertified}
 use Rattle.mcs_solver.proofs.KeepingLemmas.{certified_there}
-use Rattle.mcs_solver.proofs.KindLemmas.{each_of_all, made_asked, asked_made}
+use Rattle.mcs_solver.proofs.KindLemmas.{made_asked, asked_made}
 use Rattle.mcs_solver.proofs.parts.parts_with.Goals as goal
 
 pub invariant_of-asked : goal.invariant_of-asked
@@ -44,7 +45,7 @@ invariant_of-given c =
     let m : System = c.args.system.now in
     let i = c.args.context in
     let every = such_that 64 (λ k. true) in
-    let over = subst (AreOver (atoms_of m i)) (sym (c.in_ok-assumptions.ensures.heads every)) (heads_over m i every) in
+    let over = subst (AreOver (atoms_of m i)) (sym (c.in_ok-assumptions.ensures.of_rules every)) (heads_over m i every) in
     let each : AreOver (atoms_of m i) (map (λ (a : Assumption). formula_of a.formula.now) c.in_ok-assumptions.assumptions.items) = each_of_all (IsOver (atoms_of m i)) c.in_ok-assumptions.assumptions.items c.in_ok-assumptions.ensures.numbers over in
     record {
       different = ap has_twins c.atoms_of.ensures.value ∙ (context_atoms m i).0;
@@ -72,7 +73,7 @@ accepted_views-requires-clause-heads c =
     let i = c.args.context in
     let d : Context = context_of (get_or c.contexts.result.now i c.index-contexts-context.result) in
     let there : slice_get m.contexts i ≡ Some d = context_there m c.contexts.result.now i c.index-contexts-context.result c.contexts.ensures.value c.requires.context in
-    let told : assumed c.args.rules c.deref-2.result.now ≡ heads_into m i c.args.rules = ap (assumed c.args.rules) c.deref-2.ensures.value ∙ c.in_ok-assumptions.ensures.heads c.args.rules in
+    let told : assumed c.args.rules c.deref-2.result.now ≡ heads_into m i c.args.rules = ap (assumed c.args.rules) c.deref-2.ensures.value ∙ c.in_ok-assumptions.ensures.of_rules c.args.rules in
     subst (AreOfKind d.kb) (sym told) (heads_of_kind m c.contexts.ensures.valid i c.args.rules d there)
 
 pub accepted_views-requires-clause-beliefs : goal.accepted_views-requires-clause-beliefs
@@ -89,34 +90,34 @@ accepted_views-requires-clause-made c =
     let m : System = c.args.system.now in
     let i = c.args.context in
     made_asked m i _ c.atoms_of.result.now c.deref-2.result.now (map (λ f. formula_of f.now) c.deref.result.now) (context_there m c.contexts.result.now i c.index-contexts-context.result c.contexts.ensures.value c.requires.context)
-    c.atoms_of.ensures.value (λ rules. ap (assumed rules) c.deref-2.ensures.value ∙ c.in_ok-assumptions.ensures.heads rules) (ap (map (λ f. formula_of f.now)) c.deref.ensures.value ∙ c.in_ok-beliefs.ensures) c.args.known.now c.requires.made
+    c.atoms_of.ensures.value (λ rules. ap (assumed rules) c.deref-2.ensures.value ∙ c.in_ok-assumptions.ensures.of_rules rules) (ap (map (λ f. formula_of f.now)) c.deref.ensures.value ∙ c.in_ok-beliefs.ensures) c.args.known.now c.requires.made
 
 pub returns-in_err-views-clause-made : goal.returns-in_err-views-clause-made
 returns-in_err-views-clause-made c =
     let m : System = c.args.system.now in
     let i = c.args.context in
     asked_made m i _ c.atoms_of.result.now c.deref-2.result.now (map (λ f. formula_of f.now) c.deref.result.now) (context_there m c.contexts.result.now i c.index-contexts-context.result c.contexts.ensures.value c.requires.context)
-    c.atoms_of.ensures.value (λ rules. ap (assumed rules) c.deref-2.ensures.value ∙ c.in_ok-assumptions.ensures.heads rules) (ap (map (λ f. formula_of f.now)) c.deref.ensures.value ∙ c.in_ok-beliefs.ensures) c.accepted_views.new.known c.in_err-views.ensures.made
+    c.atoms_of.ensures.value (λ rules. ap (assumed rules) c.deref-2.ensures.value ∙ c.in_ok-assumptions.ensures.of_rules rules) (ap (map (λ f. formula_of f.now)) c.deref.ensures.value ∙ c.in_ok-beliefs.ensures) c.accepted_views.new.known c.in_err-views.ensures.made
 
 pub returns-in-Ok-clause-made : goal.returns-in-Ok-clause-made
 returns-in-Ok-clause-made c =
     let m : System = c.args.system.now in
     let i = c.args.context in
     asked_made m i _ c.atoms_of.result.now c.deref-2.result.now (map (λ f. formula_of f.now) c.deref.result.now) (context_there m c.contexts.result.now i c.index-contexts-context.result c.contexts.ensures.value c.requires.context)
-    c.atoms_of.ensures.value (λ rules. ap (assumed rules) c.deref-2.ensures.value ∙ c.in_ok-assumptions.ensures.heads rules) (ap (map (λ f. formula_of f.now)) c.deref.ensures.value ∙ c.in_ok-beliefs.ensures) c.accepted_views.new.known c.in_ok-views.ensures.made
+    c.atoms_of.ensures.value (λ rules. ap (assumed rules) c.deref-2.ensures.value ∙ c.in_ok-assumptions.ensures.of_rules rules) (ap (map (λ f. formula_of f.now)) c.deref.ensures.value ∙ c.in_ok-beliefs.ensures) c.accepted_views.new.known c.in_ok-views.ensures.made
 
 pub returns-clause-made : goal.returns-clause-made
 returns-clause-made c =
     let m : System = c.args.system.now in
     let i = c.args.context in
     asked_made m i _ c.atoms_of.result.now c.deref-2.result.now (map (λ f. formula_of f.now) c.deref.result.now) (context_there m c.contexts.result.now i c.index-contexts-context.result c.contexts.ensures.value c.requires.context)
-    c.atoms_of.ensures.value (λ rules. ap (assumed rules) c.deref-2.ensures.value ∙ c.in_ok-assumptions.ensures.heads rules) (ap (map (λ f. formula_of f.now)) c.deref.ensures.value ∙ c.in_ok-beliefs.ensures) c.accepted_views.new.known c.in_ok-views.ensures.made
+    c.atoms_of.ensures.value (λ rules. ap (assumed rules) c.deref-2.ensures.value ∙ c.in_ok-assumptions.ensures.of_rules rules) (ap (map (λ f. formula_of f.now)) c.deref.ensures.value ∙ c.in_ok-beliefs.ensures) c.accepted_views.new.known c.in_ok-views.ensures.made
 
 pub returns-in-Ok-clause-exact : goal.returns-in-Ok-clause-exact
 returns-in-Ok-clause-exact c =
     let m : System = c.args.system.now in
     let i = c.args.context in
-    let told : assumed c.args.rules c.deref-2.result.now ≡ heads_into m i c.args.rules = ap (assumed c.args.rules) c.deref-2.ensures.value ∙ c.in_ok-assumptions.ensures.heads c.args.rules in
+    let told : assumed c.args.rules c.deref-2.result.now ≡ heads_into m i c.args.rules = ap (assumed c.args.rules) c.deref-2.ensures.value ∙ c.in_ok-assumptions.ensures.of_rules c.args.rules in
     let asked : map (λ f. formula_of f.now) c.deref.result.now ≡ beliefs_at m (variables_of m i) = ap (map (λ f. formula_of f.now)) c.deref.ensures.value ∙ c.in_ok-beliefs.ensures in
     let d : Context = context_of (get_or c.contexts.result.now i c.index-contexts-context.result) in
     let there : slice_get m.contexts i ≡ Some d = context_there m c.contexts.result.now i c.index-contexts-context.result c.contexts.ensures.value c.requires.context in
@@ -130,7 +131,7 @@ pub returns-in-Ok-clause-certified : goal.returns-in-Ok-clause-certified
 returns-in-Ok-clause-certified c =
     let m : System = c.args.system.now in
     let i = c.args.context in
-    let told : assumed c.args.rules c.deref-2.result.now ≡ heads_into m i c.args.rules = ap (assumed c.args.rules) c.deref-2.ensures.value ∙ c.in_ok-assumptions.ensures.heads c.args.rules in
+    let told : assumed c.args.rules c.deref-2.result.now ≡ heads_into m i c.args.rules = ap (assumed c.args.rules) c.deref-2.ensures.value ∙ c.in_ok-assumptions.ensures.of_rules c.args.rules in
     let asked : map (λ f. formula_of f.now) c.deref.result.now ≡ beliefs_at m (variables_of m i) = ap (map (λ f. formula_of f.now)) c.deref.ensures.value ∙ c.in_ok-beliefs.ensures in
     let d : Context = context_of (get_or c.contexts.result.now i c.index-contexts-context.result) in
     let there : slice_get m.contexts i ≡ Some d = context_there m c.contexts.result.now i c.index-contexts-context.result c.contexts.ensures.value c.requires.context in

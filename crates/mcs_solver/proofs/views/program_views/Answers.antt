@@ -6,7 +6,7 @@ use Rattle.mcs_system.specs.Faults.{is_atom}
 use Rattle.mcs_system.specs.Seen.{formula_of}
 use Rattle.mcs_classical.proofs.ConsequenceLemmas.{assumed_over}
 use Rattle.mcs_solver.specs.Questions.{asked_names, asked_beliefs, asked_heads}
-use Rattle.mcs_solver.proofs.ViewLemmas.{names_over}
+use Rattle.mcs_asking.proofs.AnswerLemmas.{names_over}
 use Rattle.mcs_solver.proofs.views.program_views.Goals as goal
 
 pub names_of-requires : goal.names_of-requires

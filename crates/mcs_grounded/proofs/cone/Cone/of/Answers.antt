@@ -1,4 +1,5 @@
-use Rattle.std.proofs.Common.{◌≡◌, ◌∙◌, List, map, filter, sym, ap, subst, true}
+use Rattle.std.proofs.Common.{◌≡◌, ◌∙◌, List, map, sym, ap, subst, true, rules}
+use Rattle.std.proofs.lemmas.Fn.{filter_same}
 use Rattle.std.specs.List.{AllZip}
 use Rattle.mcs_base.proofs.Each.{all_by_test}
 use Rattle.std.proofs.lemmas.Option.{slice_get_within}
@@ -11,7 +12,6 @@ use Rattle.mcs_evidence.specs.Programs.{AreOverRules}
 use Rattle.mcs_asking.specs.Kinds.{IsOverKb}
 use Rattle.mcs_asking.proofs.CoverLemmas.{own_over}
 use Rattle.mcs_reduct.specs.Plain.{has_one_head}
-use Rattle.mcs_sets.specs.Sets.{has}
 use Rattle.mcs_grounded.specs.Parts.{IsNormalRule, ArePlacesIn, IsDependent}
 use Rattle.mcs_grounded.specs.declared.placed.NormalRule.{NormalRule}
 use Rattle.mcs_grounded.specs.declared.placed.Placed.{Placed}
@@ -41,8 +41,8 @@ heads_placed-requires c = (map rule_of c.args.rules.now, c.requires.program)
 pub returns : goal.returns
 returns c =
     let m = c.args.system.now in
-    cone_made m c.args.context (map rule_of c.args.rules.now) (context_atoms m c.args.context).0 _ c.in_ok-all.all.items c.places_in.result c.in_ok-heads.ensures c.in_ok-reads.ensures
-    (subst (λ (ns : List Name). AllZip (IsNormalRule ns) (map rule_of c.args.rules.now) c.in_ok-all.all.items) c.atoms_of.ensures.value c.in_ok-all.ensures)
+    cone_made m c.args.context (map rule_of c.args.rules.now) (context_atoms m c.args.context).0 _ c.in_ok-rules.rules.items c.places_in.result c.in_ok-heads.ensures c.in_ok-reads.ensures
+    (subst (λ (ns : List Name). AllZip (IsNormalRule ns) (map rule_of c.args.rules.now) c.in_ok-rules.rules.items) c.atoms_of.ensures.value c.in_ok-rules.ensures)
     (subst (λ (ps : List Placed). ArePlacesIn ps c.places_in.result) c.deref-2.ensures.value c.places_in.ensures)
     (subst (λ (ns : List NormalRule). IsDependent ns c.places_in.result c.dependent-places.result) c.deref.ensures.value c.dependent-places.ensures)
-    (c.in_ok-rules.ensures ∙ ap (filter (λ (n : NormalRule). has c.dependent-places.result n.head)) c.deref-3.ensures.value)
+    (filter_same _ _ _ (λ n b f k. search rules) _ _ c.retain.ensures.filtered)

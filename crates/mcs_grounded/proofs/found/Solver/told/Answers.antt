@@ -1,8 +1,7 @@
-use Rattle.std.proofs.Common.{◌≡◌, ◌∙◌, ◌<◌, ℕ, true, List, [], ◌∷◌, length, map, slice_get, refl, sym, ap, subst, arith}
+use Rattle.std.proofs.Common.{◌≡◌, ◌∙◌, ◌<◌, ℕ, true, List, length, map, sym, ap, subst, arith}
 use Rattle.std.specs.List.{AllByRecursion}
 use Rattle.std.proofs.lemmas.List.{length-map}
-use Rattle.std.proofs.lemmas.Option.{same_Some, slice_get_within}
-use Rattle.mcs_base.proofs.Lists.{slice_get_read_as}
+use Rattle.std.proofs.lemmas.Option.{slice_get_within}
 use Rattle.mcs_sets.specs.Sets.{such_that}
 use Rattle.mcs_system.specs.Plain.{Name, System}
 use Rattle.mcs_system.specs.Atoms.{atoms_of}
@@ -13,10 +12,10 @@ use Rattle.mcs_system.specs.Views.{at_places, beliefs_at}
 use Rattle.mcs_system.proofs.ValidLemmas.{few_variables}
 use Rattle.mcs_cnf.specs.ClauseLists.{AreOver, IsOver}
 use Rattle.mcs_cnf.proofs.OverLemmas.{context_atoms}
+use Rattle.mcs_classical.specs.Assumptions.{AreHeads}
 use Rattle.mcs_classical.specs.declared.assumptions.Assumption.{Assumption}
+use Rattle.mcs_classical.proofs.AssumptionLemmas.{each_of_all}
 use Rattle.mcs_asking.proofs.CoverLemmas.{heads_over, beliefs_over, few_beliefs}
-use Rattle.mcs_grounded.proofs.Assuming.{each_of_all}
-use Rattle.mcs_grounded.specs.Parts.{AreHeads}
 use Rattle.mcs_grounded.proofs.Solving.{clauses_meant, found_right, solver_still, part_shown}
 use Rattle.mcs_grounded.proofs.found.Solver.told.Goals as goal
 
@@ -72,16 +71,6 @@ returns-in_err-view-clause-own c =
     c.args.self.now (record { clauses = c.following.new.known; found = c.following.new.self }) c.requires.own c.following.ensures.kept
     (c.following.ensures.right c.requires.formulas (clauses_meant m i c.requires.formulas c.requires.classical c.atoms_of.result.now c.deref-2.result.now (map (λ f. formula_of f.now) c.deref.result.now) c.atoms_of.ensures.value heads asked c.args.self.now c.requires.own) (found_right m i c.requires.formulas c.requires.classical c.atoms_of.result.now c.deref-2.result.now (map (λ f. formula_of f.now) c.deref.result.now) c.atoms_of.ensures.value heads asked c.args.self.now c.requires.own))
 
-pub returns-in_err-parts-clause-own : goal.returns-in_err-parts-clause-own
-returns-in_err-parts-clause-own c =
-    let m : System = c.args.system.now in
-    let i = c.args.context in
-    let heads = subst (AreHeads m i) (sym c.deref-2.ensures.value) c.in_ok-heads.ensures in
-    let asked = ap (map (λ f. formula_of f.now)) c.deref.ensures.value ∙ c.in_ok-beliefs.ensures in
-    solver_still m i c.requires.formulas c.requires.classical c.atoms_of.result.now c.deref-2.result.now (map (λ f. formula_of f.now) c.deref.result.now) c.atoms_of.ensures.value heads asked
-    c.args.self.now (record { clauses = c.following.new.known; found = c.following.new.self }) c.requires.own c.following.ensures.kept
-    (c.following.ensures.right c.requires.formulas (clauses_meant m i c.requires.formulas c.requires.classical c.atoms_of.result.now c.deref-2.result.now (map (λ f. formula_of f.now) c.deref.result.now) c.atoms_of.ensures.value heads asked c.args.self.now c.requires.own) (found_right m i c.requires.formulas c.requires.classical c.atoms_of.result.now c.deref-2.result.now (map (λ f. formula_of f.now) c.deref.result.now) c.atoms_of.ensures.value heads asked c.args.self.now c.requires.own))
-
 pub returns-clause-own : goal.returns-clause-own
 returns-clause-own c =
     let m : System = c.args.system.now in
@@ -92,9 +81,6 @@ returns-clause-own c =
     c.args.self.now (record { clauses = c.following.new.known; found = c.following.new.self }) c.requires.own c.following.ensures.kept
     (c.following.ensures.right c.requires.formulas (clauses_meant m i c.requires.formulas c.requires.classical c.atoms_of.result.now c.deref-2.result.now (map (λ f. formula_of f.now) c.deref.result.now) c.atoms_of.ensures.value heads asked c.args.self.now c.requires.own) (found_right m i c.requires.formulas c.requires.classical c.atoms_of.result.now c.deref-2.result.now (map (λ f. formula_of f.now) c.deref.result.now) c.atoms_of.ensures.value heads asked c.args.self.now c.requires.own))
 
-pub index-requires : goal.index-requires
-index-requires c = omega (arith, ap length c.in_ok-parts.ensures, c.in_ok-parts.parts.ok)
-
 pub returns-clause-told : goal.returns-clause-told
 returns-clause-told c =
     let m : System = c.args.system.now in
@@ -102,7 +88,4 @@ returns-clause-told c =
     let heads = subst (AreHeads m i) (sym c.deref-2.ensures.value) c.in_ok-heads.ensures in
     let asked = ap (map (λ f. formula_of f.now)) c.deref.ensures.value ∙ c.in_ok-beliefs.ensures in
     let part = part_shown m i c.requires.formulas c.requires.classical c.atoms_of.result.now c.deref-2.result.now (map (λ f. formula_of f.now) c.deref.result.now) c.atoms_of.ensures.value heads asked c.args.rules c.in_ok-view.view (c.in_ok-view.ensures.exact c.requires.formulas (clauses_meant m i c.requires.formulas c.requires.classical c.atoms_of.result.now c.deref-2.result.now (map (λ f. formula_of f.now) c.deref.result.now) c.atoms_of.ensures.value heads asked c.args.self.now c.requires.own) (found_right m i c.requires.formulas c.requires.classical c.atoms_of.result.now c.deref-2.result.now (map (λ f. formula_of f.now) c.deref.result.now) c.atoms_of.ensures.value heads asked c.args.self.now c.requires.own)) in
-    let parts = c.in_ok-parts.parts.items in
-    let is = c.in_ok-parts.ensures ∙ ap (λ (s : ℕ). map (at_places s) (c.in_ok-view.view ∷ [])) c.vars_of.ensures in
-    let read = slice_get_read_as parts parts 0 c.index.result.now refl (omega (arith, ap length c.in_ok-parts.ensures)) c.index.ensures in
-    subst (IsAcceptedPart m i c.args.rules) (same_Some _ _ (sym (ap (λ (xs : List ℕ). slice_get xs 0) is) ∙ read)) part
+    subst (IsAcceptedPart m i c.args.rules) (sym (c.at_places.ensures ∙ ap (λ (s : ℕ). at_places s c.in_ok-view.view) c.vars_of.ensures)) part

@@ -7,9 +7,9 @@ use Rattle.mcs_system.specs.Seen.{bridge_of}
 use Rattle.mcs_system.specs.Systems.{heads_from, heads_into}
 use Rattle.mcs_classical.specs.Assumptions.{assumed}
 use Rattle.mcs_classical.specs.declared.assumptions.Assumption.{Assumption}
-use Rattle.mcs_grounded.proofs.Assuming.{assumed_more, assumed_so}
-use Rattle.mcs_grounded.proofs.found.heads_of.Goals as goal
-use Rattle.mcs_grounded.proofs.found.heads_of.Goals.{then-rule-context+in_ok-push, else-rule-context}
+use Rattle.mcs_classical.proofs.AssumptionLemmas.{assumed_more, assumed_so}
+use Rattle.mcs_classical.proofs.assumptions.assumptions_into.Goals as goal
+use Rattle.mcs_classical.proofs.assumptions.assumptions_into.Goals.{then-rule-context+in_ok-push, else-rule-context}
 
 pub loop-number-init : goal.loop-number-init
 loop-number-init c = rw (c.bridges-rule-items.ensures.value, c.new-heads.ensures.items) (record { of_rules = λ rules. refl; numbers = tt })

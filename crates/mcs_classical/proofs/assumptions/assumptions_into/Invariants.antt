@@ -4,7 +4,7 @@ use Rattle.mcs_system.specs.Seen.{bridge_of}
 use Rattle.mcs_system.specs.Systems.{heads_from, heads_into}
 use Rattle.mcs_classical.specs.Assumptions.{assumed}
 use Rattle.mcs_classical.specs.declared.assumptions.Assumption as declared
-use Rattle.mcs_grounded.proofs.found.heads_of.Given as goal
+use Rattle.mcs_classical.proofs.assumptions.assumptions_into.Given as goal
 
 -- with those of the rules that are still to come the heads are all
 abbrev pub invariant-loop-number : goal.invariant-loop-number
