@@ -18,7 +18,7 @@ use Rattle.mcs_productions.specs.declared.production.Action.{Action}
 use Rattle.mcs_productions.specs.declared.production.Action.TheVariants as action
 use Rattle.mcs_account.specs.Mark.{Seen, Said}
 use Rattle.mcs_account.specs.Marks.{Marked, formula_marks, two_marks, belief_marks, denial_marks, read_marks, further_marks, reads_marks, tail_marks, word_marks, weight_marks, own_marks, bridge_marks}
-use Rattle.mcs_account.specs.Account.{Account, number_of, the_read, pushed, took, told, account_step, accounted, in_last, named_rule, with_keep, with_closed, weight_of, with_weight, with_target, with_read}
+use Rattle.mcs_account.specs.Account.{Account, greatest_number, number_of, the_read, pushed, took, told, account_step, accounted, in_last, named_rule, with_keep, with_closed, weight_of, with_weight, with_target, with_read}
 
 pub accounted-append : (a : Account) (ms ns : Marked) → accounted a (ms ++ ns) ≡ accounted (accounted a ms) ns
 accounted-append a [] ns = refl
@@ -181,14 +181,14 @@ abbrev pub names_in : List plain.Context → List Name
 names_in cs = map (λ (c : plain.Context). c.name) cs
 
 -- the number that the account has
-is-number : (cs : List plain.Context) (n : Name) → length cs ≤ 64 → IsAmong n (names_in cs) → position (same_name n) (names_in cs) ≡ Some (number_of cs n)
+is-number : (cs : List plain.Context) (n : Name) → length cs ≤ greatest_number → IsAmong n (names_in cs) → position (same_name n) (names_in cs) ≡ Some (number_of cs n)
 is-number cs n few h =
     let k = found n (names_in cs) h in
     let many : length (names_in cs) ≡ length cs = length-map cs (λ (c : plain.Context). c.name) in
     let same : position_or_len (same_name n) (names_in cs) ≡ number_of cs n = omega arith in
     is-at n (names_in cs) h ∙ ap (λ (i : ℕ). Some i) same
 
-said-reads : (cs : List plain.Context) (ps : List WrittenPlace) → length cs ≤ 64 → AllByRecursion (λ (p : WrittenPlace). IsAmong p.context (names_in cs)) ps → Each (SaysPlace (names_in cs)) ps (map (read_said cs) ps)
+said-reads : (cs : List plain.Context) (ps : List WrittenPlace) → length cs ≤ greatest_number → AllByRecursion (λ (p : WrittenPlace). IsAmong p.context (names_in cs)) ps → Each (SaysPlace (names_in cs)) ps (map (read_said cs) ps)
 said-reads cs [] few h = tt
 said-reads cs (p ∷ ps) few h = (record { number = is-number cs p.context few h.0; belief = refl }, said-reads cs ps few h.1)
 
@@ -197,7 +197,7 @@ pub weight-known : (w : Option Token) → weight_said w ≤ 1000000 → weight_i
 weight-known None light = refl
 weight-known (Some digits) light = omega (arith, light)
 
-pub bridge-says : (cs : List plain.Context) (b : WrittenBridge) → length cs ≤ 64 → weight_said b.marks.weight ≤ 1000000 → IsAmong b.head.context (names_in cs) → AllByRecursion (λ (p : WrittenPlace). IsAmong p.context (names_in cs)) (positive_places b.reads)
+pub bridge-says : (cs : List plain.Context) (b : WrittenBridge) → length cs ≤ greatest_number → weight_said b.marks.weight ≤ 1000000 → IsAmong b.head.context (names_in cs) → AllByRecursion (λ (p : WrittenPlace). IsAmong p.context (names_in cs)) (positive_places b.reads)
     → AllByRecursion (λ (p : WrittenPlace). IsAmong p.context (names_in cs)) (negative_places b.reads) → SaysBridge (names_in cs) b (bridge_said cs b)
 bridge-says cs b few light h pos neg = record {
   named = refl;

@@ -25,7 +25,7 @@ use Rattle.mcs_productions.specs.declared.production.Production.TheVariants as n
 use Rattle.mcs_account.specs.Mark.{Seen, Said, events_of, tokens_in}
 use Rattle.mcs_account.specs.Marks.{Marked, Filled, marks_for, text_marks}
 use Rattle.mcs_account.specs.Account.{entries_in}
-use Rattle.mcs_account.specs.Reading.{Events, AreRead, Reached}
+use Rattle.mcs_account.specs.Reading.{Events, AreReadFrom, AreRead, Reached}
 use Rattle.mcs_account.proofs.Forward.{Part, Of, events-append}
 use Rattle.mcs_account.proofs.Tokens.{join-filled, text-tokens}
 use Rattle.mcs_account.proofs.TokenKinds.{one-terminal, fill-for}
@@ -58,18 +58,22 @@ one-for k t (Took c ∷ xs) is e =
 pub read-none : (rest : Part) → HasRead grammar (Rule name.Text) [] [] rest → Stops grammar rest → AreRead [] [] rest
 read-none rest r s = record { tokens_are = refl; filled = tt; read = r; stops = s }
 
-pub read-one : (ts : List Token) (ms : Marked) (rest left : Part) (k : TokenKind) (t : Token) (xs : Events) → AreRead ts ms rest → IsKind k t → HasRead grammar rest (number (terminal_of k) ∷ []) xs left → Stops grammar left
-    → AreRead (ts ++ t ∷ []) (ms ++ marks_for t xs) left
-read-one ts ms rest left k t xs h is r s =
+pub read-one-from : (n : Production) (ts : List Token) (ms : Marked) (rest left : Part) (k : TokenKind) (t : Token) (xs : Events) → AreReadFrom n ts ms rest → IsKind k t → HasRead grammar rest (number (terminal_of k) ∷ []) xs left → Stops grammar left
+    → AreReadFrom n (ts ++ t ∷ []) (ms ++ marks_for t xs) left
+read-one-from n ts ms rest left k t xs h is r s =
     let one = one-for k t xs is r.tokens_are in
-    let all : HasRead grammar (Rule name.Text) (tokens grammar (events_of ms) ++ number (terminal_of k) ∷ []) (events_of ms ++ xs) left = read-more grammar (Rule name.Text) rest left _ _ (events_of ms) xs h.read r in
+    let all : HasRead grammar (Rule n) (tokens grammar (events_of ms) ++ number (terminal_of k) ∷ []) (events_of ms ++ xs) left = read-more grammar (Rule n) rest left _ _ (events_of ms) xs h.read r in
     let events : events_of ms ++ xs ≡ events_of (ms ++ marks_for t xs) = ap (λ (l : Events). events_of ms ++ l) (sym (events-for t xs)) ∙ sym (events-append ms (marks_for t xs)) in
     record {
       tokens_are = tokens-of-both ms (marks_for t xs) ∙ ap (λ (l : List Token). l ++ tokens_in (marks_for t xs)) h.tokens_are ∙ ap (λ (l : List Token). ts ++ l) one.0;
       filled = join-filled ms (marks_for t xs) h.filled one.1;
-      read = subst (λ (ys : Events). HasRead grammar (Rule name.Text) (tokens grammar ys) ys left) events (subst (λ (ds : List ℕ). HasRead grammar (Rule name.Text) ds (events_of ms ++ xs) left) (sym all.tokens_are) all);
+      read = subst (λ (ys : Events). HasRead grammar (Rule n) (tokens grammar ys) ys left) events (subst (λ (ds : List ℕ). HasRead grammar (Rule n) ds (events_of ms ++ xs) left) (sym all.tokens_are) all);
       stops = s;
     }
+
+pub read-one : (ts : List Token) (ms : Marked) (rest left : Part) (k : TokenKind) (t : Token) (xs : Events) → AreRead ts ms rest → IsKind k t → HasRead grammar rest (number (terminal_of k) ∷ []) xs left → Stops grammar left
+    → AreRead (ts ++ t ∷ []) (ms ++ marks_for t xs) left
+read-one ts ms rest left k t xs h is r s = read-one-from name.Text ts ms rest left k t xs h is r s
 
 pub taken-more : (ts : List Token) (k : ℕ) (t : Token) → slice_get ts k ≡ Some t → take (k + 1) ts ≡ take k ts ++ t ∷ []
 taken-more ts k t is = take_more ts k t (slice_get_within ts k t is) ∙ ap (λ (x : Token). take k ts ++ x ∷ []) (get_or_from_slice_get ts k t t is)

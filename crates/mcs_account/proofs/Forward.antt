@@ -193,7 +193,7 @@ weight-of (Some digits) = with_it _ _ (first-of class.BeginsWeight (codes "weigh
     at true = right _ _ _ (takes class.WeighsTwo)
     at false = left _ _ _ (takes class.Weighs)
 
-marked-of : (b : WrittenBridge) → IsWrittenBridge b → Of (Rule name.MarkedBridge) (bridge_marks b)
+pub marked-of : (b : WrittenBridge) → IsWrittenBridge b → Of (Rule name.MarkedBridge) (bridge_marks b)
 marked-of b h =
     let tail : Marked = tail_marks b.head b.reads in
     let weighed : Marked = weight_marks b.marks.weight ++ tail in

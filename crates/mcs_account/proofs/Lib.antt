@@ -10,6 +10,7 @@ pub mod ContextAccounts
 pub mod Tokens
 pub mod ReadEnds
 pub mod TokenKinds
+pub mod Fronts
 pub mod Reading
 pub mod FaultTheory
 pub mod TokenMarks
@@ -17,6 +18,7 @@ pub mod TextFronts
 pub mod Weighing
 pub mod AccountLemmas
 pub mod ReaderSteps
+pub mod RuleFronts
 pub mod WholeTexts
 pub mod Spoken
 pub mod Atoms

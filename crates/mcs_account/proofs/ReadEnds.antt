@@ -103,7 +103,7 @@ reads-over (x ∷ xs) h =
 both-lead : (s t u : Turn) (ms ns : Marked) → Leads' s t ms → Leads' t u ns → Leads' s u (ms ++ ns)
 both-lead s t u ms ns h k = then-after s t ms ns h ∙ k
 
-bridge-passed : (n : Bool) (b : WrittenBridge) → IsWrittenBridge b → Leads' (between n) (between true) (bridge_marks b)
+pub bridge-passed : (n : Bool) (b : WrittenBridge) → IsWrittenBridge b → Leads' (between n) (between true) (bridge_marks b)
 bridge-passed n b h =
     both-lead (between n) (between n) (between true) (word_marks class.Keeps (codes "keep") b.marks.keep) _ (word-stays class.Keeps (codes "keep") refl b.marks.keep)
     (both-lead (between n) (between n) (between true) (word_marks class.Closes (codes "closed") b.marks.closed) _ (word-stays class.Closes (codes "closed") refl b.marks.closed)

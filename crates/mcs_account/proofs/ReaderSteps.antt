@@ -19,10 +19,12 @@ use Rattle.mcs_account.specs.declared.reader.Taken as code_taken
 use Rattle.mcs_account.specs.Marks.{Marked, marks_for}
 use Rattle.mcs_account.specs.Account.{Account, Place, place_after, uses_with, no_account, accounted, followed, first_course, told}
 use Rattle.mcs_account.specs.Images.{IsPlace, account_of, IsNaming, capped, uses_in, about_place}
-use Rattle.mcs_account.specs.Reading.{AreRead, Events, class_in, ends_in, heard, ended_if, top_of, HasSome}
-use Rattle.mcs_account.specs.Taken.{IsReaderAt, is_long, ended_with, IsTakenWith, context_names, NamesAreShort, IsEnd, IsEndedRead}
-use Rattle.mcs_account.proofs.FaultTheory.{read-one}
-use Rattle.mcs_account.proofs.TokenMarks.{TokenBrings, token-brings}
+use Rattle.mcs_account.specs.Reading.{AreReadFrom, AreRead, Events, class_in, ends_in, heard, ended_if, top_of, HasSome}
+use Rattle.mcs_account.specs.Taken.{IsReaderFrom, IsReaderAt, is_long, ended_with, IsTakenWith, context_names, NamesAreShort, IsEnd, IsEndedRead}
+use Rattle.mcs_account.proofs.Fronts.{IsStart}
+use Rattle.mcs_account.proofs.Reading.{text-start}
+use Rattle.mcs_account.proofs.FaultTheory.{read-one-from}
+use Rattle.mcs_account.proofs.TokenMarks.{TokenBringsFrom, TokenBrings, token-brings}
 use Rattle.std.specs.Prelude.{slice_get, IsTrue}
 use Rattle.std.proofs.lemmas.List.{length-map}
 use Rattle.std.proofs.lemmas.Option.{none-some}
@@ -48,34 +50,53 @@ use Rattle.mcs_account.proofs.TokenKinds.{one-terminal}
 pub reader-stops : (r : List (Part Class Action Production) × List ℕ) → are_prompt grammar r.0 (length r.0) ≡ true → says_next (rest r) ≡ false → Stops grammar (rest r)
 reader-stops r all s = stops grammar reads r.0 all r.1 s
 
-module _ (old now : TextReader) (ts : List Token) (ms : Marked) (t : Token) (taken : code_taken.Taken) (k : TokenKind) (xs : Events) (h : IsReaderAt old ts ms) (w : IsTakenWith taken old now t k xs) where
+-- of any production, where this is the account before the first token
+module _ (n : Production) (start : IsStart n) (a : Account) (none : a.operands ≡ []) (old now : TextReader) (ts : List Token) (ms : Marked) (t : Token) (taken : code_taken.Taken) (k : TokenKind) (xs : Events) (h : IsReaderFrom n a old ts ms) (w : IsTakenWith taken old now t k xs) where
   prompt : are_prompt grammar now.reader.0 (length now.reader.0) ≡ true
   prompt = subst (λ (ps : List (Part Class Action Production)). are_prompt grammar ps (length ps) ≡ true) (sym w.parts) h.parts
 
+  pub read-next-from : AreReadFrom n (ts ++ t ∷ []) (ms ++ marks_for t xs) (rest now.reader)
+  read-next-from = read-one-from n ts ms (rest old.reader) (rest now.reader) k t xs h.read w.kind w.read (reader-stops now.reader prompt w.settled)
+
+  pub next-brings-from : TokenBringsFrom a ms t xs taken.class
+  next-brings-from = subst (TokenBringsFrom a ms t xs) (sym w.class_is) (token-brings n start a none ts ms (rest old.reader) (rest now.reader) t _ xs class.IsAtom h.read w.read read-next-from)
+
+  -- the token's entry
+  abbrev pub entry_from : Entry
+  entry_from = entry t (uses_with (ends_in xs) (followed first_course ms).place taken.class t (top_of (heard (accounted a ms) t xs).operands))
+
+  -- the reader that goes on after it
+  pub passed-from : (after : TextReader) → after.reader ≡ now.reader → account_of after.account ≡ ended_with now.ended (account_of now.account) → is_long k ≡ false
+      → (ends_in xs ≡ true → old.place.context < length (heard (accounted a ms) t xs).contexts)
+      → IsPlace after.place (place_after (followed first_course ms).place taken.class t) → IsReaderFrom n a after (ts ++ t ∷ []) (ms ++ marks_for t xs)
+  passed-from after same account short known place =
+      let said : heard (account_of old.account) t xs ≡ heard (accounted a ms) t xs = ap (λ b. heard b t xs) h.account in
+      let there : ended_with now.ended (account_of now.account) ≡ ended_if (ends_in xs) (heard (account_of old.account) t xs)
+      = w.account short (λ e. (subst (λ (b : Account). HasSome b.operands) (sym said) (next-brings-from.formed e), subst (λ (b : Account). old.place.context < length b.contexts) (sym said) (known e))) in
+      record {
+        parts = subst (λ r. are_prompt grammar r.0 (length r.0) ≡ true) (sym same) prompt;
+        read = subst (λ r. AreReadFrom n (ts ++ t ∷ []) (ms ++ marks_for t xs) (rest r)) (sym same) read-next-from;
+        account = account ∙ there ∙ ap (ended_if (ends_in xs)) said ∙ sym next-brings-from.account;
+        place = subst (IsPlace after.place) (sym next-brings-from.place_is) place;
+      }
+
+-- of a whole text
+module _ (old now : TextReader) (ts : List Token) (ms : Marked) (t : Token) (taken : code_taken.Taken) (k : TokenKind) (xs : Events) (h : IsReaderAt old ts ms) (w : IsTakenWith taken old now t k xs) where
   pub read-next : AreRead (ts ++ t ∷ []) (ms ++ marks_for t xs) (rest now.reader)
-  read-next = read-one ts ms (rest old.reader) (rest now.reader) k t xs h.read w.kind w.read (reader-stops now.reader prompt w.settled)
+  read-next = read-next-from name.Text text-start no_account refl old now ts ms t taken k xs h w
 
   pub next-brings : TokenBrings ms t xs taken.class
-  next-brings = subst (TokenBrings ms t xs) (sym w.class_is) (token-brings ts ms (rest old.reader) (rest now.reader) t _ xs class.IsAtom h.read w.read read-next)
+  next-brings = next-brings-from name.Text text-start no_account refl old now ts ms t taken k xs h w
 
   -- the token's entry
   abbrev pub next_entry : Entry
-  next_entry = entry t (uses_with (ends_in xs) (followed first_course ms).place taken.class t (top_of (heard (accounted no_account ms) t xs).operands))
+  next_entry = entry_from name.Text text-start no_account refl old now ts ms t taken k xs h w
 
   -- the reader that goes on after it
   pub passed-on : (after : TextReader) → after.reader ≡ now.reader → account_of after.account ≡ ended_with now.ended (account_of now.account) → is_long k ≡ false
       → (ends_in xs ≡ true → old.place.context < length (heard (accounted no_account ms) t xs).contexts)
       → IsPlace after.place (place_after (followed first_course ms).place taken.class t) → IsReaderAt after (ts ++ t ∷ []) (ms ++ marks_for t xs)
-  passed-on after same account short known place =
-      let said : heard (account_of old.account) t xs ≡ heard (accounted no_account ms) t xs = ap (λ a. heard a t xs) h.account in
-      let there : ended_with now.ended (account_of now.account) ≡ ended_if (ends_in xs) (heard (account_of old.account) t xs)
-      = w.account short (λ e. (subst (λ (a : Account). HasSome a.operands) (sym said) (next-brings.formed e), subst (λ (a : Account). old.place.context < length a.contexts) (sym said) (known e))) in
-      record {
-        parts = subst (λ r. are_prompt grammar r.0 (length r.0) ≡ true) (sym same) prompt;
-        read = subst (λ r. AreRead (ts ++ t ∷ []) (ms ++ marks_for t xs) (rest r)) (sym same) read-next;
-        account = account ∙ there ∙ ap (ended_if (ends_in xs)) said ∙ sym next-brings.account;
-        place = subst (IsPlace after.place) (sym next-brings.place_is) place;
-      }
+  passed-on = passed-from name.Text text-start no_account refl old now ts ms t taken k xs h w
 
 -- ---- before the first token
 empty : WrittenText

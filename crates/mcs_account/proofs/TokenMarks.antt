@@ -16,12 +16,12 @@ use Rattle.mcs_account.specs.Mark.{Seen, Said, events_of}
 use Rattle.mcs_account.specs.Marks.{Marked, Filled, marks_for}
 use Rattle.mcs_account.specs.Account.{Account, Place, place_after, when, uses_at, uses_with, joined, took, told, no_account, accounted, Course, read_ends, course_step, course_told, followed, first_course}
 use Rattle.mcs_account.specs.Known.{names_in}
-use Rattle.mcs_account.specs.Reading.{AreRead, Events, HasSome, class_in, ends_in, heard, ended_if, top_of}
+use Rattle.mcs_account.specs.Reading.{AreReadFrom, Events, HasSome, class_in, ends_in, heard, ended_if, top_of}
 use Rattle.mcs_account.specs.Turns.{Turn, Phase, Free, Due, Over, Broken, first_turn, ended, ends, comes, named_after, phase_if, phase_after, phase_told, turn_took, turn_told, passed}
 use Rattle.mcs_account.specs.Turns as turns
 use Rattle.mcs_account.proofs.Forward.{Part, events-append}
 use Rattle.mcs_account.proofs.Courses.{last-append}
-use Rattle.mcs_account.proofs.Reading.{GoesOn, some-text, passes, no-late}
+use Rattle.mcs_account.proofs.Fronts.{IsStart, ValueOn, some-value, passes-on, none-late}
 use Rattle.mcs_account.proofs.FaultTheory.{events-for}
 use Rattle.mcs_account.proofs.Tokens.{join-filled}
 use Rattle.mcs_account.proofs.TreeLemmas.{all-parts}
@@ -44,8 +44,12 @@ told_at s a = record { turn = turn_told s.turn a; account = told s.account a; co
 abbrev pub after : State → Marked → State
 after s ms = record { turn = passed s.turn (events_of ms); account = accounted s.account ms; course = followed s.course ms }
 
+-- before the first token, where this is the account
+abbrev pub state_from : Account → State
+state_from a = record { turn = first_turn; account = a; course = first_course }
+
 abbrev pub first_state : State
-first_state = record { turn = first_turn; account = no_account; course = first_course }
+first_state = state_from no_account
 
 after-append : (s : State) (ms ns : Marked) → after s (ms ++ ns) ≡ after (after s ms) ns
 after-append s [] ns = refl
@@ -208,16 +212,21 @@ one s t d (Told a ∷ xs) ns c e l f g =
     let r = one (told_at s a) t d xs ns c e l f (told-agrees s a g) in
     record { comes_is = r.comes_is; named_is = r.named_is; account = r.account; entry_is = r.entry_is; place_is = r.place_is; names = r.names; is_for = λ filled. r.is_for filled.1; ends = r.ends; formed = r.formed; atom = r.atom }
 
-abbrev pub TokenBrings : Marked → Token → Events → Class → Type 0
-TokenBrings ms t xs c = Brings (after first_state ms) (after first_state (ms ++ marks_for t xs)) t xs c
+-- where this is the account before the first token
+abbrev pub TokenBringsFrom : Account → Marked → Token → Events → Class → Type 0
+TokenBringsFrom a ms t xs c = Brings (after (state_from a) ms) (after (state_from a) (ms ++ marks_for t xs)) t xs c
 
-pub token-brings : (ts : List Token) (ms : Marked) (rest left : Part) (t : Token) (d : ℕ) (xs : Events) (c : Class) → AreRead ts ms rest → HasRead grammar rest (d ∷ []) xs left → AreRead (ts ++ t ∷ []) (ms ++ marks_for t xs) left → TokenBrings ms t xs (class_in c xs)
-token-brings ts ms rest left t d xs c h r k =
-    let some = some-text (ts ++ t ∷ []) (ms ++ marks_for t xs) left k in
+abbrev pub TokenBrings : Marked → Token → Events → Class → Type 0
+TokenBrings ms t xs c = TokenBringsFrom no_account ms t xs c
+
+pub token-brings : (n : Production) → IsStart n → (a : Account) → a.operands ≡ [] → (ts : List Token) (ms : Marked) (rest left : Part) (t : Token) (d : ℕ) (xs : Events) (c : Class) → AreReadFrom n ts ms rest → HasRead grammar rest (d ∷ []) xs left → AreReadFrom n (ts ++ t ∷ []) (ms ++ marks_for t xs) left
+    → TokenBringsFrom a ms t xs (class_in c xs)
+token-brings n start a none ts ms rest left t d xs c h r k =
+    let some = some-value n start (ts ++ t ∷ []) (ms ++ marks_for t xs) left k in
     let more : Marked = marks_for t xs ++ some.marks in
-    let whole : GoesOn ms more = record { text = some.goes.text; grammar = some.goes.grammar; marks = some.goes.marks ∙ append_assoc ms (marks_for t xs) some.marks } in
+    let whole : ValueOn n ms more = record { value = some.goes.value; marks = some.goes.marks ∙ append_assoc ms (marks_for t xs) some.marks } in
     let filled : Filled more = join-filled (marks_for t xs) some.marks (all-parts _ ms (marks_for t xs) k.filled).1 some.filled in
     let events : xs ++ events_of some.marks ≡ events_of more = sym (events-append (marks_for t xs) some.marks ∙ ap (λ (l : Events). l ++ events_of some.marks) (events-for t xs)) in
-    let on-time = no-late ts ms rest h more filled (subst (Means Class Action Production rules rest) events (r.goes_on (events_of some.marks) some.means)) in
-    subst (λ (z : State). Brings (after first_state ms) z t xs (class_in c xs)) (sym (after-append first_state ms (marks_for t xs)))
-    (one (after first_state ms) t d xs some.marks c r.tokens_are on-time (passes ts ms rest h more whole) (all-agree first_state ms (record { same = refl; whole = λ e. absurd (cc) })))
+    let on-time = none-late n start ts ms rest h more filled (subst (Means Class Action Production rules rest) events (r.goes_on (events_of some.marks) some.means)) in
+    subst (λ (z : State). Brings (after (state_from a) ms) z t xs (class_in c xs)) (sym (after-append (state_from a) ms (marks_for t xs)))
+    (one (after (state_from a) ms) t d xs some.marks c r.tokens_are on-time (passes-on n start ts ms rest h more whole) (all-agree (state_from a) ms (record { same = none; whole = λ e. absurd (cc) })))

@@ -146,7 +146,7 @@ tail-filled b h = (
   ),
 )
 
-bridge-filled : (b : WrittenBridge) → IsWrittenBridge b → Filled (bridge_marks b)
+pub bridge-filled : (b : WrittenBridge) → IsWrittenBridge b → Filled (bridge_marks b)
 bridge-filled b h = (
   (tt, refl),
   (

@@ -36,7 +36,7 @@ use Rattle.mcs_account.specs.Mark.{events_of, tokens_in}
 use Rattle.mcs_account.proofs.Tokens.{text-tokens, text-filled}
 
 -- connectives change neither the contexts nor the bridge rules
-silent-same : (a : Account) (t : Token) (xs : Events) → tokens grammar xs ≡ [] → ends_late xs ≡ false → ((accounted a (marks_for t xs)).contexts ≡ a.contexts) × ((accounted a (marks_for t xs)).bridges ≡ a.bridges)
+pub silent-same : (a : Account) (t : Token) (xs : Events) → tokens grammar xs ≡ [] → ends_late xs ≡ false → ((accounted a (marks_for t xs)).contexts ≡ a.contexts) × ((accounted a (marks_for t xs)).bridges ≡ a.bridges)
 silent-same a t [] e l = (refl, refl)
 silent-same a t (Took c ∷ xs) e l = absurd (cc)
 silent-same a t (Told action.EndsRead ∷ xs) e l = absurd (true≢false l)

@@ -33,6 +33,14 @@ no_rule = record { head = []; pos = []; neg = [] }
 abbrev pub no_account : Account
 no_account = record { contexts = []; bridges = []; operands = []; rule = no_rule; denied = false; source = 0 }
 
+-- a context of which the name alone is known
+abbrev pub bare_context : Name → plain.Context
+bare_context n = record { name = n; kb = plain.Classical [] }
+
+-- before a bridge rule of a system whose contexts have these names
+abbrev pub account_in : List Name → Account
+account_in names = record no_account { contexts = map bare_context names }
+
 -- the last one changed
 abbrev pub in_last : {A : Type 0} → (A → A) → List A → List A
 in_last f [] = []

@@ -7,6 +7,7 @@ use Rattle.mcs_system.specs.Plain.{Name}
 use Rattle.mcs_system.specs.Plain as plain
 use Rattle.mcs_system.specs.Seen.{bridge_of, context_of, formula_of, rule_of}
 use Rattle.mcs_system.specs.declared.formula.Formula as code_formula
+use Rattle.mcs_system.specs.declared.knowledge.Context as code_context
 use Rattle.mcs_grammar.specs.Written.{WrittenPlace}
 use Rattle.mcs_grammar.specs.Entries.{Token, formula_in, Use, BeginsContext, BeginsBridge, NamesContext, NamesBridge, Weighs, SaysProgram, BeginsItem, BeginsDefault, NamesTarget, NamesSource, BeginsBelief, EndsRead, AtomOf, IsNumber, OpensWithin}
 use Rattle.mcs_grammar.specs.Faults.{NamedRead}
@@ -29,6 +30,10 @@ operands_of fs = reverse (map formula_of fs)
 
 abbrev pub account_of : code.Account → Account
 account_of a = record { contexts = map context_of a.contexts.items; bridges = map bridge_of a.bridges.items; operands = operands_of a.operands.items; rule = rule_of a.rule; denied = a.denied; source = a.source }
+
+-- the names of contexts
+abbrev pub names_of : List code_context.Context → List Name
+names_of cs = map (λ (c : code_context.Context). c.name) cs
 
 -- ---- of the place
 -- the numbers are told up to one more than the first that is too high

@@ -17,12 +17,16 @@ use Rattle.mcs_account.specs.Mark.{events_of, tokens_in}
 use Rattle.mcs_account.specs.Marks.{Marked, Filled}
 use Rattle.mcs_account.specs.Account.{Account, took, told}
 
--- the texts that begin with the tokens are those of the rest, after these marks
-pub record AreRead (ts : List Token) (ms : Marked) (rest : Expr Class Action Production) : Type 0 where
+-- the texts of the production that begin with the tokens are those of the rest, after these marks
+pub record AreReadFrom (n : Production) (ts : List Token) (ms : Marked) (rest : Expr Class Action Production) : Type 0 where
   pub tokens_are : tokens_in ms ≡ ts
   pub filled : Filled ms
-  pub read : HasRead grammar (Rule name.Text) (tokens grammar (events_of ms)) (events_of ms) rest
+  pub read : HasRead grammar (Rule n) (tokens grammar (events_of ms)) (events_of ms) rest
   pub stops : Stops grammar rest
+
+-- those of whole texts
+abbrev pub AreRead : List Token → Marked → Expr Class Action Production → Type 0
+AreRead ts ms rest = AreReadFrom name.Text ts ms rest
 
 -- the first k tokens were read
 pub record Reached (ts : List Token) (k : ℕ) (ms : Marked) (rest : Expr Class Action Production) : Type 0 where

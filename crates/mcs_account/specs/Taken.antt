@@ -15,6 +15,8 @@ use Rattle.mcs_system.specs.Seen.{formula_of}
 use Rattle.mcs_system.specs.declared.knowledge.Context as code_context
 use Rattle.mcs_grammar.specs.Entries.{Token}
 use Rattle.mcs_productions.specs.declared.production.Action.TheVariants as action
+use Rattle.mcs_productions.specs.declared.production.Production.{Production}
+use Rattle.mcs_productions.specs.declared.production.Production.TheVariants as name
 use Rattle.mcs_productions.specs.Productions.{grammar, wanted}
 use Rattle.mcs_productions.specs.Terminals.{terminal_of, number}
 use Rattle.mcs_productions.specs.declared.class.Class.{Class}
@@ -25,9 +27,9 @@ use Rattle.mcs_account.specs.declared.reader.Taken as code_taken
 use Rattle.mcs_account.specs.declared.reader.NamedRead as code_read
 use Rattle.mcs_account.specs.declared.account.Account as code_account
 use Rattle.mcs_account.specs.Marks.{Marked}
-use Rattle.mcs_account.specs.Account.{Account, Place, uses_with, pushed, told, no_account, accounted, first_course, followed}
+use Rattle.mcs_account.specs.Account.{Account, Place, uses_with, pushed, told, no_account, account_in, accounted, first_course, followed}
 use Rattle.mcs_account.specs.Images.{IsPlace, IsNaming, account_of, capped, uses_in, about_place}
-use Rattle.mcs_account.specs.Reading.{AreRead, Events, class_in, ends_in, heard, ended_if, top_of, HasSome}
+use Rattle.mcs_account.specs.Reading.{AreReadFrom, Events, class_in, ends_in, heard, ended_if, top_of, HasSome}
 
 abbrev pub context_names : code_account.Account → List Name
 context_names a = map (λ (c : code_context.Context). c.name) a.contexts.items
@@ -36,12 +38,20 @@ context_names a = map (λ (c : code_context.Context). c.name) a.contexts.items
 abbrev pub NamesAreShort : Events → Token → Type 0
 NamesAreShort xs t = (c : Class) → IsAmong (Took c) xs → wanted c ≡ terminal.Name → IsTrue (is_name t)
 
--- the tokens were read, with these marks
-pub record IsReaderAt (r : TextReader) (ts : List Token) (ms : Marked) : Type 0 where
+-- the tokens of a text of the production were read, with these marks; this is the account before them
+pub record IsReaderFrom (n : Production) (before : Account) (r : TextReader) (ts : List Token) (ms : Marked) : Type 0 where
   pub parts : are_prompt grammar r.reader.0 (length r.reader.0) ≡ true
-  pub read : AreRead ts ms (rest r.reader)
-  pub account : account_of r.account ≡ accounted no_account ms
+  pub read : AreReadFrom n ts ms (rest r.reader)
+  pub account : account_of r.account ≡ accounted before ms
   pub place : IsPlace r.place (followed first_course ms).place
+
+-- those of a whole text
+abbrev pub IsReaderAt : TextReader → List Token → Marked → Type 0
+IsReaderAt r ts ms = IsReaderFrom name.Text no_account r ts ms
+
+-- those of a bridge rule of a system whose contexts have these names
+abbrev pub IsRuleReaderAt : List Name → TextReader → List Token → Marked → Type 0
+IsRuleReaderAt names r ts ms = IsReaderFrom name.MarkedBridge (account_in names) r ts ms
 
 abbrev pub is_long : TokenKind → Bool
 is_long kinds.LongName = true

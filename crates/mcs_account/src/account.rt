@@ -1,6 +1,6 @@
 //! What was read of a text: its contexts and bridge rules so far, and what is being read.
 
-ghost use Rattle.std.specs.Prelude.{◌≡◌, List, map, IfOk, IsTrue, MatchOption, [], ◌∷◌, ◌++◌};
+ghost use Rattle.std.specs.Prelude.{◌≡◌, ◌≤◌, List, length, map, IfOk, IsTrue, MatchOption, [], ◌∷◌, ◌++◌};
 ghost use Rattle.mcs_base.specs.Words.{is_name};
 ghost use Rattle.mcs_productions.specs.Productions.{wanted};
 ghost use Rattle.mcs_productions.specs.declared.class.Class.TheVariants as class;
@@ -10,9 +10,10 @@ ghost use Rattle.mcs_system.specs.Plain as plain;
 ghost use Rattle.mcs_system.specs.Seen.{context_of, formula_of, rule_of};
 ghost use Rattle.mcs_system.specs.Seen as seen;
 ghost use Rattle.mcs_account.specs.Account as said;
-ghost use Rattle.mcs_account.specs.Account.{IsJoining, item_of, no_account, no_rule, number_of};
+ghost use Rattle.mcs_account.specs.Account.{IsJoining, account_in, bare_context, greatest_number};
+ghost use Rattle.mcs_account.specs.Account.{item_of, no_account, no_rule, number_of};
 ghost use Rattle.mcs_account.specs.Account.{told, took, weight_of};
-ghost use Rattle.mcs_account.specs.Images.{account_of, operands_of};
+ghost use Rattle.mcs_account.specs.Images.{account_of, names_of, operands_of};
 
 use mcs_base::Memory;
 use mcs_productions::{Action, Class};
@@ -105,6 +106,16 @@ fn push_name(alloc: Global, names: &mut Vec<Name>, token: &[u8]) -> Result<(), M
     Ok(())
 }
 
+/// A context of which the name alone is known.
+fn bare_context(alloc: Global, name: &Name) -> Result<Context, Memory>
+    ensures { IfOk result (λ c. context_of c ≡ bare_context name.now) }
+{
+    Ok(Context {
+        name: name.copy(alloc)?,
+        kb: Kb::Classical(Vec::new(alloc)),
+    })
+}
+
 impl Account {
     /// Before the first token.
     pub fn new(alloc: Global) -> Account
@@ -118,6 +129,34 @@ impl Account {
             denied: false,
             source: 0,
         }
+    }
+
+    /// Before the first token of a bridge rule of a system with these contexts, of which the names
+    /// alone are kept. More contexts than numbers tell apart are refused as want of memory.
+    pub fn of_contexts(alloc: Global, contexts: &[Context]) -> Result<Account, Memory>
+        ensures account { IfOk result (λ a. account_of a ≡ account_in (names_of contexts.now)) }
+        ensures few { IfOk result (λ _. length contexts.now ≤ greatest_number) }
+    {
+        if contexts.len() > u32::MAX as usize {
+            return Err(Memory);
+        }
+        let mut account = Account::new(alloc);
+        for context in contexts {
+            account.contexts.push(bare_context(alloc, &context.name)?)?;
+        }
+        Ok(account)
+    }
+
+    /// Forgets all but the contexts.
+    pub fn forget(&mut self, alloc: Global)
+        ensures { account_of self.new
+            ≡ record no_account { contexts = (account_of self.old).contexts } }
+    {
+        drop(mem::replace(&mut self.bridges, Vec::new(alloc)));
+        drop(mem::replace(&mut self.operands, Vec::new(alloc)));
+        drop(mem::replace(&mut self.rule, empty_rule(alloc)));
+        self.denied = false;
+        self.source = 0;
     }
 
     /// Takes a token that is there for this. A name is at most as long as a name may be. If memory

@@ -1,19 +1,23 @@
 //! Reading a text token by token: the grammar's reader, the account, and the place.
 
-ghost use Rattle.std.specs.Prelude.{◌≡◌, ◌≤◌, ◌↔◌, ◌&&◌, not, false, IfOk, IsTrue, MatchOption, []};
-ghost use Rattle.std.specs.Prelude.{Some, None};
+ghost use Rattle.std.specs.Prelude.{◌≡◌, ◌≤◌, ◌↔◌, ◌&&◌, not, true, false, IfOk, IsTrue, MatchOption, []};
+ghost use Rattle.std.specs.Prelude.{List, Some, None, length, map};
 ghost use Rattle.mcs_syntax.specs.Reads.{IsRead};
 ghost use Rattle.mcs_syntax.specs.Parts.{rest};
+ghost use Rattle.mcs_syntax.specs.Prompt.{are_prompt};
+ghost use Rattle.mcs_system.specs.Plain as plain;
 ghost use Rattle.mcs_productions.specs.Productions.{grammar};
 ghost use Rattle.mcs_productions.specs.declared.class.Class.TheVariants as class;
 ghost use Rattle.mcs_system.specs.Limits.{most};
 ghost use Rattle.mcs_system.specs.declared.limit.Limit.TheVariants as limits;
 ghost use Rattle.mcs_grammar.specs.Entries.{Token};
 ghost use Rattle.mcs_account.specs.Account as said;
-ghost use Rattle.mcs_account.specs.Account.{place_after};
-ghost use Rattle.mcs_account.specs.Images.{IsPlace, account_of, context_chosen, target_chosen};
+ghost use Rattle.mcs_account.specs.Account.{bare_context, greatest_number, place_after};
+ghost use Rattle.mcs_account.specs.Images.{IsPlace, account_of, context_chosen, names_of};
+ghost use Rattle.mcs_account.specs.Images.{target_chosen};
 ghost use Rattle.mcs_account.specs.Reading.{Events, class_in, ends_in, heard};
-ghost use Rattle.mcs_account.specs.Taken.{IsEnd, IsEndedRead, IsReaderAt, IsTokenTaken};
+ghost use Rattle.mcs_account.specs.Taken.{IsEnd, IsEndedRead, IsReaderAt, IsRuleReaderAt};
+ghost use Rattle.mcs_account.specs.Taken.{IsTokenTaken};
 ghost use Rattle.mcs_account.specs.Taken.{NamesAreShort, ended_with, is_long};
 
 use crate::account::Account;
@@ -114,6 +118,53 @@ impl TextReader {
             reader,
             events,
             account: Account::new(alloc),
+            place: Place::new(),
+            ended: None,
+        })
+    }
+
+    /// The reader of a bridge rule of a system with these contexts, before its first token. The
+    /// rule may have marks and a weight.
+    pub fn of_rule(alloc: Global, contexts: &[Context]) -> Result<TextReader, Memory>
+        ensures read { IfOk result (λ r. IsRuleReaderAt (names_of contexts.now) r [] []) }
+        ensures few { IfOk result (λ _. length contexts.now ≤ greatest_number) }
+    {
+        let reader = TextReader {
+            reader: Reader::new(alloc, productions())?,
+            events: Vec::new(alloc),
+            account: Account::of_contexts(alloc, contexts)?,
+            place: Place::new(),
+            ended: None,
+        };
+        reader.next_rule(alloc)
+    }
+
+    /// The reader of a further bridge rule, before its first token. All that was read is forgotten
+    /// but the names of the contexts.
+    pub fn next_rule(self, alloc: Global) -> Result<TextReader, Memory>
+        requires prompt { are_prompt grammar self.reader.0 (length self.reader.0) ≡ true }
+        ensures { (names : List plain.Name)
+            → (account_of self.account).contexts ≡ map bare_context names
+            → IfOk result (λ r. IsRuleReaderAt names r [] []) }
+    {
+        let TextReader {
+            reader,
+            events,
+            account,
+            ended,
+            ..
+        } = self;
+        drop(ended);
+        let mut reader = reader;
+        let mut events = events;
+        let mut account = account;
+        events.clear();
+        account.forget(alloc);
+        reader.start(&Production::MarkedBridge, &mut events)?;
+        Ok(TextReader {
+            reader,
+            events,
+            account,
             place: Place::new(),
             ended: None,
         })

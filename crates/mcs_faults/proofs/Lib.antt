@@ -43,3 +43,4 @@ pub mod FaultlessTexts
 pub mod SpellsWhole
 pub mod WatchWithin
 pub mod Unambiguous
+pub mod ToldFaults

@@ -5,7 +5,9 @@ mod fault;
 mod limits;
 mod names;
 mod record;
+mod told;
 mod watch;
 
 pub use fault::{Fault, TextFault};
+pub use told::told_fault;
 pub use watch::{Subject, Watch};

@@ -8,3 +8,4 @@ pub mod Spelled
 pub mod JustificationLemmas
 pub mod Weights
 pub mod WorkedTexts
+pub mod WorkedRules

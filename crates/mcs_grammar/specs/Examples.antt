@@ -3,7 +3,7 @@ use Rattle.std.specs.Prelude.{ℕ, true, false, nat_eq, cond, List, [], ◌∷�
 use Rattle.mcs_system.specs.Plain as plain
 use Rattle.mcs_system.specs.Plain.{plain_rule}
 use Rattle.mcs_grammar.specs.Entries.{Token}
-use Rattle.mcs_grammar.specs.Written.{Named, Program, WrittenContext, WrittenMarks, no_marks, WrittenPlace, WrittenBridge, WrittenText}
+use Rattle.mcs_grammar.specs.Written.{Named, Denied, Grouped, Either, Program, WrittenContext, WrittenMarks, no_marks, WrittenPlace, WrittenBridge, WrittenText}
 
 -- the tokens of a text in which one blank stands between any two of them
 abbrev pub byte_onto : ℕ → List Token → List Token
@@ -58,3 +58,19 @@ marked_system = record {
       ∷ record (plain_fact (codes "s")) { keep = true; closed = true; weight = 2 }
       ∷ plain_fact (codes "t") ∷ [];
 }
+
+-- ---- a bridge rule by itself
+abbrev pub lone_rule : WrittenBridge
+lone_rule = record {
+  name = codes "r";
+  marks = record { keep = true; closed = false; weight = Some (codes "3") };
+  head = place;
+  reads = record { denied = true; place = record { context = codes "d"; belief = Grouped (Either (Named (codes "b")) (Denied (Named (codes "b")))) } } ∷ [];
+}
+
+abbrev pub lone_tokens : List Token
+lone_tokens = tokens_apart (codes "bridge r keep weight 3 : c : a if not d : ( b | ~ b ) .")
+
+-- where the contexts are c and d
+abbrev pub lone_bridge : plain.Bridge
+lone_bridge = record (plain.plain_rule (codes "r") 0 (plain.Atom (codes "a")) [] (record { context = 1; belief = plain.Or (plain.Atom (codes "b")) (plain.Not (plain.Atom (codes "b"))) } ∷ [])) { keep = true; weight = 3 }

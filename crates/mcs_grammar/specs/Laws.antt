@@ -1,16 +1,17 @@
 -- What holds of texts: each is the contract of a function of `laws`.
-use Rattle.std.specs.Prelude.{◌≡◌, ℕ, ◌≤◌, false, List, [], ◌∷◌, ◌++◌, codes, slice_index}
+use Rattle.std.specs.Prelude.{◌≡◌, ℕ, ◌≤◌, false, List, [], ◌∷◌, ◌++◌, codes, Option, Some, None, slice_index}
 use Rattle.std.specs.List.{AllByRecursion}
 use Rattle.mcs_system.specs.Plain.{Bridge, System}
 use Rattle.mcs_system.specs.Unmarked.{IsUnmarked}
 use Rattle.mcs_system.specs.declared.limit.Limit.TheVariants.{Weight}
 use Rattle.mcs_tokens.specs.Kinds.{zero_digit}
-use Rattle.mcs_grammar.specs.Written.{WrittenText, IsText}
-use Rattle.mcs_grammar.specs.Entries.{Token, text_entries, tokens_of}
-use Rattle.mcs_grammar.specs.Saying.{SaysSystem}
-use Rattle.mcs_grammar.specs.Faults.{NoGrammar, Exceeds, IsFaultAt}
+use Rattle.mcs_grammar.specs.Written.{WrittenText, IsText, IsWrittenBridge}
+use Rattle.mcs_grammar.specs.Entries.{Token, bridge_entries, text_entries, tokens_of}
+use Rattle.mcs_grammar.specs.Saying.{SaysBridge, SaysSystem}
+use Rattle.mcs_grammar.specs.Faults.{TextFault, NoGrammar, NoContext, Exceeds, IsFaultAt}
+use Rattle.mcs_grammar.specs.Alone.{is_told, IsRuleFaultNext}
 use Rattle.mcs_grammar.specs.Texts.{Spells}
-use Rattle.mcs_grammar.specs.Examples.{tokens_apart, marked_text, marked_tokens, marked_system}
+use Rattle.mcs_grammar.specs.Examples.{tokens_apart, marked_text, marked_tokens, marked_system, lone_rule, lone_tokens, lone_bridge}
 
 -- a text without the version says rules that may be removed and may be forced, of weight 1
 abbrev pub UnversionedRulesAreUnmarked : Type 0
@@ -39,3 +40,21 @@ pub record RefusedFronts : Type 0 where
   pub zero : (t : Token) → slice_index t 0 ≡ zero_digit → IsFaultAt (tokens_apart (codes "version 2 . bridge r weight") ++ t ∷ []) 6 NoGrammar
   -- a weight above 1000000
   pub heavy : IsFaultAt (tokens_apart (codes "version 2 . context c program { } bridge r weight 1000001 : c : a .")) 11 (Exceeds Weight)
+
+-- a rule by itself with marks and a read, and what it says
+pub record LoneRuleIsRead : Type 0 where
+  pub grammar : IsWrittenBridge lone_rule
+  pub tokens : tokens_of (bridge_entries lone_rule) ≡ lone_tokens
+  pub says : SaysBridge (codes "c" ∷ codes "d" ∷ []) lone_rule lone_bridge
+
+-- the faults of rules by themselves, where these are the names of the contexts
+pub record LoneRuleFaults (names : List Token) : Type 0 where
+  -- at the first token, and at the end
+  pub begins : IsRuleFaultNext names [] (Some (codes "context")) NoGrammar
+  pub ends : IsRuleFaultNext names (tokens_apart (codes "bridge r : c : a")) None NoGrammar
+  -- no context has the name
+  pub unknown : names ≡ codes "c" ∷ [] → IsRuleFaultNext names (tokens_apart (codes "bridge r :")) (Some (codes "d")) NoContext
+  -- a weight above 1000000
+  pub heavy : IsRuleFaultNext names (tokens_apart (codes "bridge r weight")) (Some (codes "1000001")) (Exceeds Weight)
+  -- no other fault is told
+  pub others : (ts : List Token) (next : Option Token) (fault : TextFault) → is_told fault ≡ false → ¬ IsRuleFaultNext names ts next fault

@@ -2,6 +2,9 @@
 
 ghost use Rattle.mcs_grammar.specs.Laws.{UnversionedRulesAreUnmarked, SpelledWeightsAreInRange};
 ghost use Rattle.mcs_grammar.specs.Laws.{MarkedTextIsRead, RefusedFronts};
+ghost use Rattle.mcs_grammar.specs.Laws.{LoneRuleIsRead, LoneRuleFaults};
+ghost use Rattle.mcs_grammar.specs.Entries.{Token};
+ghost use Rattle.std.specs.Prelude.{List};
 ghost use Rattle.mcs_grammar.specs.Texts.{SpelledDefaultsAreShort, SpelledTextsHaveNoFault, TextsHaveOneFault};
 
 /// A text has at most one fault.
@@ -34,4 +37,10 @@ pub fn spelled_weights_are_in_range()
 pub fn worked_texts()
     ensures marked { MarkedTextIsRead }
     ensures refused { RefusedFronts }
+{}
+
+/// Worked rules that are read by themselves: one with marks and a read, and some with a fault.
+pub fn worked_rules()
+    ensures read { LoneRuleIsRead }
+    ensures faults { (names : List Token) → LoneRuleFaults names }
 {}

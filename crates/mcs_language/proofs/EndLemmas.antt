@@ -42,10 +42,10 @@ use Rattle.mcs_language.proofs.ToldLemmas.{tokens-many}
 
 -- the places of the reads that are denied, and of those that are not
 module _ (P : WrittenPlace → Type 0) where
-  abbrev OfReads : List WrittenRead → Type 0
+  abbrev pub OfReads : List WrittenRead → Type 0
   OfReads rs = AllByRecursion (λ (r : WrittenRead). P r.place) rs
 
-  places-of : (rs : List WrittenRead) → OfReads rs → AllByRecursion P (positive_places rs) × AllByRecursion P (negative_places rs)
+  pub places-of : (rs : List WrittenRead) → OfReads rs → AllByRecursion P (positive_places rs) × AllByRecursion P (negative_places rs)
   places-of [] h = (tt, tt)
   places-of (r ∷ rs) h = at r.denied refl (places-of rs h.1)
     where
@@ -104,7 +104,7 @@ module _ (bytes : List ℕ) (spans : List Span) (r : Reading) (tokens : AreToken
   bridge-is-said : (b : WrittenBridge) → IsAmong b t.bridges → SaysBridge (names_in cs) b (bridge_said cs b)
   bridge-is-said b there =
       let places = places-of (λ (p : WrittenPlace). IsAmong p.context (names_in cs)) b.reads (all_from_among (λ (q : WrittenRead). IsAmong q.place.context (names_in cs)) b.reads (known-read b there)) in
-      bridge-says cs b few (written-few t (λ k e at heavy. none k e (Exceeds Weight) at heavy) b there) (known-target b there) places.0 places.1
+      bridge-says cs b (omega (arith, few)) (written-few t (λ k e at heavy. none k e (Exceeds Weight) at heavy) b there) (known-target b there) places.0 places.1
 
   module _ (contexts : List code_context.Context) (bridges : List code_bridge.Bridge) (contexts-are : map context_of contexts ≡ (accounted no_account h.marks).contexts) (bridges-are : map bridge_of bridges ≡ (accounted no_account h.marks).bridges) where
     says : SaysSystem t (system_of contexts bridges)

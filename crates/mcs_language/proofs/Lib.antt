@@ -4,3 +4,6 @@ pub mod ToldLemmas
 pub mod SpanLemmas
 pub mod EndLemmas
 pub mod CanonicalReads
+pub mod RuleSteps
+pub mod RuleEnds
+pub mod RuleSpans

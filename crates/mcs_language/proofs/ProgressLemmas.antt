@@ -101,7 +101,7 @@ faultless-more ms m h none j n f is has = go (eq-or-lt_of_le (omega (arith, slic
 
 -- ---- what no fault says of a token
 -- of a parenthesis
-opened-after : (p : Place) (c : Class) (t : Token) (b : Bool) (f : plain.Formula) → p.opened ≤ most OpenParentheses → ¬ IsAmong (OpensWithin (most OpenParentheses)) (uses_with b p c t f) → (place_after p c t).opened ≤ most OpenParentheses
+pub opened-after : (p : Place) (c : Class) (t : Token) (b : Bool) (f : plain.Formula) → p.opened ≤ most OpenParentheses → ¬ IsAmong (OpensWithin (most OpenParentheses)) (uses_with b p c t f) → (place_after p c t).opened ≤ most OpenParentheses
 opened-after p class.OpensParenthesis t b f few none = go (eq-or-lt_of_le few)
   where
     there : (n : ℕ) → p.opened ≡ n → IsAmong (OpensWithin n) (uses_with b p class.OpensParenthesis t f)

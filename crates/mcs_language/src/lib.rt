@@ -3,6 +3,8 @@
 
 mod laws;
 mod reading;
+mod rule;
+mod rules;
 mod writing;
 
 pub use laws::texts_are_unambiguous;
@@ -12,4 +14,6 @@ pub use mcs_grammar::{
     texts_have_one_fault, unversioned_rules_are_unmarked, worked_texts,
 };
 pub use reading::read_system;
+pub use rule::read_bridge;
+pub use rules::{ReadRule, RuleReader};
 pub use writing::write_system;
