@@ -8,6 +8,7 @@ use Rattle.std.specs.List.{range_with_len, sum_by}
 use Rattle.mcs_base.specs.Listings.{IsAmong}
 use Rattle.mcs_base.proofs.Among.{among_either, among_range}
 use Rattle.mcs_base.proofs.Distinct.{distinct_fits}
+use Rattle.mcs_base.proofs.Mapped.{mapped_in_place}
 use Rattle.mcs_base.proofs.Each.{all_among}
 use Rattle.mcs_base.proofs.Written.{take_next}
 use Rattle.mcs_base.proofs.Lists.{length_same_images, map_slice_get, slice_get-map_some, slice_get_below, slice_get_kept, slice_get_push_at, slice_get_seam}
@@ -72,23 +73,9 @@ wires_more m groups many ps is a i wires ends = record {
 }
 
 -- ---- addresses that are split
-pub split_more : (first now : List AddressData) (k : ℕ) (a b : AddressData) → now ≡ map less_one (take k first) ++ drop k first → slice_get now k ≡ Some a → b ≡ less_one a
-    → (slice_set now k b ≡ map less_one (take (k + 1) first) ++ drop (k + 1) first) × (slice_get first k ≡ Some a)
-split_more first now k a b is at less =
-    let e : suc k ≡ k + 1 = omega arith in
-    let (set, there) = over first k (subst (λ (ps : List AddressData). slice_get ps k ≡ Some a) is at) in
-    (ap (λ (ps : List AddressData). slice_set ps k b) is ∙ set ∙ ap (λ (n : ℕ). map less_one (take n first) ++ drop n first) e, there)
-  where
-    over : (xs : List AddressData) (j : ℕ) → slice_get (map less_one (take j xs) ++ drop j xs) j ≡ Some a
-        → (slice_set (map less_one (take j xs) ++ drop j xs) j b ≡ map less_one (take (suc j) xs) ++ drop (suc j) xs) × (slice_get xs j ≡ Some a)
-    over [] zero there = absurd (none-some a there)
-    over [] (suc j) there = absurd (none-some a there)
-    over (x ∷ xs) zero there = let one : x ≡ a = same_Some x a there in (ap (λ (z : AddressData). z ∷ xs) (less ∙ ap less_one (sym one)), there)
-    over (x ∷ xs) (suc j) there = let (set, at') = over xs j there in (ap (λ zs. less_one x ∷ zs) set, at')
-
 -- what stood at the first place that is not split yet
 pub unsplit_at : (first now : List AddressData) (k : ℕ) (a : AddressData) → now ≡ map less_one (take k first) ++ drop k first → slice_get now k ≡ Some a → slice_get first k ≡ Some a
-unsplit_at first now k a is at = (split_more first now k a (less_one a) is at refl).1
+unsplit_at first now k a is at = (mapped_in_place less_one first now k a (less_one a) is at refl).1
 
 -- and the new addresses
 pub new_more : (first new now : List AddressData) (k : ℕ) (a x : AddressData) → slice_get first k ≡ Some a → new ≡ map one_part (take k first) → x ≡ one_part a → now ≡ new ++ x ∷ [] → now ≡ map one_part (take (k + 1) first)

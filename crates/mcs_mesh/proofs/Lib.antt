@@ -13,3 +13,4 @@ pub mod TableLemmas
 pub mod FirstLemmas
 pub mod ReplayLemmas
 pub mod AnsweringLemmas
+pub mod TellingLemmas

@@ -1,26 +1,13 @@
 -- What one node comes to when it begins a round, is granted its need, or has a supply.
-use Rattle.std.proofs.Common.{◌≡◌, ℕ, ◌+◌, ◌<◌, zero, suc, true, false, true≢false, List, [], ◌∷◌, ◌++◌, map, take, drop, slice_get, slice_set, Option, Some, None, refl, sym, ap, ◌∙◌, subst, inl, inr, ◌⊎◌, add-one}
-use Rattle.std.proofs.lemmas.Option.{none-some, same_Some}
+use Rattle.std.proofs.Common.{◌≡◌, ℕ, ◌+◌, ◌<◌, true, false, true≢false, [], Option, Some, None, refl, sym, ap, ◌∙◌, subst, inl, inr, ◌⊎◌}
+use Rattle.std.proofs.lemmas.Option.{none-some}
 use Rattle.mcs_states.specs.Oracles.{OracleState, with_journal}
 use Rattle.mcs_states.specs.declared.halt.Halt.{Halt}
 use Rattle.mcs_states.specs.declared.halt.Halt.TheVariants.{Spent, Missing, Memory}
 use Rattle.mcs_node.specs.Letters.{ContentData, LetterData, Stop, Supply, is_stop}
-use Rattle.mcs_node.specs.Nodes.{HasFailed, HasFinished, HasTaken, IsGranted, IsGrantHalt, IsNeed, NodeData, begun_at, stopped_with, with_content, with_grant, with_had}
+use Rattle.mcs_node.specs.Nodes.{HasFailed, HasFinished, HasTaken, IsGranted, IsGrantHalt, IsNeed, NodeData, stopped_with, with_content, with_grant, with_had}
 use Rattle.mcs_mesh.specs.Players.{FinishesOn, HasGrantCause, as_new}
 use Rattle.mcs_base.proofs.Results.{some_same}
-
--- ---- the begin
--- one node more has begun
-pub begun_more : (level : ℕ) (first nodes : List NodeData) (k : ℕ) (d e : NodeData) → nodes ≡ map (begun_at level) (take k first) ++ drop k first → slice_get nodes k ≡ Some d → e ≡ begun_at level d
-    → slice_set nodes k e ≡ map (begun_at level) (take (k + 1) first) ++ drop (k + 1) first
-begun_more level first nodes k d e is at begun =
-    rw add-one (ap (λ (ns : List NodeData). slice_set ns k e) is ∙ over first k (subst (λ (ns : List NodeData). slice_get ns k ≡ Some d) is at))
-  where
-    over : (xs : List NodeData) (j : ℕ) → slice_get (map (begun_at level) (take j xs) ++ drop j xs) j ≡ Some d → slice_set (map (begun_at level) (take j xs) ++ drop j xs) j e ≡ map (begun_at level) (take (suc j) xs) ++ drop (suc j) xs
-    over [] zero there = absurd (none-some d there)
-    over [] (suc j) there = absurd (none-some d there)
-    over (x ∷ xs) zero there = let one : x ≡ d = same_Some x d there in ap (λ z. z ∷ xs) (begun ∙ ap (begun_at level) (sym one))
-    over (x ∷ xs) (suc j) there = ap (λ zs. begun_at level x ∷ zs) (over xs j there)
 
 -- ---- the grant
 module _ (asked need total level : ℕ) (d e : NodeData) (is_need : IsNeed d need) (adds : total ≡ asked + need) (at : d.level ≡ Some level) where

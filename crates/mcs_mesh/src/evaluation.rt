@@ -10,11 +10,13 @@ ghost use Rattle.mcs_mesh.specs.Rounds.{evaluator_state_of, AreFresh, AreNew, Ha
 ghost use Rattle.mcs_mesh.specs.Rounds.{HasShown, IsHaltOfRound, IsLastRound};
 
 use crate::answering::{changed_first, changed_states};
+use crate::cheapest::cheapest_of;
 use crate::found::{Found, is_reached};
 use crate::lasting::is_left_out;
 use crate::nodes::NodeList;
 use crate::player::{Played, Player, Round};
 use mcs_base::{Marks, Memory, Pair, Vars};
+use mcs_costs::CheapestEvaluator;
 use mcs_import::Plan;
 use mcs_states::{Evaluator, Halt};
 use std::alloc::Global;
@@ -255,5 +257,20 @@ impl<P: Player + Drop> Evaluator for Evaluation<P> {
 
     fn halted(&self) -> bool {
         self.halt.is_some() || self.replayed
+    }
+}
+
+impl<P: Player + Drop> CheapestEvaluator for Evaluation<P> {
+    fn reach(&mut self, alloc: Global, level: u32) -> Result<(), Halt> {
+        Evaluation::reach(self, alloc, level)
+    }
+
+    fn cheapest(&mut self, alloc: Global, level: u32) -> Result<Option<Vec<Marks>>, Halt> {
+        Evaluation::reach(self, alloc, level)?;
+        let done = self.done.unwrap_or(level);
+        match cheapest_of(alloc, &self.plan, &self.nodes, done, level) {
+            Ok(told) => Ok(told),
+            Err(Memory) => Err(Halt::Memory.kept_in(&mut self.halt)),
+        }
     }
 }

@@ -3,6 +3,7 @@
 #![tactic(auto)]
 
 mod answering;
+mod cheapest;
 mod each;
 mod evaluation;
 mod found;

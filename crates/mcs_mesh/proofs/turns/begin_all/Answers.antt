@@ -1,12 +1,12 @@
 use Rattle.std.specs.List.{AllByRecursion}
 use Rattle.mcs_base.proofs.Each.{all_read}
+use Rattle.mcs_base.proofs.Mapped.{mapped_in_place}
 use Rattle.std.proofs.lemmas.List.{append-nil, drop_all, take_all, get_or-append_right, get_or-drop, get_or_default, length-map, length-take-le}
 use Rattle.std.proofs.Common.{◌≡◌, ◌∙◌, ap, get_or, slice_get, Some, arith, ◌++◌, map, drop, refl, ℕ, ◌+◌, ◌-◌, ◌<◌, ◌≤◌, List, length, take, sym, subst}
 use Rattle.std.proofs.lemmas.Result.{err_from_is_err_and}
 use Rattle.std.proofs.lemmas.Option.{slice_get-get_or}
 use Rattle.mcs_node.specs.Nodes.{NodeData, begun_at}
 use Rattle.mcs_mesh.specs.Players.{as_new, CanBegin}
-use Rattle.mcs_mesh.proofs.TurnLemmas.{begun_more}
 use Rattle.mcs_mesh.proofs.turns.begin_all.Goals as goal
 use Rattle.mcs_base.proofs.Written.{image_kept, set_back}
 
@@ -16,7 +16,7 @@ loop-node-preserved g c =
     let k = c.loop-node.node-index in
     let d : NodeData = get_or nodes k c.node-item.result in
     let at : slice_get nodes k ≡ Some d = slice_get-get_or nodes k c.node-item.result (let t = c.loop-node-test.true in let l = c.loop-node.auto.nodes in omega (arith, t, l)) in record {
-      begun = begun_more c.args.level c.args.nodes.now nodes k d c.begin.new.self c.loop-node.invariant.begun at c.in_ok-begin.ensures.begun;
+      begun = (mapped_in_place (begun_at c.args.level) c.args.nodes.now nodes k d c.begin.new.self c.loop-node.invariant.begun at c.in_ok-begin.ensures.begun).0;
       same = image_kept as_new nodes k d c.begin.new.self at (ap as_new c.in_ok-begin.ensures.begun) ∙ c.loop-node.invariant.same;
     }
 
