@@ -11,6 +11,7 @@ ghost use Rattle.mcs_mesh.specs.Players.{oracles_of};
 ghost use Rattle.mcs_listing.specs.Working.{CanWork, HasWorked, IsWorked};
 
 use crate::beginning::Beginning;
+use mcs_costs::CheapestEvaluator;
 use mcs_grounded::grounded_among;
 use mcs_mesh::{Evaluation, Nodes, Parts, Player, TurnPlayer};
 use mcs_ports::{Gate, Sink};
@@ -72,7 +73,7 @@ pub fn work_in_turn<O: Oracle, K: Sink, G: Gate>(
 }
 
 /// Does the task by the evaluator, as `work` does; for grounded equilibria a solver is used too.
-fn do_task<E: Evaluator, K: Sink>(
+fn do_task<E: CheapestEvaluator, K: Sink>(
     alloc: Global,
     evaluator: E,
     system: Arc<System>,

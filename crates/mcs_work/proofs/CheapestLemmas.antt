@@ -7,7 +7,6 @@ use Rattle.mcs_base.proofs.NumberCases.{cases_zero, cond_at_zero, cond_above_zer
 use Rattle.mcs_ports.specs.Pieces.{Device}
 use Rattle.mcs_text.specs.Writes.{Writes}
 use Rattle.mcs_text.specs.declared.unwritten.Unwritten.{Unwritten}
-use Rattle.mcs_text.proofs.WriteLaws.{appended-none}
 use Rattle.mcs_system.specs.Faults.{IsValid}
 use Rattle.mcs_system.specs.Plain.{System}
 use Rattle.mcs_system.specs.Repairs.{IsDiagnosis}
@@ -17,7 +16,6 @@ use Rattle.mcs_laws.proofs.Choices.{consistent_needs_nothing, consistent_where_n
 use Rattle.mcs_states.specs.Evaluators.{EvaluatorState, KeepsRest}
 use Rattle.mcs_states.specs.declared.halt.Halt.{Halt}
 use Rattle.mcs_states.specs.declared.halt.Halt.TheVariants as halts
-use Rattle.mcs_states.proofs.Causes.{rest_same}
 use Rattle.mcs_diagnosis.specs.declared.diagnosis.Diagnosis as code
 use Rattle.mcs_costs.specs.Costs.{cost}
 use Rattle.mcs_costs.proofs.CostLemmas.{cost-none, none_from_cost}
@@ -31,7 +29,6 @@ use Rattle.mcs_work.specs.Tasks.{IsTaskStage, stop_for_halt, stop_for_line}
 use Rattle.mcs_work.specs.Work.{Proceeds, Works}
 use Rattle.mcs_work.specs.declared.task.Task.TheVariants.{Cheapest}
 use Rattle.mcs_work.specs.declared.task.WorkStop.{WorkStop}
-use Rattle.mcs_work.specs.declared.task.WorkStop.TheVariants as stops
 use Rattle.mcs_work.proofs.CourseLemmas.{each_of_system}
 use Rattle.mcs_work.proofs.StopLemmas.{halt_stops, left_after, memory_stops, text_goes, text_stops, works_later}
 
@@ -159,14 +156,3 @@ module _ (m : System) (e e' : EvaluatorState) (same : e.system ≡ m) (kept : Ke
 -- what comes of the work after it comes of the whole
 pub after_opening : {T : Type 0} (m : System) (e e' : EvaluatorState) (before mid now : Device) (x : T) → Writes (heading m) before mid (Ok x) → (r : Result (Unit {0}) WorkStop) → Works Cheapest (heading m) e e' mid now r → Works Cheapest [] e e' before now r
 after_opening m e e' before mid now x w = works_later Cheapest [] (heading m) e e e' before mid now (tt {0}) (text_goes Cheapest [] (heading m) e before mid x (tt {0}) w) w.whole
-
--- ---- before the heading
-pub nothing_written : (m : System) (e : EvaluatorState) → e.system ≡ m → (at : Device) → Works Cheapest [] e e at at (Err stops.Memory)
-nothing_written m e same at = record {
-  later = omega arith;
-  notes = refl;
-  rest = rest_same e;
-  quiet = tt;
-  done = tt;
-  stop = (refl, record { part = []; rest = heading m; stage = inl (ap heading (sym same)); written = appended-none at.written });
-}

@@ -1,7 +1,6 @@
 //! The cheapest diagnoses of a system, found and printed.
 
 ghost use Rattle.std.specs.Prelude.{◌≡◌, []};
-ghost use Rattle.std.specs.Arc.{arc_value};
 ghost use Rattle.std.specs.List.{AllByRecursion};
 ghost use Rattle.mcs_states.specs.Calls.{CanBegin};
 ghost use Rattle.mcs_report.specs.Repairs.{IsOfSystem};
@@ -14,50 +13,30 @@ ghost use Rattle.mcs_work.specs.declared.task.Task.TheVariants as tasks;
 use crate::line::{Line, print_line};
 use crate::printing::print_opening;
 use crate::task::{Task, WorkStop};
-use mcs_cheapest::{Cheapest, cost, list_cheapest};
-use mcs_diagnosis::{Diagnosis, Levels};
+use mcs_cheapest::{Cheapest, cost, list_least};
+use mcs_costs::CheapestEvaluator;
+use mcs_diagnosis::Diagnosis;
 use mcs_ports::Sink;
-use mcs_states::{Evaluator, Halt};
+use mcs_states::Halt;
 use mcs_system::System;
 use mcs_text::Unwritten;
 use std::alloc::Global;
-use std::sync::Arc;
 
-/// Prints the listing of the cheapest diagnoses of the system.
-pub(crate) fn list_cheapest_of<E: Evaluator, K: Sink>(
+/// Prints the listing of the cheapest diagnoses of the system: the heading, and the rest once the
+/// search has ended.
+pub(crate) fn list_cheapest_of<E: CheapestEvaluator, K: Sink>(
     alloc: Global,
-    evaluator: E,
-    system: Arc<System>,
-    sink: &mut K,
-) -> (Result<(), WorkStop>, E)
-    requires { CanBegin (arc_value system) (E.stands evaluator) }
-    ensures { Works tasks.Cheapest [] (E.stands evaluator) (E.stands result.1) (K.device sink.old)
-        (K.device sink.new) result.0 }
-{
-    let own = match system.clone() {
-        Ok(own) => own,
-        Err(_) => return (Err(WorkStop::Memory), evaluator),
-    };
-    let mut levels = Levels::new(evaluator, own);
-    let result = search_and_print(alloc, &mut levels, &system, sink);
-    (result, levels.into_evaluator())
-}
-
-/// Prints the heading, searches for the cheapest diagnoses, and prints the rest.
-fn search_and_print<E: Evaluator, K: Sink>(
-    alloc: Global,
-    levels: &mut Levels<E>,
+    evaluator: &mut E,
     system: &System,
     sink: &mut K,
 ) -> Result<(), WorkStop>
-    requires new { levels.old.level ≡ 0 }
-    requires can { CanBegin system.now (E.stands levels.old.evaluator) }
-    ensures { Works tasks.Cheapest [] (E.stands levels.old.evaluator)
-        (E.stands levels.new.evaluator) (K.device sink.old) (K.device sink.new) result }
+    requires { CanBegin system.now (E.stands evaluator.old) }
+    ensures { Works tasks.Cheapest [] (E.stands evaluator.old) (E.stands evaluator.new)
+        (K.device sink.old) (K.device sink.new) result }
 {
     let _bridges = system.bridges();
     print_opening(alloc, Task::Cheapest, system, sink)?;
-    match list_cheapest(alloc, levels, system) {
+    match list_least(alloc, evaluator, system) {
         Ok(cheapest) => {
             print_cheapest(alloc, system, &cheapest, sink)?;
             Ok(())

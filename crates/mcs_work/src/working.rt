@@ -11,8 +11,8 @@ use crate::extent::Extent;
 use crate::repairing::solve;
 use crate::states::list_equilibria;
 use crate::task::{Task, WorkStop};
+use mcs_costs::CheapestEvaluator;
 use mcs_ports::Sink;
-use mcs_states::Evaluator;
 use mcs_system::System;
 use std::alloc::Global;
 use std::sync::Arc;
@@ -20,9 +20,9 @@ use std::sync::Arc;
 /// Does the task: prints its listing of the system, each line in one piece, as soon as it is known.
 /// The heading comes before the first question. For `Solve` the equilibria and the verdict come
 /// before diagnoses are searched for, and the diagnoses of a level before the next level is asked.
-/// For `Cheapest` the rest comes once all of it is known; if the budget is spent above level 0, the
-/// verdict is written, which is then known. For `Make` nothing is printed before all is known, and
-/// then the verdict and the end line alone.
+/// For `Cheapest` no other diagnoses are made, and the rest comes once all of it is known; if the
+/// budget is spent above level 0, the verdict is written, which is then known. For `Make` nothing is
+/// printed before all is known, and then the verdict and the end line alone.
 /// For `Grounded` a solver is needed beside the evaluator, so that task is not done here.
 ///
 /// The evaluator has to be one of this system that has done no level yet. It is handed back, and
@@ -36,7 +36,7 @@ use std::sync::Arc;
 /// question, of a level of the task, for which an oracle has no answer. Neither is returned without
 /// its cause; if one has its cause, the work is not done. After each stop a prefix of the text was
 /// written.
-pub fn work<E: Evaluator, K: Sink>(
+pub fn work<E: CheapestEvaluator, K: Sink>(
     alloc: Global,
     evaluator: E,
     system: Arc<System>,
@@ -56,7 +56,11 @@ pub fn work<E: Evaluator, K: Sink>(
         }
         Task::Grounded => unreachable!(),
         Task::Solve => solve(alloc, Extent::Whole, evaluator, system, sink),
-        Task::Cheapest => list_cheapest_of(alloc, evaluator, system, sink),
+        Task::Cheapest => {
+            let mut evaluator = evaluator;
+            let result = list_cheapest_of(alloc, &mut evaluator, &system, sink);
+            (result, evaluator)
+        }
         Task::Make => solve(alloc, Extent::Counts, evaluator, system, sink),
     }
 }
