@@ -12,7 +12,7 @@ ghost use Rattle.mcs_check.specs.Checked.{finding_in, ShowsCheck};
 ghost use Rattle.mcs_check.specs.Findings.{IsReportFinding, RulesOut};
 ghost use Rattle.mcs_check.specs.Judging.{IsJudgedReport};
 
-use crate::certified::CertifiedOracle;
+use crate::accepted::Accepted;
 use crate::collecting::Collecting;
 use crate::difference::first_difference;
 use crate::finding::{Finding, Reason};
@@ -29,9 +29,8 @@ use std::sync::Arc;
 /// What the check of a report leaves.
 #[derive(Drop)]
 pub enum Checked {
-    /// The report is valid. The oracles, one for each context, in order, hold its answers, and none
-    /// of them was asked.
-    Valid(Vec<CertifiedOracle>),
+    /// The report is valid. This is left of it.
+    Valid(Accepted),
     /// The report fails a test. The line, counted from 1, is the one that shows it.
     Fails { line: u64, reason: Reason },
 }
@@ -63,7 +62,8 @@ pub fn check_report(alloc: Global, system: Arc<System>, bytes: &[u8]) -> Result<
 }
 
 /// Checks the bytes as `check_report` does. Of a valid report it hands back oracles with its
-/// answers. They lack none to a question on which the listing of the system depends.
+/// answers, which lack none to a question on which the listing of the system depends, and the first
+/// states of diagnoses that they have told.
 pub fn certify(alloc: Global, system: Arc<System>, bytes: &[u8]) -> Result<Checked, Memory>
     ensures shows { IfOk result (ShowsCheck (arc_value system) bytes.now) }
     ensures only { IfOk result (λ checked. RulesOut (arc_value system) bytes.now
@@ -116,9 +116,9 @@ fn checked_by(
             reason: Reason::Missing,
         });
     };
-    let Relisted { sink, oracles } = listed;
+    let Relisted { sink, accepted } = listed;
     match compared(report.listing, &sink) {
-        Finding::Valid => Ok(Checked::Valid(oracles)),
+        Finding::Valid => Ok(Checked::Valid(accepted)),
         Finding::Fails { line, reason } => Ok(Checked::Fails { line, reason }),
     }
 }

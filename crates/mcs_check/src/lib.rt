@@ -2,6 +2,7 @@
 //! step, and its listing is compared with the one that follows from its answers alone.
 #![tactic(auto)]
 
+mod accepted;
 mod certified;
 mod cheapest;
 mod checking;
@@ -13,6 +14,7 @@ mod laws;
 mod oracles;
 mod relisting;
 
+pub use accepted::Accepted;
 pub use certified::CertifiedOracle;
 pub use cheapest::cheapest_by;
 pub use checking::{Checked, certify, check_report};

@@ -8,12 +8,14 @@ ghost use Rattle.mcs_states.specs.Evaluators.{unasked};
 ghost use Rattle.mcs_check.specs.Relisting.{AreOraclesOf, IsMissingStop, IsRelisted, IsSpentStop};
 ghost use Rattle.mcs_check.specs.Relisting.{LackOne, start_of};
 
+use crate::accepted::Accepted;
 use crate::certified::CertifiedOracle;
 use crate::collecting::Collecting;
 use mcs_base::Memory;
 use mcs_import::Plan;
 use mcs_mesh::Mesh;
 use mcs_ports::IdleGate;
+use mcs_recall::Recalling;
 use mcs_system::System;
 use mcs_work::{Task, WorkStop, work};
 use std::alloc::Global;
@@ -63,17 +65,17 @@ fn renewed(alloc: Global, oracles: Vec<CertifiedOracle>) -> Result<Vec<Certified
     Ok(again)
 }
 
-/// What is left once the listing was computed: the sink that it was written to, and the oracles as
-/// they were before.
+/// What is left once the listing was computed: the sink that it was written to, the oracles as they
+/// were before, and the first states that were told.
 #[derive(Drop)]
 pub(crate) struct Relisted<'b> {
     pub(crate) sink: Collecting<'b>,
-    pub(crate) oracles: Vec<CertifiedOracle>,
+    pub(crate) accepted: Accepted,
 }
 
 /// Computes the whole listing of the system by the oracles of its contexts, or tells `None` if one
 /// of them lacks an answer that is needed. Little memory is needed for it as long as it is as
-/// expected.
+/// expected: that of the first states.
 pub(crate) fn listing_by<'b>(
     alloc: Global,
     system: Arc<System>,
@@ -84,16 +86,20 @@ pub(crate) fn listing_by<'b>(
     requires own { AreOraclesOf (arc_value system) oracles.items }
     ensures { IfOk result (λ listed. MatchOption listed
         (LackOne (arc_value system) oracles.items)
-        (λ r. IsRelisted (arc_value system) oracles.items r.sink.text r.oracles.items)) }
+        (λ r. IsRelisted (arc_value system) oracles.items r.sink.text
+        r.accepted.oracles.items r.accepted.shown.items)) }
 {
     let gate = IdleGate;
     let mesh = mesh_of(alloc, &system, oracles, &gate)?;
+    let recalling = Recalling::new(mesh, Vec::new(alloc));
     let mut sink = Collecting::new(alloc, expected);
-    let (worked, mesh) = work(alloc, mesh, system, Task::Solve, &mut sink);
+    let (worked, recalling) = work(alloc, recalling, system, Task::Solve, &mut sink);
     match worked {
         Ok(()) => {
+            let (mesh, shown) = recalling.into_parts();
             let oracles = renewed(alloc, mesh.into_oracles()?)?;
-            Ok(Some(Relisted { sink, oracles }))
+            let accepted = Accepted { oracles, shown };
+            Ok(Some(Relisted { sink, accepted }))
         }
         Err(stop) => {
             missing(stop)?;

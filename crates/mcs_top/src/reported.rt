@@ -54,8 +54,8 @@ fn print_by<K: Sink>(
     ensures outcome { IfOk result (λ outcome. outcome ≡ outcome_of (finding_in checked)) }
 {
     match checked {
-        Checked::Valid(oracles) => {
-            cheapest_by(alloc, system, oracles, sink)?;
+        Checked::Valid(accepted) => {
+            cheapest_by(alloc, system, accepted, sink)?;
             Ok(Outcome::Done)
         }
         Checked::Fails { line, reason } => {

@@ -60,7 +60,10 @@ returns-in-Valid c bytes read =
     let enough : AreEnough m read.answers = record { right = right; complete = all_answered m read.answers (subst (λ (os : List OracleState). HoldAll m os) same told.hold) } in
     record {
       found = subst (λ (f : Finding). IsReportFinding m bytes f) c.in-Valid.is (c.compared.ensures m bytes read.answers read.spelled enough told.whole);
-      holds = subst (λ (os : List OracleState). AreWholeOracles m os) (sym told.same) (record { own = own_oracles m read.answers c.in_ok-oracles.oracles.items same; hold = told.hold });
+      holds = record {
+        whole = subst (λ (os : List OracleState). AreWholeOracles m os) (sym told.same) (record { own = own_oracles m read.answers c.in_ok-oracles.oracles.items same; hold = told.hold });
+        shown = told.shown;
+      };
     }
 
 pub returns : goal.returns

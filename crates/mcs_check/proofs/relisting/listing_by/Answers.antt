@@ -1,4 +1,4 @@
-use Rattle.std.proofs.Common.{◌≡◌, ℕ, List, [], Option, Some, None, ap, subst}
+use Rattle.std.proofs.Common.{◌≡◌, ℕ, List, [], Option, Some, None, ap, subst, ◌∙◌}
 use Rattle.std.specs.Arc.{arc_value}
 use Rattle.mcs_system.specs.Plain.{System}
 use Rattle.mcs_states.specs.Evaluators.{EvaluatorState, KeepsRest}
@@ -7,6 +7,7 @@ use Rattle.mcs_ports.specs.Pieces.{Device}
 use Rattle.mcs_work.specs.Work.{IsDone, HasStopped}
 use Rattle.mcs_work.specs.declared.task.Task.TheVariants.{Solve}
 use Rattle.mcs_check.specs.Collected.{Collected}
+use Rattle.mcs_recall.specs.Shown.{AreShown}
 use Rattle.mcs_check.specs.Relisting.{start_of}
 use Rattle.mcs_check.proofs.RelistingLemmas.{renewed_same, told_listing, told_stop, told_missing}
 use Rattle.mcs_check.proofs.relisting.listing_by.Goals as goal
@@ -17,24 +18,25 @@ missing-requires c =
     let os : List OracleState = c.args.oracles.items in
     let before : Device = record { written = Some c.new-sink.result.text; notes = None; faults = c.new-sink.result.faults } in
     let now : Device = record { written = Some c.work-worked.new.sink.text; notes = None; faults = c.work-worked.new.sink.faults } in
-    told_stop m os c.requires.own.one_each c.work-worked.result.1.state c.requires.valid before now c.in-Err.stop
-    (subst (λ (e : EvaluatorState). HasStopped Solve [] e c.work-worked.result.1.state before now c.in-Err.stop) c.in_ok-mesh.ensures (rw c.in-Err.is at c.work-worked.ensures.stop))
+    told_stop m os c.requires.own.one_each c.work-worked.result.1 c.requires.valid before now c.in-Err.stop
+    (subst (λ (e : EvaluatorState). HasStopped Solve [] e c.work-worked.result.1 before now c.in-Err.stop) (c.new-recalling.ensures ∙ c.in_ok-mesh.ensures) (rw c.in-Err.is at c.work-worked.ensures.stop))
 
 pub returns-in-Ok : goal.returns-in-Ok
 returns-in-Ok c =
     let m : System = arc_value c.args.system in
     let os : List OracleState = c.args.oracles.items in
-    let e = c.work-worked.result.1.state in
+    let e = c.work-worked.result.1 in
     let text = c.work-worked.new.sink.text in
     let empty : ◌≡◌ {A = Option (List ℕ)} (Some c.new-sink.result.text) (Some []) = ap (λ (s : Collected). Some s.text) c.new-sink.ensures in
     let told = told_listing m os c.requires.own.one_each e text
     (subst (λ (before : Option (List ℕ)). IsDone Solve [] (start_of m os) e before (Some text)) empty
-    (subst (λ (b : EvaluatorState). IsDone Solve [] b e (Some c.new-sink.result.text) (Some text)) c.in_ok-mesh.ensures (rw c.in-Ok.is at c.work-worked.ensures.done))) in
-    let kept = subst (λ (b : EvaluatorState). KeepsRest b e) c.in_ok-mesh.ensures c.work-worked.ensures.rest in
+    (subst (λ (b : EvaluatorState). IsDone Solve [] b e (Some c.new-sink.result.text) (Some text)) (c.new-recalling.ensures ∙ c.in_ok-mesh.ensures) (rw c.in-Ok.is at c.work-worked.ensures.done))) in
+    let kept = subst (λ (b : EvaluatorState). KeepsRest b e) (c.new-recalling.ensures ∙ c.in_ok-mesh.ensures) c.work-worked.ensures.rest in
     record {
       whole = told.0;
       hold = told.1;
-      same = renewed_same m os c.in_ok-into_oracles-in-Ok.field-0.items c.in_ok-oracles-in-Ok.oracles.items e c.requires.own.fresh kept c.in_ok-into_oracles-in-Ok.ensures c.in_ok-oracles-in-Ok.ensures;
+      same = renewed_same m os c.in_ok-into_oracles-in-Ok.field-0.items c.in_ok-oracles-in-Ok.oracles.items e c.requires.own.fresh kept (c.in_ok-into_oracles-in-Ok.ensures ∙ ap (λ (b : EvaluatorState). b.oracles) c.into_parts-mesh.ensures.stands) c.in_ok-oracles-in-Ok.ensures;
+      shown = subst (λ (s : System). AreShown s c.into_parts-mesh.result.1.items) kept.system c.into_parts-mesh.ensures.shown;
     }
 
 pub returns : goal.returns
@@ -43,6 +45,6 @@ returns c =
     let os : List OracleState = c.args.oracles.items in
     let before : Device = record { written = Some c.new-sink.result.text; notes = None; faults = c.new-sink.result.faults } in
     let now : Device = record { written = Some c.work-worked.new.sink.text; notes = None; faults = c.work-worked.new.sink.faults } in
-    told_missing m os c.requires.own.one_each c.work-worked.result.1.state before now c.in-Err.stop
-    (subst (λ (e : EvaluatorState). HasStopped Solve [] e c.work-worked.result.1.state before now c.in-Err.stop) c.in_ok-mesh.ensures (rw c.in-Err.is at c.work-worked.ensures.stop))
+    told_missing m os c.requires.own.one_each c.work-worked.result.1 before now c.in-Err.stop
+    (subst (λ (e : EvaluatorState). HasStopped Solve [] e c.work-worked.result.1 before now c.in-Err.stop) (c.new-recalling.ensures ∙ c.in_ok-mesh.ensures) (rw c.in-Err.is at c.work-worked.ensures.stop))
     c.in_ok-missing-in-Err.ensures.missing
