@@ -10,44 +10,40 @@ use std::alloc::Global;
 
 /// Whether a search with a trace tells this of the base's clauses, which are those of the list. A
 /// trace is accepted.
-fn is_shown(alloc: Global, base: &mut ClauseBase, whole: &Cnf, wanted: bool) -> Result<bool, Memory>
+fn is_shown(alloc: Global, base: &mut ClauseBase, whole: &Cnf, wanted: bool) -> bool
     ensures { base.new ≡ base.old }
 {
-    match base.solve()? {
-        Outcome::Model(_values) => Ok(wanted),
-        Outcome::Refuted(trace) => {
+    match base.solve() {
+        Ok(Outcome::Model(_values)) => wanted,
+        Ok(Outcome::Refuted(trace)) => {
             let is_right = check(alloc, whole, &trace);
             drop(trace);
-            Ok(is_right? && !wanted)
+            is_right == Ok(true) && !wanted
         }
+        Err(_) => false,
     }
 }
 
-/// Whether the base's clauses have an assignment.
-fn has_model(base: &mut ClauseBase) -> Result<bool, Memory>
+/// Whether a search without a trace tells this of the base's clauses.
+fn is_found(base: &mut ClauseBase, wanted: bool) -> bool
     ensures { base.new ≡ base.old }
 {
-    Ok(base.satisfy()?.is_some())
+    match base.satisfy() {
+        Ok(values) => values.is_some() == wanted,
+        Err(_) => false,
+    }
 }
 
 /// Whether a search with a trace and one without tell this of the base's clauses with some more,
 /// which are taken off again.
-fn are_told(
-    alloc: Global,
-    base: &mut ClauseBase,
-    more: &Cnf,
-    whole: &Cnf,
-    wanted: bool,
-) -> Result<bool, Memory> {
+fn are_told(alloc: Global, base: &mut ClauseBase, more: &Cnf, whole: &Cnf, wanted: bool) -> bool {
     let (vars, count) = (base.vars(), base.count());
-    if more.vars() < vars {
-        return Ok(false);
+    if more.vars() < vars || base.append(more).is_err() {
+        return false;
     }
-    base.append(more)?;
-    let is_shown = is_shown(alloc, base, whole, wanted);
-    let found = has_model(base);
+    let is_right = is_shown(alloc, base, whole, wanted) && is_found(base, wanted);
     base.cut(vars, count);
-    Ok(found? == wanted && is_shown?)
+    is_right
 }
 
 /// Clauses over the variables 1 to `vars`, and clauses that are added to them, with one variable
@@ -149,12 +145,15 @@ fn is_answered(
     asked: &Asked,
     more: &[&[i64]],
     wanted: bool,
-) -> Option<bool> {
-    let own = list(alloc, u32::from(asked.vars) + 1, more)?;
-    let whole = front_and(alloc, asked, more)?;
-    let is_right = are_told(alloc, base, &own, &whole, wanted);
+) -> bool {
+    let own = list(alloc, u32::from(asked.vars) + 1, more);
+    let whole = front_and(alloc, asked, more);
+    let is_right = match (&own, &whole) {
+        (Some(own), Some(whole)) => are_told(alloc, base, own, whole, wanted),
+        _ => false,
+    };
     drop((own, whole));
-    is_right.ok()
+    is_right
 }
 
 /// Whether the base has so many variables and clauses.
@@ -166,7 +165,7 @@ fn has(base: &ClauseBase, vars: u64, count: usize) -> bool {
 fn are_answered(alloc: Global, base: &mut ClauseBase, asked: &Asked) -> bool {
     let mut are_right = true;
     for (more, wanted) in asked.questions {
-        are_right &= is_answered(alloc, base, asked, more, *wanted) == Some(true);
+        are_right &= is_answered(alloc, base, asked, more, *wanted);
     }
     are_right && has(base, u64::from(asked.vars), asked.front.len())
 }
@@ -196,9 +195,11 @@ fn is_right(alloc: Global, asked: &Asked) -> bool {
 
 #[test]
 fn each_question_is_answered_as_if_it_were_the_only_one(rt: HostRuntime) {
-    for asked in [&ORDERED, &EITHER, &DEFINED] {
-        assert!(rt; is_right(rt.alloc(), asked));
-    }
+    let alloc = rt.alloc();
+    let are_right = is_right(alloc, &ORDERED)
+        && is_right(alloc, &EITHER)
+        && is_right(alloc, &DEFINED);
+    assert!(rt; are_right);
 }
 
 /// All disjunctions of 1, 2 and 3, each as it is or denied.
@@ -254,7 +255,7 @@ fn is_settled_rightly(
     wanted: bool,
 ) -> Result<bool, Memory> {
     base.settle()?;
-    Ok(is_shown(alloc, base, whole, wanted)? && has_model(base)? == wanted)
+    Ok(is_shown(alloc, base, whole, wanted) && is_found(base, wanted))
 }
 
 /// Whether a settled base of the clauses has an assignment exactly where it is said.
@@ -292,9 +293,9 @@ fn is_cut(base: &mut ClauseBase) -> Result<bool, Memory> {
     }
     base.cut(vars, 3);
     base.add(&[-3])?;
-    let is_denied = has_model(base)?;
+    let is_denied = is_found(base, true);
     base.add(&[1])?;
-    Ok(is_denied && !has_model(base)? && has(base, 5, 5))
+    Ok(is_denied && is_found(base, false) && has(base, 5, 5))
 }
 
 /// The same with this base.
@@ -314,10 +315,10 @@ fn a_settled_base_is_cut(rt: HostRuntime) {
 
 /// Whether the base has one variable and so many clauses, which have an assignment exactly where it
 /// is said.
-fn is_told(base: &mut ClauseBase, count: usize, wanted: bool) -> Result<bool, Memory>
+fn is_told(base: &mut ClauseBase, count: usize, wanted: bool) -> bool
     ensures { base.new ≡ base.old }
 {
-    Ok(has_model(base)? == wanted && has(base, 1, count))
+    is_found(base, wanted) && has(base, 1, count)
 }
 
 /// Whether a base without variables and clauses is told rightly as a variable, the clause that it
@@ -327,11 +328,11 @@ fn is_told_as_it_grows(base: &mut ClauseBase) -> Result<bool, Memory>
 {
     let number = base.add_variable()?;
     base.add(&[1])?;
-    let is_first_right = is_told(base, 1, true)?;
+    let is_first_right = is_told(base, 1, true);
     base.add(&[-1])?;
-    let is_second_right = is_told(base, 2, false)?;
+    let is_second_right = is_told(base, 2, false);
     base.cut(1, 1);
-    Ok(is_told(base, 1, true)? && number == 1 && is_first_right && is_second_right)
+    Ok(is_told(base, 1, true) && number == 1 && is_first_right && is_second_right)
 }
 
 /// The same with such a base.

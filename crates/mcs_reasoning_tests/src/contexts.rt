@@ -7,7 +7,7 @@ ghost use Rattle.mcs_cnf.specs.ClauseLists.{AreOver};
 
 use crate::consequences::are_kept;
 use crate::entailments::{Beliefs, are_believed, follow};
-use crate::formulas::{are_all_stated, are_refuted, has_size, has_twins, need_both};
+use crate::formulas::{are_all_stated, are_refuted, has_size};
 use crate::meanings::{Meant, are_all_meant};
 use crate::questions::are_asked_by_level;
 use crate::satisfying::two_hold;
@@ -38,12 +38,8 @@ pub(crate) enum Claim {
     AreStated,
     /// Each has the clauses in its row, which mean it.
     AreMeant(&'static [Meant]),
-    /// A rule of its program names an atom twice.
-    HasTwins,
     /// Two of them contradict each other.
     AreRefuted,
-    /// Each is over both of two atoms.
-    NeedBoth,
     /// The only one's negation has so many variables and clauses.
     HasSize(u64, usize),
     /// Two of three hold together.
@@ -62,9 +58,7 @@ impl Claim {
             Claim::AreBelieved(said) => are_believed(alloc, formulas, atoms, said) == Ok(true),
             Claim::AreStated => are_all_stated(alloc, formulas, atoms) == Ok(true),
             Claim::AreMeant(rows) => are_all_meant(alloc, formulas, atoms, rows),
-            Claim::HasTwins => has_twins(system),
             Claim::AreRefuted => are_refuted(alloc, formulas, atoms) == Ok(true),
-            Claim::NeedBoth => need_both(formulas, atoms),
             Claim::HasSize(vars, count) => {
                 has_size(alloc, formulas, atoms, *vars, *count) == Ok(true)
             }

@@ -8,7 +8,7 @@ use mcs_cnf::{
     clauses_mean_the_formulas, contexts_are_over_their_atoms, entailment_is_refutation,
     entailments_are_sound, formulas_are_over_their_atoms, is_over, push_formula, push_negation,
 };
-use mcs_system::{Context, Formula, Kb, Name, System};
+use mcs_system::{Formula, Name};
 use mcs_trace::{Clause, Cnf};
 use std::alloc::Global;
 
@@ -89,33 +89,6 @@ fn each_connective_has_its_clauses(rt: HostRuntime) {
     assert!(rt; holds(rt.alloc(), EACH, &Claim::AreStated));
 }
 
-/// Whether the only context is a program of one rule, whose head names an atom twice.
-pub(crate) fn has_twins(system: &System) -> bool {
-    match system.contexts() {
-        [
-            Context {
-                kb: Kb::Program(rules),
-                ..
-            },
-        ] => match rules.as_slice() {
-            [rule] => rule.head.len() == 2 && !are_different(&rule.head),
-            _ => false,
-        },
-        _ => false,
-    }
-}
-
-#[test]
-fn names_that_are_the_same_are_told(rt: HostRuntime) {
-    assert!(rt;
-        holds(
-            rt.alloc(),
-            b"context c program { x | x. }",
-            &Claim::HasTwins
-        )
-    );
-}
-
 /// Adds the clauses of the formula, or of its negation, where they can be added.
 fn push(
     alloc: Global,
@@ -175,25 +148,6 @@ fn what_contradicts_itself_entails_everything(rt: HostRuntime) {
             &Claim::AreRefuted
         )
     );
-}
-
-/// Whether each of four formulas is over both of two atoms, and over neither of them alone.
-pub(crate) fn need_both(formulas: &[Formula], atoms: &[Name]) -> bool {
-    if formulas.len() != 4 || atoms.len() != 2 {
-        return false;
-    }
-    let (first, second) = atoms.split_at(1);
-    let mut both = true;
-    for f in formulas {
-        both = both && is_over(atoms, f) && !is_over(first, f) && !is_over(second, f);
-    }
-    both
-}
-
-#[test]
-fn formulas_are_over_the_atoms_of_all_their_parts(rt: HostRuntime) {
-    let text: &[u8] = b"context c classical { p & q. p | ~q. p -> q. p <-> q. }";
-    assert!(rt; holds(rt.alloc(), text, &Claim::NeedBoth));
 }
 
 /// The text of a context with one formula, that has so many negations.

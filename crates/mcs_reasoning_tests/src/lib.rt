@@ -6,8 +6,6 @@
 #[cfg(test)]
 mod bases;
 #[cfg(test)]
-mod clauses;
-#[cfg(test)]
 mod consequences;
 #[cfg(test)]
 mod contexts;

@@ -1,6 +1,5 @@
-//! Rows and pigeons.
+//! Lists of clauses, and pigeons.
 
-use mcs_base::Memory;
 use mcs_sat::{Outcome, solve};
 use mcs_trace::{Clause, Cnf, Trace, check};
 use std::alloc::Global;
@@ -30,79 +29,6 @@ pub(crate) fn list(alloc: Global, vars: u32, clauses: &[&[i64]]) -> Option<Cnf> 
     let mut cnf = Cnf::new(alloc, u64::from(vars));
     push_all(alloc, &mut cnf, clauses)?;
     Some(cnf)
-}
-
-/// Whether there are so many values, with these at their places.
-fn are_values(values: &[bool], vars: u64, known: &[(usize, bool)]) -> bool {
-    let mut as_said = values.len() as u64 == vars;
-    for (place, value) in known {
-        as_said = as_said && values.get(*place).copied() == Some(*value);
-    }
-    as_said
-}
-
-/// Whether the clauses are satisfied by values with these at their places, or refuted by a trace
-/// that is accepted, where none are given.
-fn are_told(alloc: Global, cnf: &Cnf, known: Option<&[(usize, bool)]>) -> Result<bool, Memory> {
-    match solve(alloc, cnf)? {
-        Outcome::Model(values) => Ok(match known {
-            Some(known) => are_values(&values, cnf.vars(), known),
-            None => false,
-        }),
-        Outcome::Refuted(trace) => {
-            let is_right = check(alloc, cnf, &trace);
-            drop(trace);
-            Ok(is_right? && known.is_none())
-        }
-    }
-}
-
-/// Clauses over so many variables.
-struct Search {
-    vars: u32,
-    clauses: &'static [&'static [i64]],
-    /// Values that satisfy them; none where there are no such values.
-    known: Option<&'static [(usize, bool)]>,
-}
-
-static SEARCHES: [Search; 4] = [
-    Search {
-        vars: 2,
-        clauses: &[&[1, 2], &[-1]],
-        known: Some(&[(0, false), (1, true)]),
-    },
-    Search {
-        vars: 3,
-        clauses: &[],
-        known: Some(&[]),
-    },
-    Search {
-        vars: 3,
-        clauses: &[&[-1, -2], &[-1, 2], &[1, 3]],
-        known: Some(&[(0, false), (2, true)]),
-    },
-    Search {
-        vars: 1,
-        clauses: &[&[1], &[]],
-        known: None,
-    },
-];
-
-/// Whether a search of the clauses tells what is known.
-fn is_told(alloc: Global, search: &Search) -> bool {
-    let Some(cnf) = list(alloc, search.vars, search.clauses) else {
-        return false;
-    };
-    let told = are_told(alloc, &cnf, search.known);
-    drop(cnf);
-    told == Ok(true)
-}
-
-#[test]
-fn clauses_are_satisfied_or_refuted(rt: HostRuntime) {
-    for search in &SEARCHES {
-        assert!(rt; is_told(rt.alloc(), search));
-    }
 }
 
 /// What says that the pigeon sits in the hole.
@@ -150,146 +76,116 @@ fn pigeons(alloc: Global, holes: u8) -> Option<Cnf> {
     Some(cnf)
 }
 
-/// The name at the place of the step's chain.
-fn name_at(trace: &mut Trace, at: usize, place: usize) -> Option<&mut u64> {
+/// Adds the number to the name at this place of the step's chain, if it has the place.
+fn shift_name(trace: &mut Trace, at: usize, place: usize, by: u64) -> bool {
     match trace.steps.get_mut(at) {
-        Some(step) => step.chain.get_mut(place),
-        None => None,
+        Some(step) => match step.chain.get_mut(place) {
+            Some(name) => {
+                *name = name.wrapping_add(by);
+                true
+            }
+            None => false,
+        },
+        None => false,
     }
 }
 
 /// Whether the trace is accepted with the name of no clause at this place of the step's chain, if
-/// it has the place.
-fn is_loose_name(
-    alloc: Global,
-    cnf: &Cnf,
-    trace: &mut Trace,
-    at: usize,
-    place: usize,
-) -> Result<bool, Memory> {
-    match name_at(trace, at, place) {
-        Some(name) => *name = name.wrapping_add(1000),
-        None => return Ok(false),
+/// it has the place. Want of memory counts as accepted.
+fn is_loose_name(alloc: Global, cnf: &Cnf, trace: &mut Trace, at: usize, place: usize) -> bool {
+    if !shift_name(trace, at, place, 1000) {
+        return false;
     }
     let is_accepted = check(alloc, cnf, trace);
-    if let Some(name) = name_at(trace, at, place) {
-        *name = name.wrapping_sub(1000);
-    }
-    is_accepted
+    shift_name(trace, at, place, 1000_u64.wrapping_neg());
+    is_accepted != Ok(false)
 }
 
-/// The clause with the literal at the place turned, if it is a clause.
-fn turned(alloc: Global, literals: &[i64], place: usize) -> Result<Option<Clause>, Memory> {
-    let mut literals = literals.to_vec(alloc)?;
+/// The clause with the literal at the place turned, if it is a clause and there is memory for it.
+fn turned(alloc: Global, literals: &[i64], place: usize) -> Option<Clause> {
+    let mut literals = literals.to_vec(alloc).ok()?;
     if let Some(literal) = literals.get_mut(place) {
         *literal = literal.wrapping_neg();
     }
-    Ok(Clause::new(literals))
+    Clause::new(literals)
 }
 
-/// Puts the clause in the place of that of the step, if there is one.
-fn swap_clause(trace: &mut Trace, at: usize, clause: &mut Clause) {
-    if let Some(step) = trace.steps.get_mut(at) {
-        mem::swap(&mut step.clause, clause);
-    }
-}
-
-/// Whether the trace is accepted with this clause in the step.
-fn is_accepted_with(
-    alloc: Global,
-    cnf: &Cnf,
-    trace: &mut Trace,
-    at: usize,
-    clause: &mut Clause,
-) -> Result<bool, Memory> {
-    swap_clause(trace, at, clause);
-    let is_accepted = check(alloc, cnf, trace);
-    swap_clause(trace, at, clause);
-    is_accepted
-}
-
-/// Whether the trace is accepted with the literal at this place of the step's clause turned, if it
-/// has the place.
-fn is_loose_literal(
-    alloc: Global,
-    cnf: &Cnf,
-    trace: &mut Trace,
-    at: usize,
-    place: usize,
-) -> Result<bool, Memory> {
-    let literals = literals_of(trace, at);
-    if place >= literals.len() {
-        return Ok(false);
-    }
-    match turned(alloc, literals, place)? {
-        Some(mut clause) => {
-            let is_accepted = is_accepted_with(alloc, cnf, trace, at, &mut clause);
-            drop(clause);
-            is_accepted
+/// Turns the literal at this place of the step's clause, if that gives a clause.
+fn turn(alloc: Global, trace: &mut Trace, at: usize, place: usize) -> bool {
+    let Some(step) = trace.steps.get_mut(at) else {
+        return false;
+    };
+    match turned(alloc, step.clause.literals(), place) {
+        Some(clause) => {
+            drop(mem::replace(&mut step.clause, clause));
+            true
         }
-        None => Ok(true),
+        None => false,
     }
 }
 
-/// The literals of the step's clause.
-fn literals_of(trace: &Trace, at: usize) -> &[i64] {
+/// Whether the trace is accepted with the literal at this place of the step's clause turned. Want
+/// of memory, and that no clause is left, count as accepted.
+fn is_loose_literal(alloc: Global, cnf: &Cnf, trace: &mut Trace, at: usize, place: usize) -> bool {
+    let is_turned = turn(alloc, trace, at, place);
+    let is_accepted = check(alloc, cnf, trace);
+    turn(alloc, trace, at, place);
+    !is_turned || is_accepted != Ok(false)
+}
+
+/// How many literals the step's clause has, and how many names its chain.
+fn sizes(trace: &Trace, at: usize) -> (usize, usize) {
     match trace.steps.get(at) {
-        Some(step) => step.clause.literals(),
-        None => &[],
+        Some(step) => (step.clause.literals().len(), step.chain.len()),
+        None => (0, 0),
     }
 }
 
 /// Whether some literal of the step's clause or some name of its chain may be another.
-fn is_loose(alloc: Global, cnf: &Cnf, trace: &mut Trace, at: usize) -> Result<bool, Memory> {
-    let places = match trace.steps.get(at) {
-        Some(step) => step.clause.literals().len().max(step.chain.len()),
-        None => 0,
-    };
-    for place in 0..places {
-        let is_loose_literal = is_loose_literal(alloc, cnf, trace, at, place)?;
-        if is_loose_name(alloc, cnf, trace, at, place)? || is_loose_literal {
-            return Ok(true);
-        }
+fn is_loose(alloc: Global, cnf: &Cnf, trace: &mut Trace, at: usize) -> bool {
+    let (literals, names) = sizes(trace, at);
+    let mut is_loose = false;
+    for place in 0..literals.max(names) {
+        is_loose = is_loose
+            || place < literals && is_loose_literal(alloc, cnf, trace, at, place)
+            || is_loose_name(alloc, cnf, trace, at, place);
     }
-    Ok(false)
+    is_loose
 }
 
 /// Whether the trace is accepted, and no longer with any one number changed.
-fn is_tight(alloc: Global, cnf: &Cnf, trace: &mut Trace) -> Result<bool, Memory> {
+fn is_tight(alloc: Global, cnf: &Cnf, trace: &mut Trace) -> bool {
+    let mut is_tight = true;
     for at in 0..trace.steps.len() {
-        if is_loose(alloc, cnf, trace, at)? {
-            return Ok(false);
-        }
+        is_tight = is_tight && !is_loose(alloc, cnf, trace, at);
     }
-    check(alloc, cnf, trace)
+    is_tight && check(alloc, cnf, trace) == Ok(true)
 }
 
-/// Whether the clauses are refuted by a trace that is accepted, and no longer with any one number
-/// changed.
-fn are_refuted_tightly(alloc: Global, cnf: &Cnf) -> Result<bool, Memory> {
-    match solve(alloc, cnf)? {
-        Outcome::Refuted(mut trace) => {
-            let is_tight = is_tight(alloc, cnf, &mut trace);
-            drop(trace);
-            is_tight
-        }
-        Outcome::Model(_values) => Ok(false),
-    }
+/// Whether the clauses are refuted by a trace that is accepted; no longer with any one number
+/// changed, where that is asked.
+fn are_refuted(alloc: Global, cnf: &Cnf, tightly: bool) -> bool {
+    let Ok(Outcome::Refuted(mut trace)) = solve(alloc, cnf) else {
+        return false;
+    };
+    let is_right = if tightly {
+        is_tight(alloc, cnf, &mut trace)
+    } else {
+        check(alloc, cnf, &trace) == Ok(true)
+    };
+    drop(trace);
+    is_right
 }
 
 /// Whether so many holes are told to be too few, by a trace of which each number is needed where
 /// that is asked.
-fn are_too_few(alloc: Global, holes: u8, is_tight: bool) -> bool {
+fn are_too_few(alloc: Global, holes: u8, tightly: bool) -> bool {
     let Some(cnf) = pigeons(alloc, holes) else {
         return false;
     };
-    let told = if is_tight {
-        are_refuted_tightly(alloc, &cnf)
-    } else {
-        are_told(alloc, &cnf, None)
-    };
+    let are_refuted = are_refuted(alloc, &cnf, tightly);
     drop(cnf);
-    told == Ok(true)
+    are_refuted
 }
 
 #[test]

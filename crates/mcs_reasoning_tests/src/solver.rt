@@ -1,8 +1,10 @@
 //! A solver in parts: what unit clauses lead to, and what is learnt from a conflict.
 
-ghost use Rattle.std.specs.Prelude.{◌≡◌, ◌≤◌, unsigned_abs, IsTrue};
+ghost use Rattle.std.specs.Prelude.{◌≡◌, ◌≤◌, ◌<◌, length, unsigned_abs, IfOk, IfSome, IsTrue};
+ghost use Rattle.std.specs.List.{AllByRecursion};
 ghost use Rattle.mcs_trace.specs.Clauses.{IsLiteral};
-ghost use Rattle.mcs_sat.specs.Solvers.{HasNoValue, trues};
+ghost use Rattle.mcs_sat.specs.Solvers.{HasNoValue, IsFalseNumber, IsOpenUnder};
+ghost use Rattle.mcs_sat.specs.Solvers.{last_level, trues, trues_below};
 
 use crate::searches::list;
 use mcs_base::Memory;
@@ -71,22 +73,6 @@ fn is_run(solver: &mut Solver, vars: u64, run: &Run) -> Result<bool, Memory>
     Ok(is_found && have_values(solver, vars, run.values))
 }
 
-/// Whether a solver of the run's clauses does what it says.
-fn runs(alloc: Global, run: &Run) -> bool {
-    let Some(cnf) = list(alloc, run.vars, run.clauses) else {
-        return false;
-    };
-    let vars = cnf.vars();
-    let solver = Solver::new(alloc, &cnf);
-    drop(cnf);
-    let Ok(mut solver) = solver else {
-        return false;
-    };
-    let is_right = is_run(&mut solver, vars, run);
-    drop(solver);
-    is_right == Ok(true)
-}
-
 static RUNS: [Run; 5] = [
     // A chain of unit clauses.
     Run {
@@ -133,7 +119,7 @@ static RUNS: [Run; 5] = [
 #[test]
 fn unit_clauses_are_followed(rt: HostRuntime) {
     for run in &RUNS {
-        assert!(rt; runs(rt.alloc(), run));
+        assert!(rt; does(rt.alloc(), run.vars, run.clauses, &Deed::Run(run)));
     }
 }
 
@@ -151,6 +137,22 @@ struct Lesson {
     after: &'static [(i64, Option<bool>)],
 }
 
+/// A clause that is false once the literal is decided, where all is propagated before.
+fn conflict_of(solver: &mut Solver, vars: u64, literal: i64) -> Result<Option<u64>, Memory>
+    requires { vars ≡ solver.old.vars }
+    ensures vars { solver.new.vars ≡ solver.old.vars }
+    ensures conflict { IfOk result (λ found. IfSome found (IsFalseNumber solver.new)) }
+    ensures level { IfOk result (λ found. IfSome found (λ _. 1 < length solver.new.levels)) }
+    ensures before { IfOk result (λ found. IfSome found (λ _. AllByRecursion (IsOpenUnder
+        (trues_below solver.new.levels (last_level solver.new))) solver.new.clauses)) }
+{
+    if solver.propagate()?.is_some() || !is_free(solver, vars, literal) {
+        return Ok(None);
+    }
+    solver.decide(literal)?;
+    solver.propagate()
+}
+
 /// Whether the lesson's clause is learnt, where the decision of the literal leads to a conflict.
 fn learn(
     solver: &mut Solver,
@@ -161,11 +163,7 @@ fn learn(
     requires { vars ≡ solver.old.vars }
     ensures { solver.new.vars ≡ solver.old.vars }
 {
-    if solver.propagate()?.is_some() || !is_free(solver, vars, literal) {
-        return Ok(None);
-    }
-    solver.decide(literal)?;
-    let Some(conflict) = solver.propagate()? else {
+    let Some(conflict) = conflict_of(solver, vars, literal)? else {
         return Ok(None);
     };
     let step = solver.analyse(conflict)?;
@@ -197,9 +195,16 @@ fn is_lesson(solver: &mut Solver, vars: u64, lesson: &Lesson) -> Result<bool, Me
     Ok(is_right && is_open && have_values(solver, vars, lesson.after))
 }
 
-/// Whether a solver of the lesson's clauses does what it says.
-fn learns(alloc: Global, lesson: &Lesson) -> bool {
-    let Some(cnf) = list(alloc, lesson.vars, lesson.clauses) else {
+/// What a solver is to do.
+#[derive(Drop)]
+enum Deed {
+    Run(&'static Run),
+    Lesson(&'static Lesson),
+}
+
+/// Whether a solver of the clauses does this.
+fn does(alloc: Global, vars: u32, clauses: &[&[i64]], deed: &Deed) -> bool {
+    let Some(cnf) = list(alloc, vars, clauses) else {
         return false;
     };
     let vars = cnf.vars();
@@ -208,7 +213,10 @@ fn learns(alloc: Global, lesson: &Lesson) -> bool {
     let Ok(mut solver) = solver else {
         return false;
     };
-    let is_right = is_lesson(&mut solver, vars, lesson);
+    let is_right = match deed {
+        Deed::Run(run) => is_run(&mut solver, vars, run),
+        Deed::Lesson(lesson) => is_lesson(&mut solver, vars, lesson),
+    };
     drop(solver);
     is_right == Ok(true)
 }
@@ -254,6 +262,13 @@ static LESSONS: [Lesson; 3] = [
 #[test]
 fn clauses_are_learnt_from_conflicts(rt: HostRuntime) {
     for lesson in &LESSONS {
-        assert!(rt; learns(rt.alloc(), lesson));
+        assert!(rt;
+            does(
+                rt.alloc(),
+                lesson.vars,
+                lesson.clauses,
+                &Deed::Lesson(lesson)
+            )
+        );
     }
 }

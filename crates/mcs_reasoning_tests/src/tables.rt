@@ -4,8 +4,7 @@ ghost use Rattle.std.specs.Prelude.{◌≡◌};
 
 use mcs_base::{Marks, Memory, Partial, Vars};
 use mcs_table::{
-    Row, Table, are_apart, forget, holds_one, join, matching, projections_of, states_with,
-    union_states,
+    Row, Table, are_apart, forget, join, matching, projections_of, states_with, union_states,
 };
 use std::alloc::Global;
 
@@ -38,10 +37,19 @@ fn table(alloc: Global, (scope, rows): Listed) -> Result<Table, Memory> {
     Ok(Table::new(scope, all))
 }
 
+/// Whether these are the rows on the scope, in any order. No row is listed twice.
+fn are_rows(found: &[Row], scope: Vars, rows: &[(u64, u8)]) -> bool {
+    let mut same = found.len() == rows.len();
+    for (values, marks) in rows {
+        same = same && found.contains(&row(scope, *values, *marks));
+    }
+    same
+}
+
 /// Whether the table has this scope and these rows.
-fn is_listed(alloc: Global, found: &Table, wanted: Listed) -> Result<bool, Memory> {
-    let wanted = table(alloc, wanted)?;
-    Ok(found.scope() == wanted.scope() && found.rows() == wanted.rows())
+fn is_listed(found: &Table, (scope, rows): Listed) -> bool {
+    let scope = Vars::numbered(scope);
+    found.scope() == scope && are_rows(found.rows(), scope, rows)
 }
 
 /// What two tables give at a level.
@@ -63,9 +71,9 @@ fn is_joined(
 ) -> Result<bool, Memory> {
     if are_apart(a, b) {
         let found = join(alloc, a, b, level)?;
-        let is_listed = is_listed(alloc, &found, wanted);
+        let is_listed = is_listed(&found, wanted);
         drop(found);
-        is_listed
+        Ok(is_listed)
     } else {
         Ok(false)
     }
@@ -100,12 +108,20 @@ fn have_states(
 type Pairing = (Listed, Listed, u32, Given);
 
 /// Whether the two tables give this.
-fn is_given(alloc: Global, (a, b, level, given): Pairing) -> Result<bool, Memory> {
-    let a = table(alloc, a)?;
-    let b = table(alloc, b)?;
-    let is_right = match given {
-        Given::Joined(wanted) => is_joined(alloc, &a, &b, level, wanted),
-        Given::States(states) => have_states(alloc, &a, &b, level, states),
+fn give(alloc: Global, a: &Table, b: &Table, level: u32, given: Given) -> bool {
+    let given = match given {
+        Given::Joined(wanted) => is_joined(alloc, a, b, level, wanted),
+        Given::States(states) => have_states(alloc, a, b, level, states),
+    };
+    given == Ok(true)
+}
+
+/// The same of those that are listed so.
+fn is_given(alloc: Global, (a, b, level, given): Pairing) -> bool {
+    let (a, b) = (table(alloc, a), table(alloc, b));
+    let is_right = match (&a, &b) {
+        (Ok(a), Ok(b)) => give(alloc, a, b, level, given),
+        _ => false,
     };
     drop((a, b));
     is_right
@@ -157,17 +173,17 @@ static PAIRINGS: [Pairing; 8] = [
 #[test]
 fn tables_are_joined(rt: HostRuntime) {
     for pairing in &PAIRINGS {
-        assert!(rt; is_given(rt.alloc(), *pairing) == Ok(true));
+        assert!(rt; is_given(rt.alloc(), *pairing));
     }
 }
 
 /// Whether the row with these values and marks is the only one of the table that fits these values.
 fn fits_alone(alloc: Global, of: Listed, values: u64, marks: u8) -> Result<bool, Memory> {
     let of = table(alloc, of)?;
-    let wanted = row(of.scope(), values, marks);
-    let found = matching(alloc, &of, &wanted.state);
+    let state = row(of.scope(), values, marks).state;
+    let found = matching(alloc, &of, &state);
     drop(of);
-    Ok(found?.as_slice() == [wanted].as_slice())
+    Ok(are_rows(&found?, state.mask(), &[(values, marks)]))
 }
 
 #[test]
@@ -182,7 +198,10 @@ fn leaves(alloc: Global, of: Listed, wanted: Listed) -> Result<bool, Memory> {
     let of = table(alloc, of)?;
     let left = forget(alloc, &of, Vars::numbered(wanted.0));
     drop(of);
-    is_listed(alloc, &left?, wanted)
+    let left = left?;
+    let is_listed = is_listed(&left, wanted);
+    drop(left);
+    Ok(is_listed)
 }
 
 /// A table, and what is left of it without the variables that are not of the other's scope: the
@@ -249,12 +268,4 @@ fn are_kept(alloc: Global) -> Result<bool, Memory> {
 #[test]
 fn states_are_kept_that_a_row_agrees_with(rt: HostRuntime) {
     assert!(rt; are_kept(rt.alloc()) == Ok(true));
-}
-
-#[test]
-fn marks_hold_the_sets_within_them(rt: HostRuntime) {
-    let sets = [Marks::one(1).with(2), Marks::one(3)];
-    let held = holds_one(sets[0].with(0), &sets) && holds_one(sets[1], &sets);
-    let others = holds_one(Marks::one(0).with(1), &sets) || holds_one(Marks::empty(), &sets);
-    assert!(rt; held && !others && !holds_one(sets[1], &[]));
 }

@@ -2,7 +2,7 @@
 
 use crate::searches::list;
 use mcs_base::Memory;
-use mcs_trace::{Clause, Cnf, Step, Trace, accepted_traces_refute, check, numbered};
+use mcs_trace::{Clause, Cnf, Step, Trace, accepted_traces_refute, check};
 use std::alloc::Global;
 
 /// The trace of steps that resolve the empty clause, each from one of the chains.
@@ -42,23 +42,14 @@ static TRACES: [(&[&[u64]], bool); 7] = [
     (&[], false),
 ];
 
-/// Whether a step over the two clauses has the third number, and none has the fourth.
-fn step_comes_next(alloc: Global, cnf: &Cnf) -> Result<bool, Memory> {
-    let trace = trace_of(alloc, &[&[1, 2]])?;
-    let is_there = numbered(cnf.clauses(), &trace.steps, 3).is_some();
-    let is_last = numbered(cnf.clauses(), &trace.steps, 4).is_none();
-    drop(trace);
-    Ok(is_there && is_last)
-}
-
 /// Whether the list is of one variable and two clauses, and the traces of it are accepted where
 /// that is said.
 fn are_told(alloc: Global, cnf: &Cnf) -> bool {
-    let mut are_right = step_comes_next(alloc, cnf) == Ok(true);
+    let mut are_right = cnf.vars() == 1 && cnf.clauses().len() == 2;
     for (chains, accepted) in &TRACES {
         are_right &= is_told(alloc, cnf, chains, *accepted) == Ok(true);
     }
-    are_right && cnf.vars() == 1 && cnf.clauses().len() == 2
+    are_right
 }
 
 /// The same of two clauses that contradict one another.

@@ -1,9 +1,7 @@
 //! Minimal transversals.
 
 use mcs_base::{Marks, Memory};
-use mcs_transversal::{
-    critical, first_critical_edges, minimal_transversals, minimality_is_critical,
-};
+use mcs_transversal::{minimal_transversals, minimality_is_critical};
 use std::alloc::Global;
 
 /// The set of these marks, each below 128.
@@ -57,11 +55,20 @@ static MINIMAL: [Minimal; 6] = [
     (CHOICES, PAIRS),
 ];
 
+/// Whether the sets are those of these marks.
+fn are_sets(found: &[Marks], sets: &[&[u32]]) -> bool {
+    let mut same = found.len() == sets.len();
+    for (set, marks) in found.iter().zip(sets) {
+        same = same && *set == set_of(marks);
+    }
+    same
+}
+
 /// Whether these are the minimal transversals of the edges.
 fn are_minimal(alloc: Global, (edges, sets): Minimal) -> Result<bool, Memory> {
     let edges = sets_of(alloc, edges)?;
     let found = minimal_transversals(alloc, &edges)?;
-    Ok(found.as_slice() == sets_of(alloc, sets)?.as_slice())
+    Ok(are_sets(&found, sets))
 }
 
 #[test]
@@ -70,48 +77,4 @@ fn edges_have_their_minimal_transversals(rt: HostRuntime) {
         assert!(rt; are_minimal(rt.alloc(), *minimal) == Ok(true));
     }
     minimality_is_critical();
-}
-
-/// Edges, a set and a mark, and the first edge that meets the set in the mark alone.
-type Critical = (
-    &'static [&'static [u32]],
-    &'static [u32],
-    u32,
-    Option<usize>,
-);
-
-/// Two edges that share the mark 2.
-const SHARED: &[&[u32]] = &[&[0, 2], &[2, 4]];
-
-static CRITICAL: [Critical; 10] = [
-    (SHARED, &[0, 4], 0, Some(0)),
-    (SHARED, &[0, 4], 2, None),
-    (SHARED, &[0, 4], 4, Some(1)),
-    (SHARED, &[0, 2], 0, None),
-    (SHARED, &[2], 0, None),
-    (SHARED, &[2], 2, Some(0)),
-    (SHARED, &[2], 130, None),
-    // The first of two equal edges.
-    (&[&[0, 2], &[0, 2], &[2, 4]], &[0, 4], 0, Some(0)),
-    (&[], &[0, 2], 0, None),
-    (&[&[0, 2]], &[0, 2], 0, None),
-];
-
-/// Whether this edge is the first that meets the set in the mark alone, as it is told for the mark,
-/// and for all marks at once.
-fn is_critical(alloc: Global, (edges, set, mark, edge): Critical) -> Result<bool, Memory> {
-    let edges = sets_of(alloc, edges)?;
-    let set = set_of(set);
-    let is_first = match first_critical_edges(&edges, set).get(mark as usize) {
-        Some(first) => *first == edge,
-        None => edge.is_none(),
-    };
-    Ok(is_first && critical(&edges, set, mark) == edge)
-}
-
-#[test]
-fn marks_have_their_first_critical_edges(rt: HostRuntime) {
-    for row in &CRITICAL {
-        assert!(rt; is_critical(rt.alloc(), *row) == Ok(true));
-    }
 }

@@ -162,6 +162,36 @@ fn as_many_rules_as_there_may_be_weigh_as_much_as_they_may(rt: HostRuntime) {
     assert!(rt; are_listed(&rt, rt.alloc(), &HEAVY, &HEAVY_LISTING));
 }
 
+/// A context that is told two things that it forbids together, eighteen times. Each of the two can
+/// be removed, and one costs less.
+static MANY: [Rows; 3] = [
+    ("version 2.\ncontext c program { a. }\n", 0, 1),
+    ("context d# program { :- p, q. }\n", 0, 18),
+    (
+        "bridge r#: d#:p if c:a.\nbridge s# weight 2: d#:q if c:a.\n",
+        0,
+        18,
+    ),
+];
+
+/// Of 262,144 minimal diagnoses one is cheapest.
+static MANY_LISTING: [Rows; 5] = [
+    (
+        "mcs 1: 19 contexts, 36 rules, 1 variables\ninconsistent\ncheapest 1: {-r0",
+        0,
+        1,
+    ),
+    (", -r#", 1, 18),
+    ("} cost 18 state {c:a} active {s0", 0, 1),
+    (", s#", 1, 18),
+    ("}\nend: 1 cheapest, cost 18, need 73\n", 0, 1),
+];
+
+#[test]
+fn one_of_many_diagnoses_is_cheapest(rt: HostRuntime) {
+    assert!(rt; are_listed(&rt, rt.alloc(), &MANY, &MANY_LISTING));
+}
+
 /// Whether the words end so over the system of `TOLD` and this report.
 fn reported<R: Threads + Wait + Sync>(
     rt: &R,

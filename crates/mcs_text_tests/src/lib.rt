@@ -14,6 +14,8 @@ mod limits;
 #[cfg(test)]
 mod names;
 #[cfg(test)]
+mod rules;
+#[cfg(test)]
 mod same;
 #[cfg(test)]
 mod systems;
