@@ -2,7 +2,7 @@
 use Rattle.std.proofs.Common.{◌≡◌, false, List, [], ◌∷◌, ◌++◌, sym, ap, ◌∙◌}
 use Rattle.mcs_syntax.specs.Reads.{Begins}
 use Rattle.mcs_grammar.specs.Written.{WrittenText, IsText}
-use Rattle.mcs_grammar.specs.Entries.{Token, Entry, text_entries, tokens_of}
+use Rattle.mcs_grammar.specs.Entries.{Token, text_entries, tokens_of}
 use Rattle.mcs_productions.specs.Productions.{grammar}
 use Rattle.mcs_productions.specs.Terminals.{terminal_of, number}
 use Rattle.mcs_productions.specs.declared.production.Production.TheVariants as name
@@ -12,10 +12,9 @@ use Rattle.mcs_account.specs.Account.{Course, entries_in}
 use Rattle.mcs_account.specs.Reading.{AreRead}
 use Rattle.mcs_account.proofs.Forward.{Part, Of, text-of}
 use Rattle.mcs_account.proofs.ContextCourses.{text-follows}
-use Rattle.mcs_account.proofs.Tokens.{text-tokens, text-filled, followed-tokens}
+use Rattle.mcs_account.proofs.Tokens.{text-tokens, text-filled}
 use Rattle.mcs_tokens.specs.declared.kind.TokenKind.{TokenKind}
 use Rattle.mcs_tokens.specs.Kinds.{IsKind}
-use Rattle.mcs_account.specs.Account.{first_course}
 use Rattle.mcs_account.proofs.ReadEnds.{text-passed, ends_late}
 use Rattle.mcs_account.proofs.Fronts.{IsStart, ValueOn, value-on, some-value, goes-after, none-late, entries-kept, next-kind, Keeps}
 pub use Rattle.mcs_account.proofs.Fronts.{same-kinds, same-marks, tokens-of-both, Sample, same-tail, entries-tokens}

@@ -1,5 +1,5 @@
 -- The first tokens of a bridge rule by itself, and the faults of the token after them.
-use Rattle.std.proofs.Common.{◌≡◌, ℕ, suc, ◌+◌, ◌≤◌, true, false, List, [], ◌∷◌, ◌++◌, map, codes, take, drop, length, Some, refl, sym, ap, subst, ◌∙◌, arith, append_assoc, append-nil, length-append}
+use Rattle.std.proofs.Common.{◌≡◌, ℕ, suc, ◌+◌, ◌≤◌, true, false, List, [], ◌∷◌, ◌++◌, codes, take, drop, length, Some, refl, sym, ap, subst, ◌∙◌, arith, append_assoc, append-nil, length-append}
 use Rattle.std.specs.Prelude.{slice_get}
 use Rattle.std.proofs.lemmas.List.{map-append, take-append-drop, nil_from_length}
 use Rattle.std.proofs.lemmas.Option.{same_Some}
@@ -13,7 +13,6 @@ use Rattle.mcs_syntax.specs.Reads.{IsRead, Begins, HasRead, Goes}
 use Rattle.mcs_syntax.specs.Prompt.{are_prompt}
 use Rattle.mcs_syntax.specs.Parts.{rest}
 use Rattle.mcs_system.specs.Plain.{Name}
-use Rattle.mcs_system.specs.Plain as plain
 use Rattle.mcs_tokens.specs.declared.kind.TokenKind.{TokenKind}
 use Rattle.mcs_tokens.specs.Kinds.{IsKind}
 use Rattle.mcs_grammar.specs.Written.{True', WrittenBridge, IsWrittenBridge, no_marks}
@@ -31,7 +30,7 @@ use Rattle.mcs_productions.specs.declared.production.Production.{Production}
 use Rattle.mcs_productions.specs.declared.production.Production.TheVariants as name
 use Rattle.mcs_account.specs.Mark.{Seen, Said, events_of, tokens_in}
 use Rattle.mcs_account.specs.Marks.{Marked, marks_for, bridge_marks}
-use Rattle.mcs_account.specs.Account.{Account, Course, bare_context, account_in, accounted, told, took, first_course, entries_in}
+use Rattle.mcs_account.specs.Account.{Account, Course, account_in, accounted, told, took, entries_in}
 use Rattle.mcs_account.specs.Reading.{Events, AreReadFrom}
 use Rattle.mcs_account.specs.Turns.{Turn}
 use Rattle.mcs_account.proofs.Values.{Value}
@@ -44,7 +43,7 @@ use Rattle.mcs_account.proofs.Accounts.{accounted-append, names_in, bridge-accou
 use Rattle.mcs_account.proofs.Numbers.{introduced, took-names, ended-names}
 use Rattle.mcs_account.proofs.FaultTheory.{none-for, events-for}
 use Rattle.mcs_account.proofs.ReaderSteps.{reader-stops}
-use Rattle.mcs_account.proofs.Fronts.{IsStart, some-value, value-on, goes-after, entries-kept, next-kind, tokens-of-both, same-tail, entries-tokens, Keeps}
+use Rattle.mcs_account.proofs.Fronts.{IsStart, some-value, value-on, goes-after, entries-kept, next-kind, tokens-of-both, same-tail, entries-tokens}
 
 pub rule-start : IsStart name.MarkedBridge
 rule-start = record { of = λ v. marked-of v.0 v.1; filled = λ v. bridge-filled v.0 v.1; passed = λ v. ap (λ (s : Turn). s.phase) (bridge-passed false v.0 v.1) }

@@ -3,7 +3,6 @@
 use mcs_trace::{ClassicalCert, DefaultCert, ProgramCert};
 
 /// A certificate of the views that a context accepts, by the kind of the context.
-#[derive(Drop)]
 pub enum AnswerCert {
     /// For each belief, that it follows or that it does not.
     Classical(ClassicalCert),
@@ -11,4 +10,14 @@ pub enum AnswerCert {
     Default(DefaultCert),
     /// A model for each view, and a trace that there is no other view.
     Program(ProgramCert),
+}
+
+impl Drop for AnswerCert {
+    fn drop(self) {
+        match self {
+            AnswerCert::Classical(_) => {}
+            AnswerCert::Default(_) => {}
+            AnswerCert::Program(_) => {}
+        }
+    }
 }

@@ -12,9 +12,15 @@ use std::marker::Model;
 
 /// The minimal ones of the sets that were inserted, each once. The model is the list of them, and
 /// the number of sets for which there is room without more memory.
-#[derive(Debug, Drop)]
+#[derive(Debug)]
 pub struct Antichain {
     sets: Vec<Marks>,
+}
+
+impl Drop for Antichain {
+    fn drop(self) {
+        let Antichain { sets: _ } = self;
+    }
 }
 
 impl Model for Antichain {

@@ -9,10 +9,16 @@ use std::marker::Model;
 
 /// Rows of plain values, one after the other in one store. A row is read by its index; rows are
 /// removed from the end. The model is the list of the rows.
-#[derive(Debug, Drop)]
+#[derive(Debug)]
 pub struct Rows<T> {
     items: Vec<T>,
     ends: Vec<usize>,
+}
+
+impl<T: Drop> Drop for Rows<T> {
+    fn drop(self) {
+        let Rows { items: _, ends: _ } = self;
+    }
 }
 
 impl<T> Model for Rows<T> {

@@ -8,9 +8,15 @@ use std::alloc::Global;
 use std::marker::Model;
 
 /// A growing text of bytes. It keeps the allocator with which it was made.
-#[derive(Debug, Drop)]
+#[derive(Debug)]
 pub struct Text {
     bytes: Vec<u8>,
+}
+
+impl Drop for Text {
+    fn drop(self) {
+        let Text { bytes: _ } = self;
+    }
 }
 
 impl Model for Text {

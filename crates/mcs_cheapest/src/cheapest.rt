@@ -3,7 +3,7 @@
 use mcs_diagnosis::Diagnosis;
 
 /// The cheapest diagnoses of a system.
-#[derive(Debug, Drop)]
+#[derive(Debug)]
 pub struct Cheapest {
     /// The diagnoses that cost no more than any other, in the order of pairs.
     pub found: Vec<Diagnosis>,
@@ -11,4 +11,14 @@ pub struct Cheapest {
     pub cost: Option<u64>,
     /// The number of questions of the last level that was taken.
     pub need: u64,
+}
+
+impl Drop for Cheapest {
+    fn drop(self) {
+        let Cheapest {
+            found: _,
+            cost: _,
+            need: _,
+        } = self;
+    }
 }

@@ -17,12 +17,22 @@ use std::sync::Arc;
 
 /// Answers what one context of a system accepts, from a list of answers with accepted certificates.
 /// It misses the questions that are not in the list. It runs no solver.
-#[derive(Drop)]
 pub struct CertifiedOracle {
     system: Arc<System>,
     context: u32,
     answers: Vec<(Active, Vec<Vars>)>,
     journal: Vec<Active>,
+}
+
+impl Drop for CertifiedOracle {
+    fn drop(self) {
+        let CertifiedOracle {
+            system: _,
+            context: _,
+            answers: _,
+            journal: _,
+        } = self;
+    }
 }
 
 impl Model for CertifiedOracle {

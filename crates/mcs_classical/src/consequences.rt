@@ -37,10 +37,15 @@ struct Told {
 
 /// What was found to follow from formulas with sets of assumptions, among a list of goals. It is
 /// right for the formulas, assumptions and goals with which the calls were made.
-#[derive(Drop)]
 pub struct Consequences {
     lower: Vec<Lower>,
     upper: Vec<Upper>,
+}
+
+impl Drop for Consequences {
+    fn drop(self) {
+        let Consequences { lower: _, upper: _ } = self;
+    }
 }
 
 /// The numbers of the assumptions.

@@ -9,10 +9,15 @@ use std::alloc::Global;
 /// What is to be seen of a round: its wires, one for each group, in order, and the word that totals
 /// were drawn from. There is nothing to be seen if fewer than two workers were used, or after want
 /// of memory.
-#[derive(Drop)]
 pub struct Trail {
     pub wires: Vec<Settled>,
     pub word: Option<Closed>,
+}
+
+impl Drop for Trail {
+    fn drop(self) {
+        let Trail { wires: _, word: _ } = self;
+    }
 }
 
 impl Trail {

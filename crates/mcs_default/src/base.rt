@@ -29,12 +29,22 @@ use std::alloc::Global;
 
 /// A default theory that is asked for its extensions with one set of assumptions after the other:
 /// the clauses of its facts, ready for searches, and what was found with these sets.
-#[derive(Drop)]
 pub struct TheoryBase {
     findings: Findings,
     lower: Vec<KeptLower>,
     upper: Vec<KeptUpper>,
     conflicts: Vec<KeptConflict>,
+}
+
+impl Drop for TheoryBase {
+    fn drop(self) {
+        let TheoryBase {
+            findings: _,
+            lower: _,
+            upper: _,
+            conflicts: _,
+        } = self;
+    }
 }
 
 /// How much is selected of what is kept.

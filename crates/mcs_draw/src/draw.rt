@@ -16,9 +16,14 @@ use std::marker::{Brand, Model};
 /// An atomic counter from which several threads draw through one reference, each by a seat of its
 /// own. It begins at `base`, and all seats together draw at most `room`. Every seat that is passed
 /// to a call has to be one of this word.
-#[derive(Drop)]
 pub struct Draw {
     table: Table<(), View, Terms, Budget, Global>,
+}
+
+impl Drop for Draw {
+    fn drop(self) {
+        let Draw { table: _ } = self;
+    }
 }
 
 impl Model for Draw {

@@ -12,9 +12,14 @@ pub(crate) const BLOCK: usize = 512;
 
 /// Values by indices. They are in blocks of neighbouring indices. A block without a value takes no
 /// memory.
-#[derive(Drop)]
 pub struct Blocks<T: Copy> {
     pub blocks: Vec<Vec<T>>,
+}
+
+impl<T: Copy> Drop for Blocks<T> {
+    fn drop(self) {
+        let Blocks { blocks: _ } = self;
+    }
 }
 
 /// Appends empty rows, until there is one with this number.

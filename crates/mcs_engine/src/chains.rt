@@ -11,11 +11,20 @@ use std::marker::Model;
 
 /// For each clause its chain, which is empty if the clause was given. Only the chains of learnt
 /// clauses are stored, each with the index of its clause. The model is the list of all chains.
-#[derive(Drop)]
 pub struct Chains {
     count: usize,
     learnt: Vec<usize>,
     rows: Rows<u64>,
+}
+
+impl Drop for Chains {
+    fn drop(self) {
+        let Chains {
+            count: _,
+            learnt: _,
+            rows: _,
+        } = self;
+    }
 }
 
 impl Model for Chains {

@@ -13,9 +13,14 @@ use std::alloc::Global;
 /// For each place of a literal a list of indices. The lists are in blocks of neighbouring places. A
 /// block reaches as far as the last place to whose list an index was added; a block without an
 /// index takes no memory.
-#[derive(Drop)]
 pub struct Lists {
     blocks: Vec<Vec<Vec<usize>>>,
+}
+
+impl Drop for Lists {
+    fn drop(self) {
+        let Lists { blocks: _ } = self;
+    }
 }
 
 /// Appends the index. The first allocation has room for two: two clauses watch most literals of the

@@ -11,10 +11,15 @@ use std::marker::Model;
 
 /// For each clause the pair of literals that it watches. A clause that watches nothing has a pair
 /// of no literals; it takes no memory before the first clause that watches something.
-#[derive(Drop)]
 pub struct Pairs {
     none: usize,
     rest: Vec<Pair>,
+}
+
+impl Drop for Pairs {
+    fn drop(self) {
+        let Pairs { none: _, rest: _ } = self;
+    }
 }
 
 impl Model for Pairs {

@@ -49,7 +49,6 @@ pub const NOTHING: Kept = Kept {
 /// of true literals; the watched literals; and the reach of each level above 0. It also has for how
 /// many true literals the clauses were visited, how many short clauses were settled, and what is
 /// kept of this for when clauses are removed.
-#[derive(Drop)]
 pub struct State {
     pub clauses: Rows<i64>,
     pub chains: Chains,
@@ -59,6 +58,21 @@ pub struct State {
     pub visited: usize,
     pub settled: usize,
     pub kept: Kept,
+}
+
+impl Drop for State {
+    fn drop(self) {
+        let State {
+            clauses: _,
+            chains: _,
+            trail: _,
+            watches: _,
+            levels: _,
+            visited: _,
+            settled: _,
+            kept: _,
+        } = self;
+    }
 }
 
 impl State {

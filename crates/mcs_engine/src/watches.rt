@@ -42,11 +42,20 @@ impl Pair {
 /// For each of the first clauses, by its index, the two literals that it watches. For each literal,
 /// by its place, the indices of clauses, among them those that watch it. Also the indices of
 /// clauses, among them those of fewer than two literals.
-#[derive(Drop)]
 pub struct Watches {
     pub pairs: Pairs,
     pub lists: Lists,
     pub short: Vec<usize>,
+}
+
+impl Drop for Watches {
+    fn drop(self) {
+        let Watches {
+            pairs: _,
+            lists: _,
+            short: _,
+        } = self;
+    }
 }
 
 impl Watches {

@@ -1,5 +1,5 @@
 -- Which of the faults that are told of what is read by itself a token has.
-use Rattle.std.proofs.Common.{◌≡◌, ℕ, ◌<◌, ◌≤◌, true, List, [], ◌∷◌, map, length, refl, sym, subst, inl, inr, ◌⊎◌, ◌↔◌, arith}
+use Rattle.std.proofs.Common.{◌≡◌, ℕ, ◌<◌, ◌≤◌, List, [], ◌∷◌, map, length, refl, sym, subst, inl, inr, ◌⊎◌, ◌↔◌, arith}
 use Rattle.std.specs.Prelude.{IsTrue}
 use Rattle.mcs_base.specs.Listings.{IsAmong}
 use Rattle.mcs_base.specs.Numbers.{value_of_digits}

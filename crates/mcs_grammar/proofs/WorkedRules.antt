@@ -1,14 +1,13 @@
 -- The worked rules that are read by themselves are as they are told.
-use Rattle.std.proofs.Common.{◌≡◌, ℕ, Bool, true, false, List, [], ◌∷◌, ◌++◌, codes, length, take, Option, Some, None, refl, sym, ap, ◌∙◌, subst, inl, inr, true≢false, lit<, arith, append_assoc}
+use Rattle.std.proofs.Common.{◌≡◌, ℕ, false, List, [], ◌∷◌, ◌++◌, codes, Option, Some, None, refl, sym, ap, ◌∙◌, subst, inl, inr, true≢false, lit<, arith, append_assoc}
 use Rattle.std.specs.Prelude.{slice_index}
 use Rattle.std.proofs.lemmas.Bool.{eqb-false}
 use Rattle.std.proofs.lemmas.List.{map-append}
 use Rattle.mcs_base.specs.Words.{reserved_words}
 use Rattle.mcs_base.specs.Listings.{IsAmong}
-use Rattle.mcs_system.specs.declared.limit.Limit.TheVariants.{Weight}
-use Rattle.mcs_grammar.specs.Written.{WrittenMarks, WrittenBridge, IsWrittenBridge, IsPlace, no_marks}
+use Rattle.mcs_grammar.specs.Written.{WrittenBridge, IsWrittenBridge, IsPlace, no_marks}
 use Rattle.mcs_grammar.specs.Entries.{Token, Use, NamesContext, NamesTarget, Weighs, Entry, entry, mark_entries, place_entries, reads_entries, bridge_entries, tokens_of}
-use Rattle.mcs_grammar.specs.Faults.{TextFault, NoGrammar, NoContext, Twin, NoAtom, Exceeds}
+use Rattle.mcs_grammar.specs.Faults.{TextFault, NoGrammar}
 use Rattle.mcs_grammar.specs.Alone.{is_told, contexts_said, Begins, IsWhole, IsRuleFaultNext}
 use Rattle.mcs_grammar.specs.Examples.{tokens_apart, place, fact, of_weight, lone_rule}
 use Rattle.mcs_grammar.specs.Laws.{LoneRuleIsRead, LoneRuleFaults}

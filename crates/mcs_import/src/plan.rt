@@ -15,11 +15,20 @@ use std::sync::Arc;
 
 /// The import order of a system, and for each context what supplies it and what it guesses. The
 /// model of a plan is its system, so two plans are equal if their systems are.
-#[derive(Drop)]
 pub struct Plan {
     system: Arc<System>,
     order: Vec<u32>,
     shares: Vec<Share>,
+}
+
+impl Drop for Plan {
+    fn drop(self) {
+        let Plan {
+            system: _,
+            order: _,
+            shares: _,
+        } = self;
+    }
 }
 
 impl Model for Plan {

@@ -11,10 +11,18 @@ use std::alloc::Global;
 use std::collections::BTreeMap;
 
 /// An answer to a question, with its certificate.
-#[derive(Drop)]
 pub struct Kept {
     pub outputs: Vec<Vars>,
     pub cert: AnswerCert,
+}
+
+impl Drop for Kept {
+    fn drop(self) {
+        let Kept {
+            outputs: _,
+            cert: _,
+        } = self;
+    }
 }
 
 /// Keeps the answer to the question, if it has a certificate, in place of an earlier one. If memory

@@ -15,21 +15,20 @@ use Rattle.mcs_system.specs.Plain as plain
 use Rattle.mcs_system.specs.Seen.{bridge_of, context_of}
 use Rattle.mcs_system.specs.declared.knowledge.Context as code_context
 use Rattle.mcs_syntax.specs.Prompt.{are_prompt}
-use Rattle.mcs_system.specs.declared.bridge.Bridge as code_bridge
 use Rattle.mcs_system.specs.declared.limit.Limit.TheVariants.{Weight}
 use Rattle.mcs_productions.specs.Productions.{rules, grammar}
 use Rattle.mcs_productions.specs.declared.class.Class.{Class}
 use Rattle.mcs_productions.specs.declared.production.Action.{Action}
 use Rattle.mcs_productions.specs.declared.production.Production.{Production}
 use Rattle.mcs_productions.specs.declared.production.Production.TheVariants as name
-use Rattle.mcs_grammar.specs.Written.{WrittenPlace, WrittenRead, WrittenBridge, IsWrittenBridge}
-use Rattle.mcs_grammar.specs.Entries.{Token, NamesTarget, NamesSource, Weighs, Entry, entry, optional, weight_entries, mark_entries, place_entries, read_entries, further_read, reads_entries, bridge_entries, tokens_of}
+use Rattle.mcs_grammar.specs.Written.{WrittenPlace, WrittenRead, WrittenBridge}
+use Rattle.mcs_grammar.specs.Entries.{Token, NamesTarget, NamesSource, Weighs, Entry, entry, optional, weight_entries, mark_entries, place_entries, read_entries, further_read, reads_entries, bridge_entries}
 use Rattle.mcs_grammar.specs.Saying.{weight_said, SaysBridge, positive_places, negative_places}
 use Rattle.mcs_grammar.specs.Faults.{TextFault, NoContext, Exceeds, Has}
 use Rattle.mcs_grammar.specs.Alone.{is_told, contexts_said}
 use Rattle.mcs_account.specs.declared.reader.TextReader.{TextReader}
 use Rattle.mcs_account.specs.Marks.{Marked, marks_for, bridge_marks}
-use Rattle.mcs_account.specs.Account.{Account, greatest_number, bare_context, account_in, accounted, entries_in}
+use Rattle.mcs_account.specs.Account.{Account, greatest_number, bare_context, account_in, accounted}
 use Rattle.mcs_account.specs.Images.{account_of}
 use Rattle.mcs_account.specs.Taken.{context_names, IsRuleReaderAt}
 use Rattle.mcs_account.proofs.Accounts.{accounted-append, bridge_said, names_in, bridge-accounts, bridge-says}

@@ -6,7 +6,6 @@ use Rattle.std.proofs.Math.Nat.{eq-or-lt_of_le}
 use Rattle.std.proofs.lemmas.Option.{slice_get_within}
 use Rattle.std.proofs.lemmas.List.{take-append-le, length-map}
 use Rattle.mcs_base.specs.Listings.{IsAmong}
-use Rattle.mcs_base.specs.Words.{most_name_bytes}
 use Rattle.mcs_base.proofs.Among.{among_right, among_either}
 use Rattle.mcs_base.proofs.Lists.{slice_get_seam, slice_get-append_left}
 use Rattle.mcs_syntax.specs.Reads.{Begins}
@@ -23,12 +22,11 @@ use Rattle.mcs_productions.specs.declared.class.Class.{Class}
 use Rattle.mcs_productions.specs.declared.class.Class.TheVariants as class
 use Rattle.mcs_productions.specs.declared.production.Production.TheVariants as name
 use Rattle.mcs_grammar.specs.Written.{IsWrittenBridge}
-use Rattle.mcs_grammar.specs.Entries.{Token, Use, NamesTarget, NamesSource, OpensWithin, EndsRead, Entry, bridge_entries}
+use Rattle.mcs_grammar.specs.Entries.{Token, Use, NamesTarget, NamesSource, EndsRead, Entry, bridge_entries}
 use Rattle.mcs_grammar.specs.Faults.{TextFault, NoGrammar, NoContext, Exceeds, rank, Has}
-use Rattle.mcs_grammar.specs.Alone.{is_told, contexts_said, AreFree, IsEnteredNext, IsFaultNext, IsRuleFaultNext}
+use Rattle.mcs_grammar.specs.Alone.{is_told, contexts_said, AreFree, IsEnteredNext, IsRuleFaultNext}
 use Rattle.mcs_account.specs.declared.reader.TextReader.{TextReader}
 use Rattle.mcs_account.specs.declared.reader.Taken as code_taken
-use Rattle.mcs_account.specs.declared.place.Role.TheVariants as roles
 use Rattle.mcs_account.specs.Marks.{Marked, marks_for}
 use Rattle.mcs_account.specs.Account.{Account, Place, place_after, when, uses_with, account_in, accounted, followed, first_course, entries_in}
 use Rattle.mcs_account.specs.Images.{About, IsPlace, about_place, account_of, capped, uses_in, context_chosen}

@@ -39,7 +39,6 @@ use std::sync::Arc;
 /// One context of a system in a round of questions. It has letters from the contexts that supply
 /// it, asks its oracle the questions of the level once it is granted to, and puts out letters to
 /// the contexts that it supplies.
-#[derive(Drop)]
 pub struct Node<O: Oracle> {
     plan: Arc<Plan>,
     context: u32,
@@ -52,6 +51,21 @@ pub struct Node<O: Oracle> {
     // The greatest level at which the node was done before the round.
     before: Option<u32>,
     round: Option<InRound>,
+}
+
+impl<O: Oracle + Drop> Drop for Node<O> {
+    fn drop(self) {
+        let Node {
+            plan: _,
+            context: _,
+            budget: _,
+            oracle: _,
+            receivers: _,
+            known: _,
+            before: _,
+            round: _,
+        } = self;
+    }
 }
 
 impl<O: Oracle> Model for Node<O> {
@@ -305,7 +319,16 @@ impl<O: Oracle> Node<O> {
     pub fn take_oracle(self) -> O
         ensures { O.stands result ≡ self.oracle }
     {
-        let Node { oracle, .. } = self;
+        let Node {
+            plan: _,
+            context: _,
+            budget: _,
+            oracle,
+            receivers: _,
+            known: _,
+            before: _,
+            round: _,
+        } = self;
         match oracle {
             Some(oracle) => oracle,
             None => unreachable!(),

@@ -26,10 +26,18 @@ pub struct PlacedRule {
 }
 
 /// The rules of a program, and the places of the beliefs whose views are asked for.
-#[derive(Drop)]
 pub struct Placing {
     pub rules: Vec<PlacedRule>,
     pub beliefs: Vec<u32>,
+}
+
+impl Drop for Placing {
+    fn drop(self) {
+        let Placing {
+            rules: _,
+            beliefs: _,
+        } = self;
+    }
 }
 
 /// Whether the first set lies within the second.

@@ -25,13 +25,24 @@ use std::alloc::Global;
 
 /// An answer of a report: the number of its first line (counted from 1), the question, the states
 /// that are output, and the certificate.
-#[derive(Drop)]
 pub struct ReportAnswer {
     pub line: u64,
     pub context: u32,
     pub active: Active,
     pub outputs: Vec<Vars>,
     pub cert: AnswerCert,
+}
+
+impl Drop for ReportAnswer {
+    fn drop(self) {
+        let ReportAnswer {
+            line: _,
+            context: _,
+            active: _,
+            outputs: _,
+            cert: _,
+        } = self;
+    }
 }
 
 /// The states that are output, and the certificate.

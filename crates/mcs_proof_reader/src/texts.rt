@@ -14,11 +14,20 @@ use std::alloc::Global;
 
 /// The texts that lines of a report on a system may contain: its variables, the names of its rules,
 /// and the numbers of defaults.
-#[derive(Drop)]
 pub struct Texts {
     pub(crate) variables: Vec<Text>,
     pub(crate) rules: Vec<Text>,
     pub(crate) numbers: Vec<Text>,
+}
+
+impl Drop for Texts {
+    fn drop(self) {
+        let Texts {
+            variables: _,
+            rules: _,
+            numbers: _,
+        } = self;
+    }
 }
 
 /// The variables, as they are printed.

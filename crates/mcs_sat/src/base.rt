@@ -22,11 +22,20 @@ use std::marker::Model;
 /// searches. Between two searches clauses may be added and removed. From one search to the next it
 /// keeps what was learnt from clauses that stay, the literals that are true at level 0, and the
 /// order of the variables with their last values.
-#[derive(Drop)]
 pub struct ClauseBase {
     state: State,
     order: Order,
     vars: u64,
+}
+
+impl Drop for ClauseBase {
+    fn drop(self) {
+        let ClauseBase {
+            state: _,
+            order: _,
+            vars: _,
+        } = self;
+    }
 }
 
 impl Model for ClauseBase {

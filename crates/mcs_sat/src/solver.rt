@@ -28,9 +28,14 @@ use std::marker::Model;
 /// The literals of a level are in the order in which they became true. No variable occurs in two of
 /// them. Each literal that is not a decision is in a clause whose other literals were false before
 /// it.
-#[derive(Drop)]
 pub struct Solver {
     state: State,
+}
+
+impl Drop for Solver {
+    fn drop(self) {
+        let Solver { state: _ } = self;
+    }
 }
 
 impl Model for Solver {

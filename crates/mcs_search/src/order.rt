@@ -52,7 +52,6 @@ fn free_literal(trail: &Trail, variable: usize, value: bool) -> Option<i64>
 /// Variables whose numbers take more than four bytes are missing. The conflicts since the last
 /// restart are counted, up to the limit of the next one. Those of the whole search are counted too,
 /// with the rounds in which clauses were set aside.
-#[derive(Drop)]
 pub struct Order {
     heap: Vec<u32>,
     places: Blocks<Option<u32>>,
@@ -64,6 +63,23 @@ pub struct Order {
     limit: u64,
     total: u64,
     rounds: usize,
+}
+
+impl Drop for Order {
+    fn drop(self) {
+        let Order {
+            heap: _,
+            places: _,
+            activities: _,
+            values: _,
+            seen: _,
+            gain: _,
+            conflicts: _,
+            limit: _,
+            total: _,
+            rounds: _,
+        } = self;
+    }
 }
 
 impl Order {

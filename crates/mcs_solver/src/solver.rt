@@ -30,7 +30,6 @@ use std::sync::Arc;
 /// theory the clauses of its facts and what it found. A fork of it begins with what an earlier fork
 /// had found, if there is one that was absorbed and whose findings no other fork has. Of a context
 /// that no rule goes into it keeps nothing: there is one question to it.
-#[derive(Drop)]
 pub struct LocalSolver {
     system: Arc<System>,
     context: u32,
@@ -40,6 +39,20 @@ pub struct LocalSolver {
     kept: BTreeMap<Active, Kept>,
     // What forks that were absorbed have found, for the forks to come.
     spare: Vec<Known>,
+}
+
+impl Drop for LocalSolver {
+    fn drop(self) {
+        let LocalSolver {
+            system: _,
+            context: _,
+            known: _,
+            journal: _,
+            keep: _,
+            kept: _,
+            spare: _,
+        } = self;
+    }
 }
 
 impl Model for LocalSolver {
@@ -156,11 +169,12 @@ impl Fork for LocalSolver {
     fn absorb(&mut self, _alloc: Global, other: LocalSolver) -> Result<(), Memory> {
         let LocalSolver {
             system,
+            context: _,
             known,
             journal,
+            keep: _,
             kept,
             spare,
-            ..
         } = other;
         drop(system);
         drop(mem::replace(&mut self.spare, with_known(spare, known)));

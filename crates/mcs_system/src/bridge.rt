@@ -11,11 +11,20 @@ use mcs_base::Memory;
 use std::alloc::Global;
 
 /// A belief of a context, as a bridge rule reads it.
-#[derive(PartialEq, Drop)]
+#[derive(PartialEq)]
 pub struct Read {
     /// The index of the context in the list of contexts.
     pub context: u32,
     pub belief: Formula,
+}
+
+impl Drop for Read {
+    fn drop(self) {
+        let Read {
+            context: _,
+            belief: _,
+        } = self;
+    }
 }
 
 impl Read {
@@ -43,7 +52,7 @@ impl Copied for Read {
 /// A bridge rule: it adds its head to the target if each positive read is believed and no negative
 /// one is. A repair may not remove a rule that is `keep`, and may not force one that is `closed`.
 /// The weight is the cost of removing or forcing the rule; it does not affect repairs yet.
-#[derive(PartialEq, Drop)]
+#[derive(PartialEq)]
 pub struct Bridge {
     pub name: Name,
     /// The index of the context into which the rule goes.
@@ -56,6 +65,21 @@ pub struct Bridge {
     pub keep: bool,
     pub closed: bool,
     pub weight: u32,
+}
+
+impl Drop for Bridge {
+    fn drop(self) {
+        let Bridge {
+            name: _,
+            target: _,
+            head: _,
+            pos: _,
+            neg: _,
+            keep: _,
+            closed: _,
+            weight: _,
+        } = self;
+    }
 }
 
 impl Bridge {

@@ -16,7 +16,6 @@ use mcs_base::Memory;
 use std::alloc::Global;
 
 /// A propositional formula. Its atoms are names.
-#[derive(Drop)]
 pub enum Formula {
     True,
     False,
@@ -26,6 +25,21 @@ pub enum Formula {
     Or(Box<Formula>, Box<Formula>),
     Implies(Box<Formula>, Box<Formula>),
     Iff(Box<Formula>, Box<Formula>),
+}
+
+impl Drop for Formula {
+    fn drop(self) {
+        match self {
+            Formula::True => {}
+            Formula::False => {}
+            Formula::Atom(_) => {}
+            Formula::Not(_) => {}
+            Formula::And(_, _) => {}
+            Formula::Or(_, _) => {}
+            Formula::Implies(_, _) => {}
+            Formula::Iff(_, _) => {}
+        }
+    }
 }
 
 impl PartialEq for Formula {

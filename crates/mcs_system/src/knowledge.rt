@@ -13,11 +13,21 @@ use std::alloc::Global;
 
 /// A default (Reiter 1980): if the prerequisite is believed and the negation of no justification
 /// is, the consequent is believed.
-#[derive(PartialEq, Drop)]
+#[derive(PartialEq)]
 pub struct Default {
     pub pre: Formula,
     pub justs: Vec<Formula>,
     pub conclusion: Formula,
+}
+
+impl Drop for Default {
+    fn drop(self) {
+        let Default {
+            pre: _,
+            justs: _,
+            conclusion: _,
+        } = self;
+    }
 }
 
 impl Default {
@@ -43,11 +53,21 @@ impl Default {
 
 /// A rule of a disjunctive program: if all positive body atoms hold and no negative one does, one
 /// of the head atoms holds.
-#[derive(PartialEq, Drop)]
+#[derive(PartialEq)]
 pub struct ProgRule {
     pub head: Vec<Name>,
     pub pos: Vec<Name>,
     pub neg: Vec<Name>,
+}
+
+impl Drop for ProgRule {
+    fn drop(self) {
+        let ProgRule {
+            head: _,
+            pos: _,
+            neg: _,
+        } = self;
+    }
 }
 
 impl ProgRule {
@@ -74,10 +94,19 @@ impl Copied for ProgRule {
 }
 
 /// An item of a default theory.
-#[derive(PartialEq, Drop)]
+#[derive(PartialEq)]
 pub enum TheoryItem {
     Fact(Formula),
     Rule(Default),
+}
+
+impl Drop for TheoryItem {
+    fn drop(self) {
+        match self {
+            TheoryItem::Fact(_) => {}
+            TheoryItem::Rule(_) => {}
+        }
+    }
 }
 
 impl TheoryItem {
@@ -103,11 +132,21 @@ impl Copied for TheoryItem {
 }
 
 /// A knowledge base of one of the three logics.
-#[derive(PartialEq, Drop)]
+#[derive(PartialEq)]
 pub enum Kb {
     Classical(Vec<Formula>),
     DefaultTheory(Vec<TheoryItem>),
     Program(Vec<ProgRule>),
+}
+
+impl Drop for Kb {
+    fn drop(self) {
+        match self {
+            Kb::Classical(_) => {}
+            Kb::DefaultTheory(_) => {}
+            Kb::Program(_) => {}
+        }
+    }
 }
 
 impl Kb {
@@ -135,10 +174,16 @@ impl Kb {
 }
 
 /// A context: a name and a knowledge base.
-#[derive(PartialEq, Drop)]
+#[derive(PartialEq)]
 pub struct Context {
     pub name: Name,
     pub kb: Kb,
+}
+
+impl Drop for Context {
+    fn drop(self) {
+        let Context { name: _, kb: _ } = self;
+    }
 }
 
 impl Context {

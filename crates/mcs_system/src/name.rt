@@ -13,9 +13,14 @@ use std::marker::Model;
 
 /// A name: a letter or `_`, then letters, digits and `_`. It has at most 64 bytes and is no
 /// reserved word.
-#[derive(Drop)]
 pub struct Name {
     bytes: Vec<u8>,
+}
+
+impl Drop for Name {
+    fn drop(self) {
+        let Name { bytes: _ } = self;
+    }
 }
 
 impl Model for Name {

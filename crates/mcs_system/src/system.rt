@@ -35,11 +35,20 @@ fn with_unless(marks: Marks, mark: u32, barred: bool) -> Marks
 
 /// A multi-context system (Brewka & Eiter 2007): contexts and bridge rules that have none of the
 /// faults.
-#[derive(Drop)]
 pub struct System {
     contexts: Vec<Context>,
     bridges: Vec<Bridge>,
     kept: Kept,
+}
+
+impl Drop for System {
+    fn drop(self) {
+        let System {
+            contexts: _,
+            bridges: _,
+            kept: _,
+        } = self;
+    }
 }
 
 impl Model for System {

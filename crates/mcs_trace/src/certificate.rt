@@ -5,10 +5,18 @@ use crate::trace::Trace;
 /// Whether a formula follows from others, and what shows it. `Yes` has a trace that refutes these
 /// with its negation. `No` has an assignment under which these hold and it does not, as the set of
 /// the true atoms. In the set, bit i is atom i+1.
-#[derive(Drop)]
 pub enum Entail {
     Yes(Trace),
     No(u64),
+}
+
+impl Drop for Entail {
+    fn drop(self) {
+        match self {
+            Entail::Yes(_) => {}
+            Entail::No(_) => {}
+        }
+    }
 }
 
 /// For each belief of a classical context whether it follows, and what shows it.
@@ -19,7 +27,6 @@ pub struct ClassicalCert {
 
 /// Why a default does not apply to the beliefs that a set of defaults generates. Defaults and
 /// justifications are numbered from 1.
-#[derive(Drop)]
 pub enum Outside {
     /// The prerequisite of the default with this number does not follow: a `No`.
     Unsupported(u32, Entail),
@@ -28,8 +35,16 @@ pub enum Outside {
     Blocked(u32, u32, Entail),
 }
 
+impl Drop for Outside {
+    fn drop(self) {
+        match self {
+            Outside::Unsupported(_, _) => {}
+            Outside::Blocked(_, _, _) => {}
+        }
+    }
+}
+
 /// A verdict on a set of defaults: why it generates an extension of the theory, or why it does not.
-#[derive(Drop)]
 pub enum SetCert {
     /// A default of the set does not apply.
     Fails(Outside),
@@ -59,25 +74,58 @@ pub enum SetCert {
     },
 }
 
+impl Drop for SetCert {
+    fn drop(self) {
+        match self {
+            SetCert::Fails(_) => {}
+            SetCert::Applied {
+                number: _,
+                pre: _,
+                justs: _,
+            } => {}
+            SetCert::Ungrounded { closed: _, pres: _ } => {}
+            SetCert::Extension {
+                order: _,
+                pres: _,
+                justs: _,
+                outside: _,
+                outputs: _,
+            } => {}
+        }
+    }
+}
+
 /// For each set of the defaults of a theory a verdict, ascending by the number of the set. In this
 /// number, bit i is default i+1.
-#[derive(Drop)]
 pub struct DefaultCert {
     pub sets: Vec<SetCert>,
 }
 
+impl Drop for DefaultCert {
+    fn drop(self) {
+        let DefaultCert { sets: _ } = self;
+    }
+}
+
 /// A model of a program, and a trace that no proper subset of it satisfies its reduct. In the
 /// model, bit i is atom i+1.
-#[derive(Drop)]
 pub struct AnswerSetCert {
     pub model: u64,
     pub minimal: Trace,
 }
 
+impl Drop for AnswerSetCert {
+    fn drop(self) {
+        let AnswerSetCert {
+            model: _,
+            minimal: _,
+        } = self;
+    }
+}
+
 /// One answer set for each state of a program that is output; smaller sets, each of which satisfies
 /// the reduct by some other model and is a proper subset of it; and a trace. The trace shows that
 /// every other model either has one of these states, or is undone by one of the smaller sets.
-#[derive(Drop)]
 pub struct ProgramCert {
     /// One for each state, in the order of states.
     pub models: Vec<AnswerSetCert>,
@@ -85,4 +133,14 @@ pub struct ProgramCert {
     pub smaller: Vec<u64>,
     /// The trace for all other models.
     pub none: Trace,
+}
+
+impl Drop for ProgramCert {
+    fn drop(self) {
+        let ProgramCert {
+            models: _,
+            smaller: _,
+            none: _,
+        } = self;
+    }
 }

@@ -13,9 +13,14 @@ use std::marker::Model;
 /// A set of literals. The literal n says that variable n is true, and -n that it is false; n is
 /// from 1 to 2^63-1. The literals are ordered by variable, with the positive literal of a variable
 /// first. Each occurs once.
-#[derive(Drop)]
 pub struct Clause {
     lits: Vec<i64>,
+}
+
+impl Drop for Clause {
+    fn drop(self) {
+        let Clause { lits: _ } = self;
+    }
 }
 
 impl Model for Clause {

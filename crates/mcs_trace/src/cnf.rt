@@ -12,10 +12,18 @@ use std::marker::Model;
 
 /// A list of clauses over the variables 1 to `vars`. The clauses are numbered from 1 in their
 /// order.
-#[derive(Drop)]
 pub struct Cnf {
     vars: u64,
     clauses: Vec<Clause>,
+}
+
+impl Drop for Cnf {
+    fn drop(self) {
+        let Cnf {
+            vars: _,
+            clauses: _,
+        } = self;
+    }
 }
 
 impl Model for Cnf {

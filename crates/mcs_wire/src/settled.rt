@@ -18,12 +18,22 @@ use std::sync::Wait;
 
 /// A wire that nobody uses any more: which letters were sent by it, which of them were taken, and
 /// which were left. Only `settle` makes it.
-#[derive(Drop)]
 pub struct Settled {
     pass: Pass<Letter, View>,
     sent: u64,
     got: u64,
     left: Vec<Letter>,
+}
+
+impl Drop for Settled {
+    fn drop(self) {
+        let Settled {
+            pass: _,
+            sent: _,
+            got: _,
+            left: _,
+        } = self;
+    }
 }
 
 impl Model for Settled {

@@ -7,7 +7,7 @@ use std::alloc::AllocError;
 
 /// A job of the program. Names of files are not empty and not `-`. A budget (the greatest number of
 /// questions of the run) is 1 to 4,294,967,295. A number of workers (threads) is 1 to 64.
-#[derive(Debug, Drop, PartialEq, Eq)]
+#[derive(Debug, PartialEq, Eq)]
 pub enum Job {
     /// To list the equilibria of the system in the file.
     Equilibria {
@@ -49,6 +49,41 @@ pub enum Job {
         budget: u64,
         workers: u32,
     },
+}
+
+impl Drop for Job {
+    fn drop(self) {
+        match self {
+            Job::Equilibria {
+                file: _,
+                budget: _,
+                workers: _,
+            } => {}
+            Job::Solve {
+                file: _,
+                budget: _,
+                workers: _,
+                proof: _,
+            } => {}
+            Job::Check { file: _, report: _ } => {}
+            Job::Make {
+                number: _,
+                budget: _,
+                workers: _,
+            } => {}
+            Job::Grounded {
+                file: _,
+                budget: _,
+                workers: _,
+            } => {}
+            Job::Cheapest {
+                file: _,
+                report: _,
+                budget: _,
+                workers: _,
+            } => {}
+        }
+    }
 }
 
 /// Why words ask for no job.

@@ -1,14 +1,9 @@
-use Rattle.std.proofs.Common.{◌≡◌, List, map, false, true≢false, sym, refl, ◌∙◌, ◌↔◌}
-use Rattle.std.specs.Prelude.{IsTrue}
+use Rattle.std.proofs.Common.{true≢false, sym, refl, ◌∙◌}
 use Rattle.std.proofs.lemmas.Bool.{false_from_ne_true}
 use Rattle.std.proofs.lemmas.Bool.Decides.{not_from_Decides}
-use Rattle.mcs_base.specs.Listings.{IsAmong}
-use Rattle.mcs_system.specs.Plain.{Name}
 use Rattle.mcs_system.specs.declared.limit.Limit.TheVariants.{Weight, OpenParentheses, NameBytes}
-use Rattle.mcs_grammar.specs.Entries.{Entry}
 use Rattle.mcs_grammar.specs.Faults.{NoContext, Exceeds, Has}
 use Rattle.mcs_grammar.specs.Alone.{contexts_said}
-use Rattle.mcs_account.specs.Images.{About, capped, uses_in}
 use Rattle.mcs_faults.proofs.ToldFaults.{unknown-is, heavy-is, deep-is, long-is, lowest-unknown, lowest-heavy, lowest-deep, lowest-long, none-told}
 use Rattle.mcs_faults.proofs.told.told_fault.Goals as goal
 

@@ -1,4 +1,4 @@
-use Rattle.std.proofs.Common.{◌≡◌, true, List, length, sym, ap, subst, ◌∙◌, map}
+use Rattle.std.proofs.Common.{◌≡◌, true, List, length, sym, ap, subst, ◌∙◌}
 use Rattle.mcs_syntax.specs.declared.part.Part.{Part}
 use Rattle.mcs_syntax.specs.Prompt.{are_prompt}
 use Rattle.mcs_system.specs.Plain as plain

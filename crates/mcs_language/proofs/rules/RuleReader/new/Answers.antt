@@ -1,4 +1,4 @@
-use Rattle.std.proofs.Common.{◌≡◌, ◌≤◌, length, arith}
+use Rattle.std.proofs.Common.{◌≤◌, length, arith}
 use Rattle.std.proofs.lemmas.List.{length-map}
 use Rattle.mcs_system.specs.declared.knowledge.Context as code_context
 use Rattle.mcs_account.specs.Account.{greatest_number}

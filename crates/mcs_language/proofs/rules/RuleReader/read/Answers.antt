@@ -1,4 +1,4 @@
-use Rattle.std.proofs.Common.{◌≡◌, List, Option, Some, None, map, sym, subst, ◌∙◌, arith, true≢false}
+use Rattle.std.proofs.Common.{List, Option, sym, subst, ◌∙◌, arith, true≢false}
 use Rattle.mcs_system.specs.Plain.{Name}
 use Rattle.mcs_grammar.specs.Entries.{Token}
 use Rattle.mcs_grammar.specs.Texts.{token_texts}
