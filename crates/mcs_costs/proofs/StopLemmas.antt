@@ -12,7 +12,7 @@ use Rattle.mcs_system.specs.Systems.{IsConsistent}
 use Rattle.mcs_system.proofs.MarkLemmas.{allowed_known}
 use Rattle.mcs_laws.proofs.Choices.{consistent_minimal, consistent_needs_nothing, consistent_where_nothing}
 use Rattle.mcs_laws.proofs.Counting.{minimal_is_small}
-use Rattle.mcs_costs.specs.Costs.{cost, weights, IsCheapest, IsLeastWeight, SettlesCost, IsFirstSettling, IsStopLevel}
+use Rattle.mcs_costs.specs.Costs.{cost, weights, IsCheapest, IsLeastWeight, SettlesCost, IsFirstSettling, IsStopLevel, SettlesNone}
 use Rattle.mcs_costs.specs.Laws.{CheapestHaveFewMarks, StopLevelIsQuotient, StopLevelWithoutDiagnoses, StopLevelsAreOne}
 use Rattle.mcs_base.proofs.LeastLemmas.{least_is_one}
 use Rattle.mcs_costs.proofs.CostLemmas.{cost-none, least_weight_some, none_from_cost}
@@ -116,3 +116,10 @@ stop_without m level none = (λ stop. stop_is_one m level (length m.bridges) sto
   where
     at_all : IsStopLevel m (length m.bridges)
     at_all = inr ((λ c. none 0 (consistent_needs_nothing m c.equilibrium c.balanced)), inr (record { all = refl; never = λ k few s. none s.pair s.diagnosis }))
+
+-- ---- what is not settled at a level is at none below it
+pub settles_none_below : (m : System) (level ahead : ℕ) → level ≤ ahead → SettlesNone m ahead → SettlesNone m level
+settles_none_below m level ahead no_less none pair diagnosis settled = none pair diagnosis (elim settled [
+  | inl (weight, least, cheap) ↦ inl (weight, least, (let more : (level + 1) * weight ≤ (ahead + 1) * weight = mul-le (level + 1) weight (ahead + 1) weight (omega (arith, no_less)) (omega arith) in omega (arith, more, cheap)))
+  | inr all ↦ inr (omega (arith, all, no_less))
+])

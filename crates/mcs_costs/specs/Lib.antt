@@ -1,3 +1,4 @@
 pub mod Costs
 pub mod Laws
+pub mod Settling
 pub mod Worked

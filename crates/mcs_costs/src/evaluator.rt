@@ -1,12 +1,21 @@
 //! Evaluators that tell the cheapest diagnoses alone.
 
-ghost use Rattle.std.specs.Prelude.{◌≡◌, false, IfOk, IfErr, OnOk, MatchOption};
+ghost use Rattle.std.specs.Prelude.{◌≡◌, false, IfOk, IfErr, OnOk};
 ghost use Rattle.mcs_states.specs.Evaluators.{KeepsRest, HasDone, HasHalted};
-ghost use Rattle.mcs_costs.specs.Costs.{AreCheapest, SettlesNone};
+ghost use Rattle.mcs_costs.specs.Settling.{IsSettling};
 
 use mcs_base::Marks;
 use mcs_states::{Evaluator, Halt};
 use std::alloc::Global;
+
+/// What the questions of a level tell of the cheapest diagnoses.
+#[derive(Drop)]
+pub enum Settling {
+    /// These are all of them, in the order of pairs.
+    Settled(Vec<Marks>),
+    /// No level up to this one settles them.
+    NoneUpTo(u32),
+}
 
 /// An evaluator that can tell the cheapest diagnoses without the other minimal ones, of which there
 /// may be many.
@@ -18,14 +27,15 @@ pub trait CheapestEvaluator: Evaluator {
         ensures halt { IfErr result (HasHalted (Self.stands self.old) (Self.stands self.new) level) }
         ensures rest { KeepsRest (Self.stands self.old) (Self.stands self.new) };
 
-    /// The cheapest diagnoses, all of them, in the order of pairs, if they are known from the
-    /// questions of the level. They are if one of them costs less than one mark more than so many
-    /// would at the least weight of a rule, and if the level is at least the number of rules.
-    fn cheapest(&mut self, alloc: Global, level: u32) -> Result<Option<Vec<Marks>>, Halt>
+    /// The cheapest diagnoses, all of them, if they are known from the questions of the level. They
+    /// are if one of them costs less than one mark more than so many would at the least weight of a
+    /// rule, or if there are diagnoses and the level is at least the number of rules.
+    ///
+    /// Otherwise `NoneUpTo` a level, this one or a higher one, of which neither holds. If this is
+    /// at least the number of rules, there is no diagnosis.
+    fn cheapest(&mut self, alloc: Global, level: u32) -> Result<Settling, Halt>
         requires { (Self.stands self.old).halted ≡ false }
-        ensures told { IfOk result (λ told. MatchOption told
-            (SettlesNone (Self.stands self.old).system level)
-            (λ pairs. AreCheapest (Self.stands self.old).system pairs.items)) }
+        ensures told { IfOk result (IsSettling (Self.stands self.old).system level) }
         ensures done { OnOk result (HasDone (Self.stands self.old) (Self.stands self.new) level) }
         ensures halt { IfErr result (HasHalted (Self.stands self.old) (Self.stands self.new) level) }
         ensures rest { KeepsRest (Self.stands self.old) (Self.stands self.new) };

@@ -7,7 +7,7 @@ mod evaluator;
 mod laws;
 
 pub use costing::{cost, least_weight};
-pub use evaluator::CheapestEvaluator;
+pub use evaluator::{CheapestEvaluator, Settling};
 pub use laws::{
     cheapest_are_minimal, costs_grow, stop_level_is_a_quotient, worked_costs, worked_stop_levels,
 };
