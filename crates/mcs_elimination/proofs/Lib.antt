@@ -5,4 +5,5 @@ pub mod Pruning
 pub mod Prices
 pub mod CheapestMarks
 pub mod Settling
+pub mod DearMarks
 pub mod Above

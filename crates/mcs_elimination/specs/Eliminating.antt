@@ -1,11 +1,11 @@
 -- What tables are eliminated, over costs.
-use Rattle.std.specs.Prelude.{ℕ, ◌*◌, ◌≤◌, List, length, Option, Some, None}
+use Rattle.std.specs.Prelude.{◌≡◌, ℕ, ◌*◌, ◌≤◌, List, [], length, Option, Some, None, IsTrue}
 use Rattle.std.specs.List.{AllByRecursion}
-use Rattle.mcs_sets.specs.Sets.{Within}
-use Rattle.mcs_base.specs.Listings.{IsAmong}
+use Rattle.mcs_sets.specs.Sets.{has, single, Within}
+use Rattle.mcs_base.specs.Listings.{IsAmong, IsInventory}
 use Rattle.mcs_system.specs.Faults.{IsValid}
 use Rattle.mcs_system.specs.Plain.{System}
-use Rattle.mcs_system.specs.Repairs.{all_marks}
+use Rattle.mcs_system.specs.Repairs.{all_marks, allowed_marks}
 use Rattle.mcs_costs.specs.Costs.{cost}
 use Rattle.mcs_table.specs.declared.row.Row.{Row}
 use Rattle.mcs_table.specs.Tables.{TableData, IsTable, ShareNoMark}
@@ -25,6 +25,19 @@ AreReaching m below sets = AllByRecursion (λ s. ¬ IsBelow below (cost m s)) se
 -- so it is for the bound at this level; where there is none, there are no such sets
 abbrev pub AreDear : System → ℕ → List ℕ → Type 0
 AreDear m level sets = (below : Option ℕ) → IsBoundAt m level below → AreReaching m below sets
+
+-- a mark that a repair may have that alone costs so much or more, as a set of its own
+abbrev pub IsDearMark : System → ℕ → ℕ → Type 0
+IsDearMark m price set = (k : ℕ) × IsTrue (has (allowed_marks m) k) × (set ≡ single k) × (price ≤ cost m set)
+
+-- exactly the marks that alone reach the bound, if there is one, each once; none without a bound
+abbrev pub AreDearFor : System → Option ℕ → List ℕ → Type 0
+AreDearFor m None sets = sets ≡ []
+AreDearFor m (Some bound) sets = IsInventory (IsDearMark m bound) sets
+
+-- so it is for the bound at this level
+abbrev pub AreDearMarks : System → ℕ → List ℕ → Type 0
+AreDearMarks m level sets = (bound : Option ℕ) × IsBoundAt m level bound × AreDearFor m bound sets
 
 -- the marks of the rows are those of rules of the system
 abbrev pub HaveMarks : System → List Row → Type 0

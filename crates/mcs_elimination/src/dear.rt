@@ -1,9 +1,8 @@
 //! Marks that no cheap diagnosis has.
 
-ghost use Rattle.std.specs.Prelude.{◌≤◌, IfOk};
-ghost use Rattle.std.specs.List.{AllByRecursion};
-ghost use Rattle.mcs_costs.specs.Costs.{cost};
-ghost use Rattle.mcs_elimination.specs.Eliminating.{AreDear};
+ghost use Rattle.std.specs.Prelude.{IfOk};
+ghost use Rattle.mcs_base.specs.Listings.{IsInventory};
+ghost use Rattle.mcs_elimination.specs.Eliminating.{AreDearMarks, IsDearMark};
 
 use crate::lightest::bound_at;
 use mcs_base::{Marks, Memory};
@@ -11,12 +10,12 @@ use mcs_costs::cost;
 use mcs_system::System;
 use std::alloc::Global;
 
-/// The allowed marks that alone reach the bound of the level, each as a set of its own. The bound
-/// is a cost that any allowed marks reach of which there are more than the level says. No diagnosis
-/// below it has one of the dear marks, so `cheapest_at` needs no row with one. There is no bound,
-/// and there are none, if the level is at least the number of rules.
+/// The allowed marks that alone reach the bound of the level, all of them, each as a set of its own.
+/// The bound is a cost that any allowed marks reach of which there are more than the level says. No
+/// diagnosis below it has one of the dear marks, so `cheapest_at` needs no row with one. There is no
+/// bound, and there are none, if the level is at least the number of rules.
 pub fn dear_marks(alloc: Global, system: &System, level: u32) -> Result<Vec<Marks>, Memory>
-    ensures { IfOk result (λ dear. AreDear system.now level dear.items) }
+    ensures { IfOk result (λ dear. AreDearMarks system.now level dear.items) }
 {
     match bound_at(system, level) {
         None => Ok(Vec::new(alloc)),
@@ -29,7 +28,7 @@ pub fn dear_marks(alloc: Global, system: &System, level: u32) -> Result<Vec<Mark
 
 /// The allowed marks that cost so much or more.
 fn marks_from(alloc: Global, system: &System, price: u64) -> Result<Vec<Marks>, Memory>
-    ensures { IfOk result (λ dear. AllByRecursion (λ s. price ≤ cost system.now s) dear.items) }
+    ensures { IfOk result (λ dear. IsInventory (IsDearMark system.now price) dear.items) }
 {
     let _bridges = system.bridges();
     let mut dear = Vec::new(alloc);

@@ -13,4 +13,3 @@ pub mod TableLemmas
 pub mod FirstLemmas
 pub mod ReplayLemmas
 pub mod AnsweringLemmas
-pub mod TellingLemmas

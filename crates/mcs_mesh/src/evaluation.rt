@@ -16,7 +16,7 @@ use crate::lasting::is_left_out;
 use crate::nodes::NodeList;
 use crate::player::{Played, Player, Round};
 use mcs_base::{Marks, Memory, Pair, Vars};
-use mcs_costs::CheapestEvaluator;
+use mcs_costs::{CheapestEvaluator, Settling};
 use mcs_import::Plan;
 use mcs_states::{Evaluator, Halt};
 use std::alloc::Global;
@@ -265,7 +265,7 @@ impl<P: Player + Drop> CheapestEvaluator for Evaluation<P> {
         Evaluation::reach(self, alloc, level)
     }
 
-    fn cheapest(&mut self, alloc: Global, level: u32) -> Result<Option<Vec<Marks>>, Halt> {
+    fn cheapest(&mut self, alloc: Global, level: u32) -> Result<Settling, Halt> {
         Evaluation::reach(self, alloc, level)?;
         let done = self.done.unwrap_or(level);
         match cheapest_of(alloc, &self.plan, &self.nodes, done, level) {

@@ -5,7 +5,7 @@ ghost use Rattle.mcs_recall.specs.Shown.{AreShown};
 
 use crate::shown::{Shown, keep, place_from};
 use mcs_base::{Marks, Pair, Vars};
-use mcs_costs::CheapestEvaluator;
+use mcs_costs::{CheapestEvaluator, Settling};
 use mcs_states::{Evaluator, Halt};
 use std::alloc::Global;
 use std::marker::Model;
@@ -103,7 +103,7 @@ impl<E: CheapestEvaluator + Drop> CheapestEvaluator for Recalling<E> {
         self.evaluator.reach(alloc, level)
     }
 
-    fn cheapest(&mut self, alloc: Global, level: u32) -> Result<Option<Vec<Marks>>, Halt> {
+    fn cheapest(&mut self, alloc: Global, level: u32) -> Result<Settling, Halt> {
         self.evaluator.cheapest(alloc, level)
     }
 }

@@ -1,12 +1,12 @@
 use Rattle.std.proofs.lemmas.Result.{err_from_is_err_and}
 use Rattle.mcs_states.specs.declared.halt.Halt.{Halt}
 use Rattle.mcs_states.specs.declared.halt.Halt.TheVariants.{Memory}
-use Rattle.std.proofs.Common.{◌≡◌, ◌≤◌, ◌∙◌, ℕ, ap, sym, subst, Option, MatchOption, length, refl, unwrap_or}
+use Rattle.std.proofs.Common.{◌≡◌, ◌≤◌, ◌∙◌, ℕ, ap, sym, subst, Option, length, refl, unwrap_or}
 use Rattle.std.proofs.lemmas.Option.{none-some}
 use Rattle.std.specs.Arc.{arc_value}
 use Rattle.mcs_system.specs.Plain.{System}
 use Rattle.mcs_states.specs.Evaluators.{unasked}
-use Rattle.mcs_costs.specs.Costs.{AreCheapest, SettlesNone}
+use Rattle.mcs_costs.specs.Settling.{IsSettling}
 use Rattle.mcs_mesh.specs.Rounds.{EvaluationData, IsEvaluation, IsHaltOfRound, evaluation_of}
 use Rattle.mcs_mesh.proofs.MeshLemmas.{known_at, halted_anyhow, memory_kept, memory_shown}
 use Rattle.mcs_mesh.proofs.evaluation.EvaluationCheapestEvaluator.cheapest.Goals as goal
@@ -29,7 +29,7 @@ cheapest_of-requires-clause-within g c =
     subst (λ (n : ℕ). c.args.level ≤ n) (sym level) less
 
 pub returns-in-Ok-clause-told : goal.returns-in-Ok-clause-told
-returns-in-Ok-clause-told g c = subst (λ (m : System). MatchOption c.in-Ok.told (SettlesNone m c.args.level) (λ pairs. AreCheapest m pairs.items)) (c.deref.ensures ∙ ap (λ (e : EvaluationData). e.state.system) c.self.view_is ∙ c.reach.ensures.rest.system) c.in-Ok.ensures
+returns-in-Ok-clause-told g c = subst (λ (m : System). IsSettling m c.args.level c.in-Ok.told) (c.deref.ensures ∙ ap (λ (e : EvaluationData). e.state.system) c.self.view_is ∙ c.reach.ensures.rest.system) c.in-Ok.ensures
 
 pub reach-requires : goal.reach-requires
 reach-requires g c = c.requires
