@@ -1,6 +1,6 @@
 //! What more marks than so many cost at least.
 
-ghost use Rattle.std.specs.Prelude.{◌≡◌, ◌≤◌};
+ghost use Rattle.std.specs.Prelude.{◌≡◌, ◌≤◌, max};
 ghost use Rattle.mcs_costs.specs.Costs.{IsLeastWeight};
 ghost use Rattle.mcs_elimination.specs.Lightest.{IsBoundAt, lacking, least_above, least_cost_above};
 
@@ -31,18 +31,22 @@ fn least_cost_above(system: &System, level: u32, least: u64) -> u64
     let bridges = system.bridges();
     let mut bound = (level as u64 + 1) * least;
     for bridge in bridges {
-        bound = bound.max(least_above(system, level, bridge.weight as u64));
+        bound = raised(system, level, bridge.weight as u64, bound);
     }
     bound
 }
 
-/// As many marks and one more of this weight, less what the marks that a repair may have lack of
-/// it.
-fn least_above(system: &System, level: u32, weight: u64) -> u64
+/// The bound, or as many marks and one more of this weight, less what the marks that a repair may
+/// have lack of it, if this is greater.
+fn raised(system: &System, level: u32, weight: u64, bound: u64) -> u64
     requires { weight ≤ 1000000 }
-    ensures { result ≡ least_above system.now level weight }
+    ensures { result ≡ max bound (least_above system.now level weight) }
 {
-    ((level as u64 + 1) * weight).saturating_sub(lacking(system, weight))
+    let most = (level as u64 + 1) * weight;
+    if most <= bound {
+        return bound;
+    }
+    bound.max(most.saturating_sub(lacking(system, weight)))
 }
 
 /// What the marks that a repair may have lack of this weight, all together.

@@ -1,4 +1,4 @@
-use Rattle.std.proofs.Common.{◌+◌, ◌*◌, ◌∷◌, ◌∙◌, ap, ℕ, [], map, max, take, arith}
+use Rattle.std.proofs.Common.{◌+◌, ◌*◌, ◌∷◌, ◌∙◌, ap, sym, ℕ, [], map, max, take, arith}
 use Rattle.std.proofs.lemmas.List.{take_all}
 use Rattle.std.proofs.lemmas.List.Sums.{fold-append}
 use Rattle.std.specs.List.{fold}
@@ -12,8 +12,8 @@ use Rattle.mcs_elimination.proofs.lightest.least_cost_above.Goals as goal
 pub overflow_mul-bound : goal.overflow_mul-bound
 overflow_mul-bound c = omega (arith, above_fits c.args.level c.args.least c.ranges.level.fits (least_few c.args.system.now c.bridges-bridges.ensures.valid c.args.least c.requires))
 
-pub least_above-requires : goal.least_above-requires
-least_above-requires c = weight_few c.args.system.now c.bridges-bridges.ensures.valid c.bridges-bridges.result.now c.loop-bridge.bridge-index c.bridge-item.result c.bridges-bridges.ensures.value c.loop-bridge-test.true c.bridge-item.is
+pub raised-bound-requires : goal.raised-bound-requires
+raised-bound-requires c = weight_few c.args.system.now c.bridges-bridges.ensures.valid c.bridges-bridges.result.now c.loop-bridge.bridge-index c.bridge-item.result c.bridges-bridges.ensures.value c.loop-bridge-test.true c.bridge-item.is
 
 pub loop-bridge-preserved : goal.loop-bridge-preserved
 loop-bridge-preserved c =
@@ -24,7 +24,7 @@ loop-bridge-preserved c =
     let w = c.bridge-item.result.weight in
     let more = ap (fold next start) (weights_more items c.loop-bridge.bridge-index c.bridge-item.result c.loop-bridge-test.true c.bridge-item.is) ∙ fold-append next start before (w ∷ []) in
     let so_far = ap (λ n. next n w) c.loop-bridge.invariant in
-    omega (arith, more, so_far, c.least_above.ensures, c.max-bound.ensures)
+    c.raised-bound.ensures ∙ so_far ∙ sym more
 
 pub returns : goal.returns
 returns c =
