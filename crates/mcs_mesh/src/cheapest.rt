@@ -31,8 +31,8 @@ pub(crate) fn cheapest_of<N: NodeList>(
     let ahead = level_ahead(plan.system(), level);
     let dear = dear_marks(alloc, plan.system(), ahead)?;
     let tables = nodes.minimal_tables(alloc, plan, done, &dear)?;
-    Ok(match cheapest_at(alloc, plan, tables, ahead)? {
-        Some(pairs) => Settling::Settled(pairs),
-        None => Settling::NoneUpTo(ahead),
-    })
+    match cheapest_at(alloc, plan, tables, ahead)? {
+        Some(pairs) => Ok(Settling::Settled(pairs)),
+        None => Ok(Settling::NoneUpTo(ahead)),
+    }
 }
