@@ -1,10 +1,8 @@
 -- The search by an evaluator that tells the cheapest diagnoses alone takes the same levels.
-use Rattle.std.proofs.Common.{◌≡◌, ℕ, suc, ◌+◌, ◌*◌, ◌/◌, ◌<◌, ◌≤◌, min, List, [], map, length, Option, Some, None, Vec, unwrap_or, sym, ap, ◌∙◌, subst, inl, inr, arith}
+use Rattle.std.proofs.Common.{◌≡◌, ℕ, suc, ◌+◌, ◌*◌, ◌/◌, ◌<◌, ◌≤◌, min, List, [], map, length, Option, Some, None, sym, ap, ◌∙◌, subst, inl, inr, arith}
 use Rattle.std.proofs.lemmas.Bool.{cases_lt}
 use Rattle.std.proofs.lemmas.List.{length-map}
 use Rattle.std.proofs.lemmas.Nat.{mul-le}
-use Rattle.std.specs.Prelude.{MatchOption}
-use Rattle.std.specs.declared.alloc.Global.{Global}
 use Rattle.mcs_sets.specs.Orders.{PairBefore}
 use Rattle.mcs_sets.proofs.Lattice.{size-none}
 use Rattle.mcs_base.specs.Least.{IsLeastOf}
@@ -23,7 +21,7 @@ use Rattle.mcs_states.proofs.Causes.{cause_before, rest_kept, rest_same, told}
 use Rattle.mcs_costs.specs.Costs.{cost, weights, AreCheapest, IsCheapest, IsLeastWeight, SettlesCost, SettlesNone, IsStopLevel, IsUpToStop}
 use Rattle.mcs_costs.proofs.CostLemmas.{cost-none, least_weight_some}
 use Rattle.mcs_costs.proofs.ExistLemmas.{cheapest_exists, least_exists, stop_exists}
-use Rattle.mcs_costs.proofs.StopLemmas.{stop_is_one, stop_is_quotient, stop_without}
+use Rattle.mcs_costs.proofs.StopLemmas.{settles_none_below, stop_is_one, stop_is_quotient, stop_without}
 use Rattle.mcs_system.specs.declared.bridge.Bridge as code
 use Rattle.mcs_cheapest.specs.Found.{HasBrokenOff, IsLeastCost}
 use Rattle.mcs_cheapest.specs.Least.{HasTold, IsAsking, IsLooking}
@@ -72,13 +70,8 @@ stop_low m stop (inr (none, inl f)) = f.within
 stop_low m stop (inr (none, inr n)) = omega (arith, n.all)
 
 -- the level of all rules settles it of each diagnosis
-pub none_cheapest : (m : System) (level : ℕ) → length m.bridges ≤ level → SettlesNone m level → AreCheapest m []
+none_cheapest : (m : System) (level : ℕ) → length m.bridges ≤ level → SettlesNone m level → AreCheapest m []
 none_cheapest m level all none = IsListing-nil PairBefore (IsCheapest m) (λ p c. none p c.one (inr all))
-
--- what is told there
-pub last_told : (m : System) (level : ℕ) (told : Option (Vec ℕ Global)) (empty : Vec ℕ Global) → length m.bridges ≤ level → MatchOption told (SettlesNone m level) (λ pairs. AreCheapest m pairs.items) → empty.items ≡ [] → AreCheapest m (unwrap_or told empty).items
-last_told m level None empty all none is = subst (AreCheapest m) (sym is) (none_cheapest m level all none)
-last_told m level (Some pairs) empty all listed is = listed
 
 -- ---- the cost
 module _ (m : System) (pairs : List ℕ) (listed : AreCheapest m pairs) where
@@ -145,29 +138,37 @@ module _ (first e e' : EvaluatorState) (level : ℕ) (a : IsAsking first e level
 pub last_counted : (m n : System) (rules : List code.Bridge) → m ≡ n → map bridge_of rules ≡ n.bridges → length rules ≡ length m.bridges
 last_counted m n rules same seen = sym (length-map rules bridge_of) ∙ ap length (seen ∙ ap (λ (s : System). s.bridges) (sym same))
 
-pub look_begins : (m : System) (e : EvaluatorState) → CanBegin m e → IsLooking e e 0
-look_begins m e can = record { asking = asking_begins m e can; low = omega arith; not_yet = λ k less. absurd (omega (arith, less)) }
+pub look_begins : (m : System) (e : EvaluatorState) → CanBegin m e → IsLooking e e 0 0
+look_begins m e can = record { asking = asking_begins m e can; ahead = omega arith; not_yet = λ k less. absurd (omega (arith, less)) }
 
-module _ (first e e' : EvaluatorState) (level : ℕ) (valid : IsValid first.system) (l : IsLooking first e level) (kept : KeepsRest e e') where
+-- what a level does not settle, no level below it does
+pub none_before : (m : System) (bound candidate : ℕ) → candidate ≤ bound + 1 → SettlesNone m bound → (k : ℕ) → k < candidate → SettlesNone m k
+none_before m bound candidate next none k less = settles_none_below m k bound (omega (arith, next, less)) none
+
+module _ (first e e' : EvaluatorState) (level candidate : ℕ) (valid : IsValid first.system) (low : level ≤ length first.system.bridges) (l : IsLooking first e level candidate) (kept : KeepsRest e e') where
+  up_to_stop : IsUpToStop first.system level
+  up_to_stop = looks_up_to first.system valid level low (λ k less. l.not_yet k (let ahead = l.ahead in omega (arith, less, ahead)))
+
   pub look_breaks_off : (halt : Halt) → HasHalted e e' level halt → HasBrokenOff first e' halt
-  look_breaks_off halt h = asking_breaks_off first e e' level l.asking (looks_up_to first.system valid level l.low l.not_yet) kept halt h
+  look_breaks_off halt h = asking_breaks_off first e e' level l.asking up_to_stop kept halt h
 
   module _ (h : HasDone e e' level) where
     asked : IsAsking first e' (level + 1)
-    asked = asks_on first e e' level l.asking (looks_up_to first.system valid level l.low l.not_yet) kept h
+    asked = asks_on first e e' level l.asking up_to_stop kept h
 
-    pub looks_on : level < length first.system.bridges → SettlesNone first.system level → IsLooking first e' (level + 1)
-    looks_on low none = record {
-      asking = asked;
-      low = omega (arith, low);
-      not_yet = λ k less. elim (cases_lt k level) [
-        | inl earlier ↦ l.not_yet k earlier
-        | inr past ↦ subst (SettlesNone first.system) (let same : level ≡ k = omega (arith, past, less) in same) none
-      ];
-    }
+    pub looks_on : (next : ℕ) → level < next → ((k : ℕ) → k < next → SettlesNone first.system k) → IsLooking first e' (level + 1) next
+    looks_on next above none = record { asking = asked; ahead = omega (arith, above); not_yet = none }
 
     pub look_ends : (pairs : List ℕ) → AreCheapest first.system pairs → HasTold first e' level pairs
     look_ends pairs listed = record { valid = valid; listed = listed; asking = asked }
+
+-- where the level of all rules was taken too, there is no diagnosis
+pub all_looked : (first e : EvaluatorState) (level candidate last : ℕ) (pairs : List ℕ) → IsValid first.system → last ≡ length first.system.bridges → level ≡ last + 1 → pairs ≡ [] → IsLooking first e level candidate → HasTold first e last pairs
+all_looked first e level candidate last pairs valid all past empty l = record {
+  valid = valid;
+  listed = subst (AreCheapest first.system) (sym empty) (none_cheapest first.system last (omega (arith, all)) (l.not_yet last (let ahead = l.ahead in omega (arith, ahead, past))));
+  asking = subst (IsAsking first e) past l.asking;
+}
 
 -- ---- the levels up to the stop level are asked
 module _ (first e : EvaluatorState) (level : ℕ) (pairs : List ℕ) (t : HasTold first e level pairs) where

@@ -1,5 +1,5 @@
 -- The search for the cheapest diagnoses by an evaluator that tells them alone.
-use Rattle.std.specs.Prelude.{◌≡◌, ℕ, ◌+◌, ◌<◌, ◌≤◌, false, List, length}
+use Rattle.std.specs.Prelude.{◌≡◌, ℕ, ◌+◌, ◌<◌, ◌≤◌, false, List}
 use Rattle.mcs_system.specs.Faults.{IsValid}
 use Rattle.mcs_states.specs.Evaluators.{EvaluatorState, KeepsRest}
 use Rattle.mcs_costs.specs.Costs.{AreCheapest, SettlesNone}
@@ -12,11 +12,11 @@ pub record IsAsking (first now : EvaluatorState) (level : ℕ) : Type 0 where
   pub done : IsDoneBefore now level
   pub taken : (k : ℕ) → k < level → IsTaken first k
 
--- and none of them settles of a diagnosis that none costs less
-pub record IsLooking (first now : EvaluatorState) (level : ℕ) : Type 0 where
+-- and no level below the candidate, which is this level or a higher one, settles of a diagnosis that none costs less
+pub record IsLooking (first now : EvaluatorState) (level candidate : ℕ) : Type 0 where
   pub asking : IsAsking first now level
-  pub low : level ≤ length first.system.bridges
-  pub not_yet : (k : ℕ) → k < level → SettlesNone first.system k
+  pub ahead : level ≤ candidate
+  pub not_yet : (k : ℕ) → k < candidate → SettlesNone first.system k
 
 -- these are the cheapest diagnoses, and the levels up to this one were taken
 pub record HasTold (first now : EvaluatorState) (level : ℕ) (pairs : List ℕ) : Type 0 where

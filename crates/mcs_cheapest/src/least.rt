@@ -8,7 +8,7 @@ ghost use Rattle.mcs_cheapest.specs.Searching.{HasStopped};
 
 use crate::cheapest::Cheapest;
 use mcs_base::{Marks, Pair};
-use mcs_costs::{CheapestEvaluator, cost, least_weight};
+use mcs_costs::{CheapestEvaluator, Settling, cost, least_weight};
 use mcs_diagnosis::show;
 use mcs_states::Halt;
 use mcs_system::System;
@@ -66,7 +66,7 @@ fn least_pairs<E: CheapestEvaluator>(
 }
 
 /// Takes levels from 0 on, until the cheapest diagnoses are told, or the level is that of all
-/// rules.
+/// rules. Below the candidate no level settles them: such a level is asked and not searched.
 fn first_told<E: CheapestEvaluator>(
     alloc: Global,
     evaluator: &mut E,
@@ -77,14 +77,19 @@ fn first_told<E: CheapestEvaluator>(
         told.level told.pairs.items) (E.stands evaluator.old) (E.stands evaluator.new) result }
 {
     let last = system.bridges().len() as u32;
-    for level in 0..last {
-        if let Some(pairs) = evaluator.cheapest(alloc, level)? {
-            return Ok(Told { pairs, level });
+    let mut candidate = 0;
+    for level in 0..last + 1 {
+        if level < candidate {
+            evaluator.reach(alloc, level)?;
+            continue;
+        }
+        match evaluator.cheapest(alloc, level)? {
+            Settling::Settled(pairs) => return Ok(Told { pairs, level }),
+            Settling::NoneUpTo(bound) => candidate = bound.saturating_add(1),
         }
     }
-    let told = evaluator.cheapest(alloc, last)?;
     Ok(Told {
-        pairs: told.unwrap_or(Vec::new(alloc)),
+        pairs: Vec::new(alloc),
         level: last,
     })
 }
