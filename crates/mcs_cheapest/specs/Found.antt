@@ -14,7 +14,7 @@ use Rattle.mcs_costs.specs.Costs.{cost, IsCheapest, IsStopLevel, IsUpToStop}
 use Rattle.mcs_cheapest.specs.declared.cheapest.Cheapest as code
 
 -- exactly the cheapest diagnoses, in the order of pairs, each as it is shown
-pub record AreCheapest (m : System) (ds : List shown.Diagnosis) : Type 0 where
+pub record AreShownCheapest (m : System) (ds : List shown.Diagnosis) : Type 0 where
   pub listed : IsListing (IsCheapest m) PairBefore (pairs_of ds)
   pub shown : AllByRecursion (ShowsFirstState m) ds
 
@@ -25,7 +25,7 @@ IsLeastCost m (Some price) = (pair : ℕ) × IsCheapest m pair × (cost m pair �
 
 -- The search came to its end. The levels up to the stop level were taken: this one is the greatest done, and the evaluator is settled, so that its journals hold exactly the questions of it.
 pub record HasSearched (e e' : EvaluatorState) (c : code.Cheapest) : Type 0 where
-  pub found : AreCheapest e.system c.found.items
+  pub found : AreShownCheapest e.system c.found.items
   pub cost : IsLeastCost e.system c.cost
   pub stop : ℕ
   pub is_stop : IsStopLevel e.system stop

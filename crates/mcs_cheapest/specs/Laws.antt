@@ -2,15 +2,15 @@
 use Rattle.std.specs.Prelude.{◌≡◌, ℕ, List, Option}
 use Rattle.mcs_system.specs.Plain.{System}
 use Rattle.mcs_diagnosis.specs.declared.diagnosis.Diagnosis as shown
-use Rattle.mcs_cheapest.specs.Found.{AreCheapest, IsLeastCost}
+use Rattle.mcs_cheapest.specs.Found.{AreShownCheapest, IsLeastCost}
 
 -- the cheapest diagnoses have a listing
 abbrev pub CheapestAreListed : Type 0
-CheapestAreListed = (m : System) → (ds : List shown.Diagnosis) × AreCheapest m ds
+CheapestAreListed = (m : System) → (ds : List shown.Diagnosis) × AreShownCheapest m ds
 
 -- and only one
 abbrev pub CheapestAreOne : Type 0
-CheapestAreOne = (m : System) (ds es : List shown.Diagnosis) → AreCheapest m ds → AreCheapest m es → ds ≡ es
+CheapestAreOne = (m : System) (ds es : List shown.Diagnosis) → AreShownCheapest m ds → AreShownCheapest m es → ds ≡ es
 
 -- there is a least cost, or no diagnosis
 abbrev pub LeastCostsExist : Type 0

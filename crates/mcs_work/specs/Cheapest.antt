@@ -8,7 +8,7 @@ use Rattle.mcs_states.specs.declared.halt.Halt.{Halt}
 use Rattle.mcs_states.specs.declared.halt.Halt.TheVariants as halts
 use Rattle.mcs_diagnosis.specs.declared.diagnosis.Diagnosis as code
 use Rattle.mcs_costs.specs.Costs.{cost, IsStopLevel}
-use Rattle.mcs_cheapest.specs.Found.{AreCheapest, IsLeastCost}
+use Rattle.mcs_cheapest.specs.Found.{AreShownCheapest, IsLeastCost}
 use Rattle.mcs_report.specs.Listing.{heading, verdict_line}
 use Rattle.mcs_report.specs.Cheapest.{cheapest_line, cheapest_end_line}
 
@@ -29,7 +29,7 @@ pub record IsCheapestText (m : System) (text : List ℕ) : Type 0 where
   pub consistent : Bool
   pub verdict : IsTrue consistent ↔ IsConsistent m
   pub found : List code.Diagnosis
-  pub cheapest : AreCheapest m found
+  pub cheapest : AreShownCheapest m found
   pub price : Option ℕ
   pub price_is : IsLeastCost m price
   pub stop : ℕ
