@@ -1,13 +1,14 @@
 -- The cheapest pairs are shown, and all is told.
 use Rattle.std.proofs.Common.{◌≡◌, ℕ, zero, suc, ◌+◌, ◌-◌, ◌<◌, ◌≤◌, max, false, List, [], ◌∷◌, ◌++◌, map, take, length, get_or, Option, Some, sym, ap, ◌∙◌, subst, append_assoc, arith}
-use Rattle.std.proofs.lemmas.List.{map-append, take_more}
+use Rattle.std.proofs.lemmas.List.{map-append}
 use Rattle.std.specs.List.{AllByRecursion}
 use Rattle.mcs_sets.specs.Orders.{PairBefore}
 use Rattle.mcs_sets.specs.Sets.{size}
 use Rattle.mcs_base.specs.Listings.{IsAmong, IsListing}
-use Rattle.mcs_base.proofs.Among.{among_at}
-use Rattle.mcs_base.proofs.Each.{all_among}
+use Rattle.mcs_base.proofs.Among.{among_get}
 use Rattle.mcs_base.proofs.ListingLemmas.{IsListing-same}
+use Rattle.mcs_base.proofs.Lists.{slice_get_read_as}
+use Rattle.mcs_base.proofs.Written.{take_read}
 use Rattle.mcs_system.specs.Levels.{IsCount}
 use Rattle.mcs_system.specs.Plain.{System}
 use Rattle.mcs_system.specs.Repairs.{IsDiagnosis}
@@ -24,17 +25,13 @@ use Rattle.mcs_cheapest.specs.Searching.{CostsLeast, HasStopped, HasTakenEnough,
 use Rattle.mcs_cheapest.proofs.CountLemmas.{settled_count}
 use Rattle.mcs_cheapest.proofs.EndLemmas.{cheapest_told, least_cost_told, some_taken, stops_last}
 
--- what holds of each pair holds of one that is read
-pub at_read : (P : ℕ → Type 0) (xs : List ℕ) (i x p : ℕ) → i < length xs → x ≡ get_or xs i x → p ≡ x → AllByRecursion P xs → P p
-at_read P xs i x p less is same all = subst P (sym (same ∙ is)) (all_among P xs (get_or xs i x) all (among_at xs i x less))
-
 pub read_among : (xs ys : List ℕ) (i x p : ℕ) → ys ≡ xs → i < length ys → x ≡ get_or ys i x → p ≡ x → IsAmong p xs
-read_among xs ys i x p same less is made = subst (IsAmong p) same (subst (λ (y : ℕ). IsAmong y ys) (sym (made ∙ is)) (among_at ys i x less))
+read_among xs ys i x p same less is made = subst (λ (y : ℕ). IsAmong y xs) (sym made) (among_get x xs i (slice_get_read_as xs ys i x same less is))
 
 -- the costs of a pair more
 pub costs_more : (f : ℕ → ℕ) (before xs : List ℕ) (i x n : ℕ) → i < length xs → x ≡ get_or xs i x → n ≡ f x → map f (before ++ take (i + 1) xs) ≡ map f (before ++ take i xs) ++ n ∷ []
 costs_more f before xs i x n less is same =
-    ap (λ ys. map f (before ++ ys)) (take_more xs i x less ∙ ap (λ (y : ℕ). take i xs ++ y ∷ []) (sym is))
+    ap (λ ys. map f (before ++ ys)) (take_read xs i x less is)
     ∙ ap (map f) (sym (append_assoc before (take i xs) (x ∷ [])))
     ∙ map-append f (before ++ take i xs) (x ∷ [])
     ∙ ap (λ (y : ℕ). map f (before ++ take i xs) ++ y ∷ []) (sym same)
@@ -42,7 +39,7 @@ costs_more f before xs i x n less is same =
 -- ---- one more is shown
 pub shown_more : (ds : List shown.Diagnosis) (xs : List ℕ) (i x : ℕ) (d : shown.Diagnosis) → i < length xs → x ≡ get_or xs i x → d.pair ≡ x → pairs_of ds ≡ take i xs → pairs_of (ds ++ d ∷ []) ≡ take (i + 1) xs
 shown_more ds xs i x d less is same so_far =
-    map-append (λ (d : shown.Diagnosis). d.pair) ds (d ∷ []) ∙ ap (λ ps. ps ++ d.pair ∷ []) so_far ∙ ap (λ p. take i xs ++ p ∷ []) (same ∙ is) ∙ sym (take_more xs i x less)
+    map-append (λ (d : shown.Diagnosis). d.pair) ds (d ∷ []) ∙ ap (λ ps. ps ++ d.pair ∷ []) so_far ∙ ap (λ p. take i xs ++ p ∷ []) same ∙ sym (take_read xs i x less is)
 
 -- a level that is no greater than the one done leaves this as it is
 pub done_still : (a b : EvaluatorState) (done level : ℕ) → a.done ≡ Some done → level ≤ done → b.done ≡ raised a.done level → b.done ≡ Some done

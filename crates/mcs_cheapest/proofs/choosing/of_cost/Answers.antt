@@ -1,17 +1,17 @@
-use Rattle.std.proofs.Common.{◌≡◌, ◌∙◌, refl, sym, subst, List, ℕ}
+use Rattle.std.proofs.Common.{◌≡◌, ◌∙◌, sym, subst, List, ℕ}
 use Rattle.std.proofs.lemmas.List.{take_all}
 use Rattle.mcs_sets.specs.Orders.{PairBefore}
 use Rattle.mcs_sets.specs.Sets.{Within}
 use Rattle.mcs_base.specs.Listings.{IsAmong, IsListing}
+use Rattle.mcs_base.proofs.Each.{all_read}
 use Rattle.mcs_base.proofs.ListingLemmas.{kept_more, left_out}
 use Rattle.mcs_system.specs.Repairs.{all_marks}
 use Rattle.mcs_costs.specs.Costs.{cost}
-use Rattle.mcs_cheapest.proofs.FoundLemmas.{at_read}
 use Rattle.mcs_cheapest.proofs.choosing.of_cost.Goals.{then-cost-price+in_ok-push, else-cost-price}
 use Rattle.mcs_cheapest.proofs.choosing.of_cost.Goals as goal
 
 pub cost-requires : goal.cost-requires
-cost-requires c = at_read (λ p. Within p (all_marks c.args.system.now)) c.args.pairs.now c.loop-marks.marks-index c.marks-item.result c.marks-item.result c.loop-marks-test.true c.marks-item.is refl c.requires.marks
+cost-requires c = all_read (λ p. Within p (all_marks c.args.system.now)) c.args.pairs.now c.loop-marks.marks-index c.marks-item.result c.loop-marks-test.true c.marks-item.is c.requires.marks
 
 pub loop-marks-preserved : goal.loop-marks-preserved
 loop-marks-preserved c =
