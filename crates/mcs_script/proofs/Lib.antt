@@ -1,0 +1,13 @@
+pub mod CountLemmas
+pub mod DraftLemmas
+pub mod EditSpans
+pub mod EditTokens
+pub mod FoundLemmas
+pub mod OneReading
+pub mod OneRule
+pub mod OneScript
+pub mod Periods
+pub mod ScriptLemmas
+pub mod ShareLemmas
+pub mod ValidAgain
+pub mod WorkedEdits

@@ -1,0 +1,10 @@
+pub mod Drafts
+pub mod Edits
+pub mod Fitting
+pub mod Found
+pub mod Laws
+pub mod Reading
+pub mod Scripts
+pub mod Seen
+pub mod Told
+pub mod Worked
