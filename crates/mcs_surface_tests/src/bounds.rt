@@ -1,7 +1,8 @@
 //! Systems at the bounds of what is evaluated.
 
 use crate::made::{Rows, text_of};
-use crate::runs::{JOB, Made, SOUND, all_made_end, made_ends, sink_of, status_with};
+use crate::runs::{Files, JOB, SOUND, sink_of, status_with};
+use crate::tables::{Made, all_made_end, made_ends};
 use mcs_ports::IdleGate;
 use std::alloc::Global;
 use std::sync::Wait;
@@ -131,9 +132,9 @@ fn are_all_sets_listed<R: Threads + Wait + Sync>(rt: &R, alloc: Global) -> bool 
     let Ok(mut sink) = sink_of(alloc, &SOUND) else {
         return false;
     };
-    let files: [(&str, &[u8]); 1] = [("f", EIGHT_FREE.as_bytes())];
-    let status = status_with(rt, alloc, JOB, &files, &SOUND, &mut sink, &IdleGate);
-    let are_listed = status == Some(0) && sink.noted().is_empty() && are_all_sets(sink.written());
+    let files: Files<'_> = (EIGHT_FREE.as_bytes(), b"");
+    let status = status_with(rt, alloc, JOB, files, &SOUND, &mut sink, &IdleGate);
+    let are_listed = status == 0 && sink.noted().is_empty() && are_all_sets(sink.written());
     drop(sink);
     are_listed
 }

@@ -1,6 +1,7 @@
 //! Runs within a budget of questions.
 
-use crate::runs::{Run, SELF_ATTACK, SELF_DENIAL, all_end};
+use crate::runs::{SELF_ATTACK, SELF_DENIAL};
+use crate::tables::{Run, all_end};
 
 /// Two contexts of which each is asked twice.
 const CHOICE: &str =

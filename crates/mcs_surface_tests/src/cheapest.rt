@@ -1,10 +1,10 @@
 //! Cheapest diagnoses: systems by their texts, and their listings, also by a report.
 
 use crate::made::{Rows, text_of};
-use crate::reports::{TOLD, TOLD_REPORT};
-use crate::runs::{End, Run, SELF_DENIAL, SELF_SUPPORT, SOUND, all_end, ends, ends_with};
+use crate::reports::{TOLD, TOLD_LISTING, TOLD_REPORT};
+use crate::runs::{End, SELF_DENIAL, SELF_SUPPORT, ends};
+use crate::tables::{Run, all_end};
 use mcs_base::Memory;
-use mcs_ports::IdleGate;
 use std::alloc::Global;
 use std::sync::Wait;
 use std::thread::Threads;
@@ -12,10 +12,6 @@ use std::thread::Threads;
 /// Of the diagnoses with the fewest marks one costs 5; one with two marks costs 2.
 const DEAR: &str =
     "version 2.\ncontext c1 program { a. }\ncontext c2 program { :- p, not s. :- q, not s. }\nbridge r1: c2:p if c1:a.\nbridge r2: c2:q if not c1:b.\nbridge r3 weight 5: c2:s if c1:b.\n";
-
-/// The rule of `TOLD` is removed.
-pub const TOLD_LISTING: &str =
-    "mcs 1: 2 contexts, 1 rules, 1 variables\ninconsistent\ncheapest 1: {-r1} cost 1 state {c1:a} active {}\nend: 1 cheapest, cost 1, need 3\n";
 
 pub static RUNS: [Run; 12] = [
     // To remove the rule costs as much as to force it.
@@ -152,7 +148,13 @@ fn are_listed<R: Threads + Wait + Sync>(
     let (Ok(text), Ok(due)) = (text_of(alloc, rows), text_of(alloc, listing)) else {
         return false;
     };
-    let is_right = ends(rt, alloc, "cheapest f", text.bytes(), (0, due.bytes(), ""));
+    let is_right = ends(
+        rt,
+        alloc,
+        "cheapest f",
+        (text.bytes(), b""),
+        (0, due.bytes(), ""),
+    );
     drop((text, due));
     is_right
 }
@@ -200,8 +202,7 @@ fn reported<R: Threads + Wait + Sync>(
     report: &[u8],
     end: End<'_>,
 ) -> bool {
-    let files = [("f", TOLD.as_bytes()), ("r", report)];
-    ends_with(rt, alloc, words, &files, &SOUND, &IdleGate, end)
+    ends(rt, alloc, words, (TOLD.as_bytes(), report), end)
 }
 
 /// By a report the listing is the same, whatever the budget and the workers.
@@ -243,7 +244,15 @@ fn a_report_that_fails_a_test_gives_no_listing(rt: HostRuntime) {
 #[test]
 fn a_report_that_is_not_there_is_a_read_fault(rt: HostRuntime) {
     let unread: End<'_> = (5, b"", "mcs: read fault\n");
-    assert!(rt; ends(&rt, rt.alloc(), "cheapest f r", TOLD.as_bytes(), unread));
+    assert!(rt;
+        ends(
+            &rt,
+            rt.alloc(),
+            "cheapest f x",
+            (TOLD.as_bytes(), b""),
+            unread
+        )
+    );
     let refused: End<'_> = (3, b"", "mcs: refused: F1 at 0\n");
-    assert!(rt; ends(&rt, rt.alloc(), "cheapest f r", b"}", refused));
+    assert!(rt; ends(&rt, rt.alloc(), "cheapest f x", (b"}", b""), refused));
 }

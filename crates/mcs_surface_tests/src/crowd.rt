@@ -1,6 +1,6 @@
 //! Runs in which several threads ask the same context at once.
 
-use crate::runs::{SOUND, ends_with};
+use crate::runs::{Files, SOUND, ends_with};
 use crate::workers::are_same;
 use mcs_ports::Gate;
 use std::alloc::Global;
@@ -58,9 +58,9 @@ fn is_crowded<R: Threads + Wait + Sync>(
         seen: AtomicBool::new(false),
         turns,
     };
-    let files: [(&str, &[u8]); 1] = [("f", EIGHT.as_bytes())];
+    let files: Files<'_> = (EIGHT.as_bytes(), b"");
     let end = (0, EIGHT_LISTING.as_bytes(), "");
-    let is_listed = ends_with(rt, alloc, words, &files, &SOUND, &gate, end);
+    let is_listed = ends_with(rt, alloc, words, files, &SOUND, &gate, end);
     is_listed.then_some(gate.seen.load(Ordering::SeqCst))
 }
 

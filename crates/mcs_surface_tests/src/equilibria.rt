@@ -1,6 +1,7 @@
 //! Systems by their texts, and their listings.
 
-use crate::runs::{JOB, Listed, SELF_ATTACK, SELF_SUPPORT, SELF_SUPPORT_LISTING, all_given};
+use crate::runs::{JOB, SELF_ATTACK, SELF_SUPPORT, SELF_SUPPORT_LISTING};
+use crate::tables::{Listed, all_given};
 
 pub(crate) static LISTINGS: [Listed; 9] = [
     // A context without a model believes everything.

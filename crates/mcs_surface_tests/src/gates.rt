@@ -1,6 +1,6 @@
 //! What a gate is told of the questions of a run.
 
-use crate::runs::{SOUND, sink_of, status_with};
+use crate::runs::{Files, SOUND, sink_of, status_with};
 use mcs_ports::Gate;
 use std::alloc::Global;
 use std::sync::Wait;
@@ -57,10 +57,10 @@ fn is_called<R: Threads + Wait + Sync>(
         second: AtomicU64::new(0),
         other: AtomicU64::new(0),
     };
-    let files: [(&str, &[u8]); 1] = [("f", FORBIDDEN.as_bytes())];
-    let ended = status_with(rt, alloc, words, &files, &SOUND, &mut sink, &gate);
+    let files: Files<'_> = (FORBIDDEN.as_bytes(), b"");
+    let ended = status_with(rt, alloc, words, files, &SOUND, &mut sink, &gate);
     drop(sink);
-    ended == Some(status) && gate.are(counted)
+    ended == status && gate.are(counted)
 }
 
 /// Words, the status with which they end, and the questions. Where the budget does not suffice for

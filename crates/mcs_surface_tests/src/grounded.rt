@@ -1,6 +1,7 @@
 //! Grounded equilibria: systems by their texts, and their listings.
 
-use crate::runs::{Run, SELF_ATTACK, SELF_SUPPORT, all_end};
+use crate::runs::{SELF_ATTACK, SELF_SUPPORT};
+use crate::tables::{Run, all_end};
 
 pub static RUNS: [Run; 14] = [
     // A rule that supports itself.

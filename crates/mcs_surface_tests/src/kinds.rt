@@ -1,6 +1,7 @@
 //! Default theories and programs by their texts, and their listings.
 
-use crate::runs::{JOB, Listed, all_given};
+use crate::runs::JOB;
+use crate::tables::{Listed, all_given};
 
 static LISTINGS: [Listed; 20] = [
     // Two extensions.

@@ -1,29 +1,33 @@
 //! Files at the greatest length.
 
-use crate::devices::EMPTY_LISTING;
-use crate::runs::{End, ends};
-use std::alloc::Global;
-use std::sync::Wait;
-use std::thread::Threads;
+use crate::devices::{EMPTY_LISTING, Job};
 
-/// Whether a file of as many spaces ends so.
-fn spaces_end<R: Threads + Wait + Sync>(rt: &R, alloc: Global, count: usize, end: End<'_>) -> bool {
-    let Ok(spaces) = vec![in alloc; b' '; count] else {
-        return false;
-    };
-    ends(rt, alloc, "solve f", &spaces, end)
-}
+/// A file of so many spaces is taken.
+static LONGEST: Job = Job {
+    words: "solve f",
+    spaces: 1_048_576,
+    text: "",
+    report: "",
+    calls: 258,
+    writes: 5,
+    most: 4096,
+    end: (0, EMPTY_LISTING, ""),
+};
 
-/// How many spaces there are, and how the run ends.
-static SPACES: [(usize, u8, &str, &str); 2] = [
-    (1_048_576, 0, EMPTY_LISTING, ""),
-    (1_048_577, 3, "", "mcs: refused: file longer than 1048576\n"),
-];
+/// One of one more is refused.
+static TOO_LONG: Job = Job {
+    words: "solve f",
+    spaces: 1_048_577,
+    text: "",
+    report: "",
+    calls: 257,
+    writes: 0,
+    most: 4096,
+    end: (3, "", "mcs: refused: file longer than 1048576\n"),
+};
 
 #[test]
 fn files_are_taken_up_to_a_length(rt: HostRuntime) {
-    for (count, status, written, noted) in &SPACES {
-        let end = (*status, written.as_bytes(), *noted);
-        assert!(rt; spaces_end(&rt, rt.alloc(), *count, end));
-    }
+    assert!(rt; LONGEST.is_done(&rt, rt.alloc(), (0, 0)));
+    assert!(rt; TOO_LONG.is_done(&rt, rt.alloc(), (0, 0)));
 }

@@ -42,6 +42,8 @@ mod solutions;
 #[cfg(test)]
 mod statuses;
 #[cfg(test)]
+mod tables;
+#[cfg(test)]
 mod usage;
 #[cfg(test)]
 mod wards;

@@ -1,6 +1,6 @@
 //! Generated systems, in runs of `make`.
 
-use crate::runs::{Run, all_end};
+use crate::tables::{Run, all_end};
 
 /// What is made, and what is printed for it.
 static MADE: [Run; 3] = [

@@ -1,7 +1,8 @@
 //! Runs of the whole program, from the words that a system gives.
 
-use crate::runs::{End, SELF_SUPPORT, SELF_SUPPORT_LISTING, SOUND, shelf_of, sink_of, words_of};
-use mcs_base::Memory;
+use crate::runs::{
+    End, SELF_SUPPORT, SELF_SUPPORT_LISTING, SOUND, has_taken, shelf_of, sink_of, words_of,
+};
 use mcs_ports::{IdleGate, MemorySink};
 use mcs_top::run_program;
 use std::alloc::Global;
@@ -17,10 +18,10 @@ enum Given {
 
 impl Given {
     /// It, as the program takes it.
-    fn words(&self, alloc: Global) -> Result<io::Result<env::Args>, Memory> {
+    fn words(&self, alloc: Global) -> io::Result<env::Args> {
         match self {
-            Given::Line(line) => Ok(Ok(words_of(alloc, line)?.into_iter())),
-            Given::Error(kind) => Ok(Err(io::Error::from(*kind))),
+            Given::Line(line) => Ok(words_of(alloc, line).into_iter()),
+            Given::Error(kind) => Err(io::Error::from(*kind)),
         }
     }
 }
@@ -31,15 +32,10 @@ fn number_of<R: Threads + Wait + Sync>(
     alloc: Global,
     given: &Given,
     sink: &mut MemorySink,
-) -> Option<u8> {
-    let files: [(&str, &[u8]); 1] = [("f", SELF_SUPPORT.as_bytes())];
-    let Ok(mut shelf) = shelf_of(alloc, &files, &SOUND) else {
-        return None;
-    };
-    let number = match given.words(alloc) {
-        Ok(words) => Some(run_program(rt, alloc, words, &mut shelf, sink, &IdleGate)),
-        Err(_) => None,
-    };
+) -> u8 {
+    let mut shelf = shelf_of(alloc, (SELF_SUPPORT.as_bytes(), b""), &SOUND);
+    let words = given.words(alloc);
+    let number = run_program(rt, alloc, words, &mut shelf, sink, &IdleGate);
     drop(shelf);
     number
 }
@@ -55,9 +51,7 @@ fn is_run<R: Threads + Wait + Sync>(
         return false;
     };
     let ended = number_of(rt, alloc, given, &mut sink);
-    let is_right = ended == Some(number)
-        && sink.written() == written
-        && sink.noted() == noted.as_bytes();
+    let is_right = (ended == number) & has_taken(&sink, written, noted);
     drop(sink);
     is_right
 }

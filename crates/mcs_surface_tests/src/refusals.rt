@@ -1,7 +1,8 @@
 //! Texts that are refused, and what is noted of them.
 
 use crate::made::Rows;
-use crate::runs::{Made, Run, SELF_SUPPORT, all_end, all_made_end};
+use crate::runs::SELF_SUPPORT;
+use crate::tables::{Made, Run, all_end, all_made_end};
 
 static REFUSALS: [Run; 7] = [
     Run {
@@ -41,14 +42,14 @@ static REFUSALS: [Run; 7] = [
     },
     // The file is read before its report, which is not there.
     Run {
-        words: "check f r",
+        words: "check f x",
         text: "context",
         status: 3,
         written: "",
         noted: "mcs: refused: F1 at 7\n",
     },
     Run {
-        words: "check f r",
+        words: "check f x",
         text: SELF_SUPPORT,
         status: 5,
         written: "",

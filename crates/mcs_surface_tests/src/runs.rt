@@ -1,11 +1,9 @@
 //! Runs over devices in memory, which may break.
 
-use crate::made::{Rows, text_of};
-use mcs_base::Memory;
+use mcs_base::{Memory, Text};
 use mcs_ports::{Gate, IdleGate, MemoryShelf, MemorySink};
 use mcs_top::{Trail, run};
 use std::alloc::Global;
-use std::slice;
 use std::sync::Wait;
 use std::thread::Threads;
 
@@ -43,43 +41,48 @@ pub static SOUND: Devices = Devices {
     most: ROOM,
 };
 
-/// Files by their names.
-pub type Files<'a> = &'a [(&'a str, &'a [u8])];
+/// The bytes of the file `f`, which has the text of a system, and of the file `r`, a report.
+pub type Files<'a> = (&'a [u8], &'a [u8]);
 
 /// How a run ends: the status, what is written, and what is noted.
 pub type End<'a> = (u8, &'a [u8], &'a str);
 
+// Words, files and what is told are put together without a test for memory: a run that lacks a part
+// of them ends otherwise than it should.
+
 /// The words of the line, between two of which stands one space. An empty line has none.
-pub fn words_of(alloc: Global, line: &str) -> Result<Vec<String>, Memory> {
+pub fn words_of(alloc: Global, line: &str) -> Vec<String> {
     let mut words = Vec::new(alloc);
     if line.is_empty() {
-        return Ok(words);
+        return words;
     }
     for word in line.split(' ') {
-        words.push(String::from_str(alloc, word)?)?;
+        let _pushed = words.push(String::from_str(alloc, word).unwrap_or(String::new(alloc)));
     }
-    Ok(words)
+    words
 }
 
 /// A file of this name.
-fn file_of(alloc: Global, name: &str, bytes: &[u8]) -> Result<(String, Vec<u8>), Memory> {
-    let bytes = Vec::from_slice(alloc, bytes)?;
-    Ok((String::from_str(alloc, name)?, bytes))
+fn file_of(alloc: Global, name: &str, bytes: &[u8]) -> (String, Vec<u8>) {
+    (
+        String::from_str(alloc, name).unwrap_or(String::new(alloc)),
+        Vec::from_slice(alloc, bytes).unwrap_or(Vec::new(alloc)),
+    )
 }
 
 /// A shelf with these files, on which one call fails.
-pub fn shelf_of(alloc: Global, files: Files<'_>, devices: &Devices) -> Result<MemoryShelf, Memory> {
-    let mut kept = Vec::new(alloc);
-    for (name, bytes) in files {
-        kept.push(file_of(alloc, name, bytes)?)?;
-    }
-    let fails = slice::from_ref(&devices.failing_call).to_vec(alloc)?;
-    Ok(MemoryShelf::new(kept, fails))
+pub fn shelf_of(alloc: Global, (text, report): Files<'_>, devices: &Devices) -> MemoryShelf {
+    let mut files = Vec::new(alloc);
+    let mut fails = Vec::new(alloc);
+    let _text = files.push(file_of(alloc, "f", text));
+    let _report = files.push(file_of(alloc, "r", report));
+    let _call = fails.push(devices.failing_call);
+    MemoryShelf::new(files, fails)
 }
 
 /// A sink with room for each listing.
 pub fn sink_of(alloc: Global, devices: &Devices) -> Result<MemorySink, Memory> {
-    let fails = slice::from_ref(&devices.failing_write).to_vec(alloc)?;
+    let fails = vec![in alloc; devices.failing_write]?;
     MemorySink::new(alloc, fails, devices.most.max(1), ROOM)
 }
 
@@ -93,19 +96,13 @@ pub fn run_with<G: Gate + Sync, R: Threads + Wait + Sync>(
     devices: &Devices,
     sink: &mut MemorySink,
     gate: &G,
-) -> Result<(u8, Trail), Memory> {
-    let words = words_of(alloc, words)?;
-    match shelf_of(alloc, files, devices) {
-        Ok(mut shelf) => {
-            let (status, trail) = run(rt, alloc, &words, &mut shelf, sink, gate);
-            drop((words, shelf));
-            Ok((status.number(), trail))
-        }
-        Err(want) => {
-            drop(words);
-            Err(want)
-        }
-    }
+) -> (u8, Trail) {
+    let words = words_of(alloc, words);
+    let mut shelf = shelf_of(alloc, files, devices);
+    let (status, trail) = run(rt, alloc, &words, &mut shelf, sink, gate);
+    drop(words);
+    drop(shelf);
+    (status.number(), trail)
 }
 
 /// What the words give over these files and devices, with a gate before each question: the status
@@ -118,12 +115,15 @@ pub fn status_with<G: Gate + Sync, R: Threads + Wait + Sync>(
     devices: &Devices,
     sink: &mut MemorySink,
     gate: &G,
-) -> Option<u8> {
-    let Ok((status, trail)) = run_with(rt, alloc, words, files, devices, sink, gate) else {
-        return None;
-    };
+) -> u8 {
+    let (status, trail) = run_with(rt, alloc, words, files, devices, sink, gate);
     drop(trail);
-    Some(status)
+    status
+}
+
+/// Whether this is what was written and noted.
+pub fn has_taken(sink: &MemorySink, written: &[u8], noted: &str) -> bool {
+    (sink.written(), sink.noted()) == (written, noted.as_bytes())
 }
 
 /// Whether the words end so over these files and devices, with a gate before each question.
@@ -140,110 +140,38 @@ pub fn ends_with<G: Gate + Sync, R: Threads + Wait + Sync>(
         return false;
     };
     let ended = status_with(rt, alloc, words, files, devices, &mut sink, gate);
-    let is_right = ended == Some(status)
-        && sink.written() == written
-        && sink.noted() == noted.as_bytes();
+    let is_right = (ended == status) & has_taken(&sink, written, noted);
     drop(sink);
     is_right
 }
 
-/// Whether the words end so over a file `f` of this text and a file `r` of this report.
-pub fn ends_over<R: Threads + Wait + Sync>(
-    rt: &R,
-    alloc: Global,
-    words: &str,
-    text: &[u8],
-    report: &[u8],
-    devices: &Devices,
-    end: End<'_>,
-) -> bool {
-    let files = [("f", text), ("r", report)];
-    ends_with(rt, alloc, words, &files, devices, &IdleGate, end)
-}
-
-/// Whether the words end so over a file `f` of this text.
+/// Whether the words end so over these files.
 pub fn ends<R: Threads + Wait + Sync>(
     rt: &R,
     alloc: Global,
     words: &str,
-    text: &[u8],
+    files: Files<'_>,
     end: End<'_>,
 ) -> bool {
-    ends_with(rt, alloc, words, &[("f", text)], &SOUND, &IdleGate, end)
+    ends_with(rt, alloc, words, files, &SOUND, &IdleGate, end)
 }
 
-/// Whether the equilibria of a file of these rows end so.
-pub fn made_ends<R: Threads + Wait + Sync>(
-    rt: &R,
-    alloc: Global,
-    rows: &[Rows],
-    end: End<'_>,
-) -> bool {
-    let Ok(text) = text_of(alloc, rows) else {
-        return false;
-    };
-    let is_right = ends(rt, alloc, JOB, text.bytes(), end);
-    drop(text);
-    is_right
-}
-
-/// Rows of a text, and how a run over it ends that asks for its equilibria.
-pub struct Made {
-    pub rows: &'static [Rows],
-    pub status: u8,
-    pub written: &'static str,
-    pub noted: &'static str,
-}
-
-/// Whether each ends so.
-pub fn all_made_end<R: Threads + Wait + Sync>(rt: &R, alloc: Global, all: &[Made]) -> bool {
-    for made in all {
-        let end = (made.status, made.written.as_bytes(), made.noted);
-        if !made_ends(rt, alloc, made.rows, end) {
-            return false;
-        }
-    }
-    true
-}
-
-/// Words over a file `f` of this text, and how the run ends.
-pub struct Run {
-    pub words: &'static str,
-    pub text: &'static str,
-    pub status: u8,
-    pub written: &'static str,
-    pub noted: &'static str,
-}
-
-/// Whether each run ends so.
-pub fn all_end<R: Threads + Wait + Sync>(rt: &R, alloc: Global, runs: &[Run]) -> bool {
-    for run in runs {
-        let end = (run.status, run.written.as_bytes(), run.noted);
-        if !ends(rt, alloc, run.words, run.text.as_bytes(), end) {
-            return false;
-        }
-    }
-    true
-}
-
-/// The text of a system, and its whole listing.
-pub struct Listed {
-    pub text: &'static str,
-    pub listing: &'static str,
-}
-
-/// Whether the words give each listing of its text, and nothing is noted.
-pub fn all_given<R: Threads + Wait + Sync>(
+/// Tells how the words end over these files: the status, and after a space what is written and
+/// noted.
+pub fn tell<R: Threads + Wait + Sync>(
     rt: &R,
     alloc: Global,
     words: &str,
-    listings: &[Listed],
-) -> bool {
-    for listed in listings {
-        let end = (0, listed.listing.as_bytes(), "");
-        if !ends(rt, alloc, words, listed.text.as_bytes(), end) {
-            return false;
-        }
-    }
-    true
+    files: Files<'_>,
+    told: &mut Text,
+) {
+    let Ok(mut sink) = sink_of(alloc, &SOUND) else {
+        return;
+    };
+    let status = status_with(rt, alloc, words, files, &SOUND, &mut sink, &IdleGate);
+    let _status = told.push_number(status as u64);
+    let _space = told.push(b" ");
+    let _written = told.push(sink.written());
+    let _noted = told.push(sink.noted());
+    drop(sink);
 }

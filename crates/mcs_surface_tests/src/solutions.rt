@@ -1,6 +1,6 @@
 //! The equilibria, diagnoses and explanations of systems by their texts, in runs of `solve`.
 
-use crate::runs::{Listed, all_given};
+use crate::tables::{Listed, all_given};
 
 /// The words that ask for the whole listing of the file `f`.
 const SOLVE: &str = "solve f";

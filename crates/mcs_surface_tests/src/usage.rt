@@ -8,7 +8,7 @@ use std::thread::Threads;
 /// Whether the words of each line end so over a file `f`.
 fn all_end<R: Threads + Wait + Sync>(rt: &R, alloc: Global, lines: &str, end: End<'_>) -> bool {
     for words in lines.split('\n') {
-        if !ends(rt, alloc, words, SELF_SUPPORT.as_bytes(), end) {
+        if !ends(rt, alloc, words, (SELF_SUPPORT.as_bytes(), b""), end) {
             return false;
         }
     }

@@ -56,10 +56,7 @@ fn is_told(alloc: Global, job: &Job, wanted: &str) -> bool {
 
 /// The job that the words of the line ask for.
 fn job_of(alloc: Global, line: &str) -> Result<Job, WordsFault> {
-    let Ok(words) = words_of(alloc, line) else {
-        return Err(WordsFault::Memory);
-    };
-    read_words(alloc, &words)
+    read_words(alloc, &words_of(alloc, line))
 }
 
 /// Whether the words of the line ask for the job that is told so.

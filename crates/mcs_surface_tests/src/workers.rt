@@ -3,7 +3,8 @@
 
 use crate::budgets::{RUNS, TOLD};
 use crate::gates::FORBIDDEN;
-use crate::runs::{End, JOB, Listed, Run, SOUND, ends_with, run_with, sink_of, status_with};
+use crate::runs::{End, Files, JOB, SOUND, ends_with, run_with, sink_of, status_with};
+use crate::tables::{Listed, Run};
 use crate::{cheapest, equilibria, grounded, solutions};
 use mcs_base::Memory;
 use mcs_ports::{Gate, IdleGate};
@@ -44,8 +45,8 @@ fn is_same<R: Threads + Wait + Sync>(
     let gate = Spins {
         seed: AtomicU64::new(workers as u64),
     };
-    let files: [(&str, &[u8]); 1] = [("f", text.as_bytes())];
-    let is_same = ends_with(rt, alloc, words.as_str(), &files, &SOUND, &gate, end);
+    let files: Files<'_> = (text.as_bytes(), b"");
+    let is_same = ends_with(rt, alloc, words.as_str(), files, &SOUND, &gate, end);
     drop(words);
     Ok(is_same)
 }
@@ -122,11 +123,8 @@ fn are_words_same<R: Threads + Wait + Sync>(rt: &R, alloc: Global, words: &str) 
     let Ok(mut sink) = sink_of(alloc, &SOUND) else {
         return false;
     };
-    let status = status_with(rt, alloc, words, &[], &SOUND, &mut sink, &IdleGate);
-    let is_same = match status {
-        Some(status) => are_same(rt, alloc, words, "", (status, sink.written(), "")),
-        None => false,
-    };
+    let status = status_with(rt, alloc, words, (b"", b""), &SOUND, &mut sink, &IdleGate);
+    let is_same = are_same(rt, alloc, words, "", (status, sink.written(), ""));
     drop(sink);
     is_same
 }
@@ -252,10 +250,10 @@ fn trail_of<R: Threads + Wait + Sync>(
     text: &str,
 ) -> Result<(u8, Trail), Memory> {
     let mut sink = sink_of(alloc, &SOUND)?;
-    let files: [(&str, &[u8]); 1] = [("f", text.as_bytes())];
-    let given = run_with(rt, alloc, words, &files, &SOUND, &mut sink, &IdleGate);
+    let files: Files<'_> = (text.as_bytes(), b"");
+    let given = run_with(rt, alloc, words, files, &SOUND, &mut sink, &IdleGate);
     drop(sink);
-    given
+    Ok(given)
 }
 
 impl Traced {
@@ -330,9 +328,9 @@ fn met<R: Threads + Wait + Sync>(rt: &R, alloc: Global, words: &str, turns: u64)
         met: AtomicU64::new(0),
         turns,
     };
-    let files: [(&str, &[u8]); 1] = [("f", TWO.as_bytes())];
+    let files: Files<'_> = (TWO.as_bytes(), b"");
     let end = (0, TWO_LISTING.as_bytes(), "");
-    let is_listed = ends_with(rt, alloc, words, &files, &SOUND, &gate, end);
+    let is_listed = ends_with(rt, alloc, words, files, &SOUND, &gate, end);
     is_listed.then_some(gate.met.load(Ordering::SeqCst))
 }
 

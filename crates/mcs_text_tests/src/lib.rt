@@ -1,4 +1,4 @@
-//! Tests of mcs_system, mcs_tokens and mcs_language, over the libraries alone.
+//! Tests of mcs_system, mcs_tokens, mcs_language and mcs_script, over the libraries alone.
 #![tactic(auto)]
 
 #[cfg(test)]
@@ -17,6 +17,8 @@ mod names;
 mod rules;
 #[cfg(test)]
 mod same;
+#[cfg(test)]
+mod scripts;
 #[cfg(test)]
 mod systems;
 #[cfg(test)]
