@@ -1,5 +1,6 @@
 -- Which fault is told, by the tests in their order.
-use Rattle.std.proofs.Common.{◌≡◌, ℕ, ◌<◌, ◌≤◌, Bool, true, false, cond, ltb, List, [], ◌∷◌, ◌++◌, length, Option, Some, None, Result, Ok, Err, refl, sym, ap, ◌∙◌, inl, inr, arith}
+use Rattle.std.proofs.Common.{◌≡◌, ℕ, ◌<◌, ◌≤◌, Bool, true, false, cond, ltb, List, [], ◌∷◌, ◌++◌, length, Option, Some, None, Result, Ok, Err, refl, sym, ap, ◌∙◌, subst, inl, inr, arith}
+use Rattle.std.proofs.lemmas.List.{length-map}
 use Rattle.std.proofs.lemmas.Bool.Decides.{nat_tests}
 use Rattle.std.specs.Result.{IfErr, IsErrAnd}
 use Rattle.mcs_system.specs.declared.fault.BuildFault.{BuildFault}
@@ -11,7 +12,13 @@ use Rattle.mcs_system.specs.declared.limit.Limit.TheVariants.{Contexts, Bridges,
 use Rattle.mcs_system.specs.Plain.{System}
 use Rattle.mcs_system.specs.Systems.{variables}
 use Rattle.mcs_system.specs.Faults.{has_unknown_context, has_twin_names, has_misfits, exceeds, first_exceeded, limits, Fault, fault, limit_fault, fault_of, IsValid}
-use Rattle.mcs_system.specs.Built.{flaw_number, first_flaw, first_limits, variable_limits, last_limits, IsFaultOf, PassesFirst}
+use Rattle.mcs_system.specs.declared.bridge.Bridge as code_bridge
+use Rattle.mcs_system.specs.declared.parts.KnownReads.{KnownReads}
+use Rattle.mcs_system.specs.declared.build.Built as code_built
+use Rattle.mcs_system.specs.declared.knowledge.Context as code_context
+use Rattle.mcs_system.specs.Seen.{system_of}
+use Rattle.mcs_system.specs.Naming.{IsSystemNamed}
+use Rattle.mcs_system.specs.Built.{flaw_number, first_flaw, first_limits, variable_limits, last_limits, IsFaultOf, PassesFirst, PassesVariables, AreFewReads, IsBuiltOf, IsSystemOf, made_of}
 use Rattle.mcs_system.specs.Gathered.{IsLimitDue}
 use Rattle.mcs_system.proofs.ValidLemmas.{tests_pass, limit_kept}
 
@@ -127,3 +134,32 @@ due_told m limit exceeded e (Err d) stops told due = rw stops (at e due)
     at : (f : BuildFault) → IsLimitDue limit exceeded f → IsFaultOf m f
     at code.Memory due = tt
     at (code.Fault n l) (five, is, many) = rw (five, is) (told many)
+
+-- a fault that is handed on
+pub fault_handed : {T : Type 0} (here there : List code_context.Context) (bridges : List code_bridge.Bridge) (e : BuildFault) (r : Result T BuildFault) → IsErrAnd r (λ d. d ≡ e) → here ≡ there → IsFaultOf (system_of here bridges) e → IfErr r (IsFaultOf (system_of there bridges))
+fault_handed here there bridges e (Ok x) stops same told = tt
+fault_handed here there bridges e (Err d) stops same told = rw (stops, ← same) told
+
+pub few_reads : (m : System) (known : KnownReads) → AreFewReads m known → length (variables m) ≤ 64
+few_reads m known are = rw (← are.reads.variables_are, length-map) are.reads.few
+
+-- ---- what is built
+module _ (contexts : List code_context.Context) (bridges : List code_bridge.Bridge) (built : code_built.Built) (is : IsBuiltOf contexts bridges built) where
+  pub passes_built : PassesFirst (system_of contexts bridges) → PassesVariables (made_of built.contexts bridges)
+  passes_built first = record { first = subst (λ (cs : List code_context.Context). PassesFirst (system_of cs bridges)) (sym is.contexts_are) first; limited = is.gathered.limited }
+
+  pub system_built : IsValid (made_of built.contexts bridges) → IsSystemNamed (made_of built.contexts bridges) → IsSystemOf contexts bridges built
+  system_built valid named = record {
+    contexts_are = is.contexts_are;
+    kept = record {
+      valid = valid;
+      named = named;
+      own = is.own;
+      variables_are = is.gathered.variables_are;
+      parts_are = is.gathered.parts_are;
+      rules_are = is.gathered.rules_are;
+    };
+  }
+
+  pub system_built_valid : IsValid (system_of contexts bridges) → IsSystemNamed (system_of contexts bridges) → IsSystemOf contexts bridges built
+  system_built_valid valid named = system_built (subst (λ (cs : List code_context.Context). IsValid (system_of cs bridges)) (sym is.contexts_are) valid) (subst (λ (cs : List code_context.Context). IsSystemNamed (system_of cs bridges)) (sym is.contexts_are) named)

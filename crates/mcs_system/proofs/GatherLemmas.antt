@@ -84,6 +84,13 @@ module _ {A : Type 0} (limit : Limit) (same : A → A → Bool) where
   pub all_from_nothing : {T : Type 0} (found now xs all : List A) (x : T) → found ≡ [] → all ≡ gathered same [] xs → Gathers limit same found now xs (Ok x) → (now ≡ all) × (length now ≤ most limit)
   all_from_nothing found now xs all x none is g = (g.all ∙ ap (λ f. gathered same f xs) none ∙ sym is, g.within (rw none (omega arith)))
 
+  -- from what was found before
+  pub due_from_found : {T : Type 0} (found now xs all : List A) (r : Result T BuildFault) → all ≡ gathered same found xs → Gathers limit same found now xs r → IfErr r (IsLimitDue limit (most limit < length all))
+  due_from_found found now xs all r is g = rw is g.due
+
+  pub all_from_found : {T : Type 0} (found now xs all : List A) (x : T) → all ≡ gathered same found xs → Gathers limit same found now xs (Ok x) → now ≡ all
+  all_from_found found now xs all x is g = g.all ∙ sym is
+
   -- in a loop: once the rest is gathered, all are
   abbrev pub Goes : List A → List A → List A → List A → Type 0
   Goes found all mid rest = (last : List A) (r : Result (Unit {0}) BuildFault) → Gathers limit same mid last rest r → Gathers limit same found last all r

@@ -20,3 +20,7 @@ pub mod Deciding
 pub mod Tables
 pub mod Consequence
 pub mod Equality
+pub mod CountLemmas
+pub mod ValidAgain
+pub mod FewerRules
+pub mod KnownLemmas

@@ -15,7 +15,10 @@ use Rattle.mcs_system.specs.Rows.{inputs_of, is_read_into}
 use Rattle.mcs_system.specs.Imports.{rules_into}
 use Rattle.mcs_system.specs.Atoms.{atoms_of}
 use Rattle.mcs_system.specs.Faults.{exceeds}
-use Rattle.mcs_system.specs.Parts.{ContextPart, context_part, variables_among, variables_read, inputs_among, is_read_among, read_into}
+use Rattle.std.proofs.lemmas.Option.{slice_get-get_or}
+use Rattle.mcs_base.proofs.Lists.{same_image_at, length_same_images, slice_get-map_some}
+use Rattle.mcs_system.specs.declared.parts.RuleReads.{RuleReads}
+use Rattle.mcs_system.specs.Parts.{ContextPart, rule_part, rule_part_of, context_part, variables_among, variables_read, inputs_among, is_read_among, read_into}
 use Rattle.mcs_sets.proofs.Lattice.{has-if, union_assoc, union-none}
 use Rattle.mcs_base.proofs.Ranges.{some_from}
 
@@ -105,3 +108,10 @@ part_with a v n r = record { atoms = a; variables = v; inputs = n; rules = r }
 
 pub part_made : (m : System) (i : ℕ) (a : List Name) (v n r : ℕ) → a ≡ atoms_of m i → v ≡ variables_of m i → n ≡ inputs_of m i → r ≡ rules_into m i → part_with a v n r ≡ context_part m i
 part_made m i a v n r ea ev en er = ap (λ x. part_with x v n r) ea ∙ ap (λ x. part_with (atoms_of m i) x n r) ev ∙ ap (λ x. part_with (atoms_of m i) (variables_of m i) x r) en ∙ ap (λ x. part_with (atoms_of m i) (variables_of m i) (inputs_of m i) x) er
+
+-- what is kept of a rule, read from a list
+pub part_at : (vs : List Read) (reads : List RuleReads) (bs : List code.Bridge) (k : ℕ) (d : RuleReads) (b : code.Bridge) → map rule_part_of reads ≡ map (rule_part vs) (map bridge_of bs) → k < length bs → b ≡ get_or bs k b → rule_part_of (get_or reads k d) ≡ rule_part vs (bridge_of b)
+part_at vs reads bs k d b same less is = same_image_at rule_part_of (rule_part vs) reads (map bridge_of bs) k d (bridge_of b) same (slice_get-map_some bridge_of bs k b (slice_get-get_or bs k b less ∙ ap Some (sym is)))
+
+pub as_many_parts : (vs : List Read) (reads : List RuleReads) (bs : List code.Bridge) → map rule_part_of reads ≡ map (rule_part vs) (map bridge_of bs) → length reads ≡ length bs
+as_many_parts vs reads bs same = length_same_images rule_part_of (rule_part vs) reads (map bridge_of bs) same ∙ length-map bs bridge_of

@@ -19,4 +19,5 @@ pub mod Codes
 pub mod Gathered
 pub mod Parts
 pub mod Built
+pub mod Edits
 pub mod Unmarked

@@ -4,18 +4,20 @@
 ghost use Rattle.std.specs.Prelude.{◌≡◌, ◌<◌, ◌≤◌, List, map, length, IfOk, IfErr, [], ◌∷◌};
 ghost use Rattle.std.specs.List.{flat_map};
 ghost use Rattle.mcs_system.specs.declared.limit.Limit.TheVariants.{AtomsPerContext};
-ghost use Rattle.mcs_system.specs.Atoms.{item_atoms, rule_atoms, kb_atoms, atoms_of};
+ghost use Rattle.mcs_system.specs.Atoms.{item_atoms, rule_atoms, kb_atoms, first_names, atoms_of};
+ghost use Rattle.mcs_system.specs.Built.{AreOwnAtoms, IsOwnAtoms, made_of};
 ghost use Rattle.mcs_system.specs.Gathered.{GathersNames, IsLimitDue, head_atoms, belief_atoms};
 ghost use Rattle.mcs_system.specs.Logic.{is_in, atoms};
 ghost use Rattle.mcs_system.specs.Plain.{Name};
 ghost use Rattle.mcs_system.specs.Seen.{formula_of, rule_of, item_of, kb_of, read_of, bridge_of};
-ghost use Rattle.mcs_system.specs.Seen.{system_of};
 ghost use Rattle.mcs_system.specs.Systems.{variables};
 
 use crate::bridge::{Bridge, Read};
+use crate::copied::copy_each;
 use crate::fault::BuildFault;
 use crate::formula::Formula;
-use crate::knowledge::{Context, Kb, ProgRule, TheoryItem};
+use crate::knowledge::{Kb, ProgRule, TheoryItem};
+use crate::known::KnownContexts;
 use crate::limit::Limit;
 use crate::name::Name;
 use std::alloc::Global;
@@ -185,27 +187,39 @@ fn add_beliefs(
     Ok(())
 }
 
+/// The atoms of the items of a knowledge base, by first occurrence. Refuses if there are more than
+/// the limit.
+pub(crate) fn own_atoms(alloc: Global, kb: &Kb) -> Result<Vec<Name>, BuildFault>
+    ensures own { IfOk result (λ v. IsOwnAtoms (kb_of kb.now) v.items) }
+    ensures many { IfErr result (IsLimitDue AtomsPerContext
+        (64 < length (first_names (kb_atoms (kb_of kb.now))))) }
+{
+    let mut found = Vec::new(alloc);
+    kb.add_atoms(alloc, &mut found)?;
+    Ok(found)
+}
+
 /// The atoms of a context, by first occurrence: in its items, in the heads of the rules into it, in
 /// its variables. `known` are the variables of the system. Refuses if there are more atoms than the
 /// limit.
 pub(crate) fn atoms_of(
     alloc: Global,
-    contexts: &[Context],
+    contexts: &KnownContexts,
     bridges: &[Bridge],
     known: &[Read],
     context: u32,
 ) -> Result<Vec<Name>, BuildFault>
-    requires in_range { context < length contexts.now }
-    requires variables { map read_of known.now ≡ variables (system_of contexts.now bridges.now) }
+    requires in_range { context < length contexts.now.items.items }
+    requires own { AreOwnAtoms contexts.now.items.items contexts.now.atoms.items }
+    requires variables { map read_of known.now ≡ variables (made_of contexts.now bridges.now) }
     ensures atoms { IfOk result (λ v. v.items
-        ≡ atoms_of (system_of contexts.now bridges.now) context) }
+        ≡ atoms_of (made_of contexts.now bridges.now) context) }
     ensures few { IfOk result (λ v. length v.items ≤ 64) }
     ensures many { IfErr result
         (IsLimitDue AtomsPerContext (64 < length (atoms_of
-        (system_of contexts.now bridges.now) context))) }
+        (made_of contexts.now bridges.now) context))) }
 {
-    let mut found = Vec::new(alloc);
-    contexts[context as usize].kb.add_atoms(alloc, &mut found)?;
+    let mut found = copy_each(alloc, &contexts.atoms[context as usize])?;
     add_heads(alloc, bridges, context, &mut found)?;
     add_beliefs(alloc, known, context, &mut found)?;
     Ok(found)

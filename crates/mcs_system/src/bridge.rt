@@ -102,3 +102,13 @@ impl Bridge {
         })
     }
 }
+
+impl Copied for Bridge {
+    ghost Seen = { plain.Bridge };
+
+    ghost seen = { bridge_of };
+
+    fn copied(&self, alloc: Global) -> Result<Bridge, Memory> {
+        self.copy(alloc)
+    }
+}

@@ -1,9 +1,10 @@
 //! What a system keeps of its contexts and bridge rules, or the first of their faults in the order
 //! of their numbers.
 
-ghost use Rattle.std.specs.Prelude.{◌≡◌, IfOk, IfErr};
+ghost use Rattle.std.specs.Prelude.{◌≡◌, IfOk, IfErr, OnOk};
 ghost use Rattle.mcs_system.specs.Built.{first_flaw, first_limits, last_limits, IsFaultOf};
-ghost use Rattle.mcs_system.specs.Built.{PassesFirst, IsGathered, IsSystemKept};
+ghost use Rattle.mcs_system.specs.Built.{AreFewReads, AreOwnAtoms, IsBuiltOf, IsGathered};
+ghost use Rattle.mcs_system.specs.Built.{IsSystemOf, made_of, PassesFirst, PassesVariables};
 ghost use Rattle.mcs_system.specs.Faults.{first_exceeded, IsValid};
 ghost use Rattle.mcs_system.specs.Seen.{system_of};
 
@@ -14,9 +15,10 @@ use crate::faults::{
     has_misfits, has_twin_names, has_unknown_context,
 };
 use crate::knowledge::Context;
+use crate::known::KnownContexts;
 use crate::limit::Limit;
 use crate::names::are_named;
-use crate::parts::{Kept, has_many_inputs, parts_of_contexts, rule_reads};
+use crate::parts::{Kept, KnownReads, has_many_inputs, parts_of_contexts, rule_reads};
 use crate::variables::variables_of;
 use mcs_base::Memory;
 use std::alloc::Global;
@@ -42,7 +44,7 @@ fn first_flaw(
 
 /// The first limit that is exceeded, among those that come before the limit of variables.
 #[tactic(auto, unfolding(crate::specs::Faults::exceeds))]
-fn first_limit(contexts: &[Context], bridges: &[Bridge]) -> Option<Limit>
+pub(crate) fn first_limit(contexts: &[Context], bridges: &[Bridge]) -> Option<Limit>
     ensures { result ≡ first_exceeded (system_of contexts.now bridges.now) first_limits }
 {
     if Limit::Contexts.is_exceeded_by(contexts.len()) {
@@ -73,34 +75,10 @@ fn last_limit(contexts: &[Context], bridges: &[Bridge]) -> Option<Limit>
     }
 }
 
-/// What a system of these contexts and rules keeps, if they have no flaw and keep the limits that
-/// come before the limit of variables. Refuses if a limit that is counted over variables is
-/// exceeded.
-fn gather(alloc: Global, contexts: &[Context], bridges: &[Bridge]) -> Result<Kept, BuildFault>
-    requires { PassesFirst (system_of contexts.now bridges.now) }
-    ensures ok { IfOk result (IsGathered contexts.now bridges.now) }
-    ensures fault { IfErr result (IsFaultOf (system_of contexts.now bridges.now)) }
-{
-    let variables = variables_of(alloc, contexts, bridges)?;
-    if has_many_inputs(contexts, bridges, &variables) {
-        return Err(BuildFault::exceeded(Limit::InputsPerContext));
-    }
-    let parts = parts_of_contexts(alloc, contexts, bridges, &variables)?;
-    let reads = rule_reads(alloc, &variables, bridges)?;
-    Ok(Kept {
-        variables,
-        parts,
-        reads,
-    })
-}
-
-/// What a system of these contexts and rules keeps, or the first of their faults.
-pub(crate) fn keep(
-    alloc: Global,
-    contexts: &[Context],
-    bridges: &[Bridge],
-) -> Result<Kept, BuildFault>
-    ensures ok { IfOk result (IsSystemKept contexts.now bridges.now) }
+/// Tests whether the contexts and rules have a flaw, or exceed a limit that comes before the limit of
+/// variables.
+fn pass_first(alloc: Global, contexts: &[Context], bridges: &[Bridge]) -> Result<(), BuildFault>
+    ensures ok { OnOk result (PassesFirst (system_of contexts.now bridges.now)) }
     ensures fault { IfErr result (IsFaultOf (system_of contexts.now bridges.now)) }
 {
     if let Some(flaw) = first_flaw(alloc, contexts, bridges)? {
@@ -109,26 +87,113 @@ pub(crate) fn keep(
     if let Some(limit) = first_limit(contexts, bridges) {
         return Err(BuildFault::exceeded(limit));
     }
-    let kept = gather(alloc, contexts, bridges)?;
+    Ok(())
+}
+
+/// Tests whether the contexts and rules, which have no earlier fault, exceed a limit that comes after
+/// the limit of atoms.
+fn pass_last(contexts: &[Context], bridges: &[Bridge]) -> Result<(), BuildFault>
+    requires { PassesVariables (system_of contexts.now bridges.now) }
+    ensures ok { OnOk result (IsValid (system_of contexts.now bridges.now)) }
+    ensures fault { IfErr result (IsFaultOf (system_of contexts.now bridges.now)) }
+{
     if let Some(limit) = last_limit(contexts, bridges) {
         return Err(BuildFault::exceeded(limit));
     }
-    are_named(contexts, bridges);
-    Ok(kept)
+    Ok(())
+}
+
+/// What these rules read. Refuses if there are too many variables, in all or among what rules into
+/// one context read.
+pub(crate) fn known_reads(
+    alloc: Global,
+    contexts: &[Context],
+    bridges: &[Bridge],
+) -> Result<KnownReads, BuildFault>
+    requires { PassesFirst (system_of contexts.now bridges.now) }
+    ensures ok { IfOk result (AreFewReads (system_of contexts.now bridges.now)) }
+    ensures fault { IfErr result (IsFaultOf (system_of contexts.now bridges.now)) }
+{
+    let variables = variables_of(alloc, contexts, bridges)?;
+    let rules = rule_reads(alloc, &variables, bridges)?;
+    if has_many_inputs(contexts, bridges, &rules) {
+        return Err(BuildFault::exceeded(Limit::InputsPerContext));
+    }
+    Ok(KnownReads { variables, rules })
+}
+
+/// What a system of these contexts and rules keeps. Refuses if a context has more atoms than the
+/// limit.
+pub(crate) fn kept_of(
+    alloc: Global,
+    contexts: &KnownContexts,
+    bridges: &[Bridge],
+    reads: KnownReads,
+) -> Result<Kept, BuildFault>
+    requires own { AreOwnAtoms contexts.now.items.items contexts.now.atoms.items }
+    requires first { PassesFirst (made_of contexts.now bridges.now) }
+    requires reads { AreFewReads (made_of contexts.now bridges.now) reads }
+    ensures ok { IfOk result (IsGathered contexts.now bridges.now) }
+    ensures fault { IfErr result (IsFaultOf (made_of contexts.now bridges.now)) }
+{
+    let parts = parts_of_contexts(alloc, contexts, bridges, &reads)?;
+    let KnownReads { variables, rules } = reads;
+    Ok(Kept {
+        variables,
+        parts,
+        reads: rules,
+    })
+}
+
+/// What is known of the contexts of a system, and what it keeps beside them and its rules.
+#[derive(Drop)]
+pub(crate) struct Built {
+    pub contexts: KnownContexts,
+    pub kept: Kept,
+}
+
+/// What a system of these contexts and rules keeps, if they have no flaw and keep the limits that
+/// come before the limit of variables. Refuses if a limit that is counted over variables is
+/// exceeded.
+fn gather(alloc: Global, contexts: Vec<Context>, bridges: &[Bridge]) -> Result<Built, BuildFault>
+    requires { PassesFirst (system_of contexts.items bridges.now) }
+    ensures ok { IfOk result (IsBuiltOf contexts.items bridges.now) }
+    ensures fault { IfErr result (IsFaultOf (system_of contexts.items bridges.now)) }
+{
+    let reads = known_reads(alloc, &contexts, bridges)?;
+    let contexts = KnownContexts::of(alloc, contexts)?;
+    let kept = kept_of(alloc, &contexts, bridges, reads)?;
+    Ok(Built { contexts, kept })
+}
+
+/// What a system of these contexts and rules keeps, or the first of their faults.
+pub(crate) fn keep(
+    alloc: Global,
+    contexts: Vec<Context>,
+    bridges: &[Bridge],
+) -> Result<Built, BuildFault>
+    ensures ok { IfOk result (IsSystemOf contexts.items bridges.now) }
+    ensures fault { IfErr result (IsFaultOf (system_of contexts.items bridges.now)) }
+{
+    pass_first(alloc, &contexts, bridges)?;
+    let built = gather(alloc, contexts, bridges)?;
+    pass_last(&built.contexts.items, bridges)?;
+    are_named(&built.contexts.items, bridges);
+    Ok(built)
 }
 
 /// What a system of these contexts and rules keeps, if they have none of the faults.
 pub(crate) fn keep_valid(
     alloc: Global,
-    contexts: &[Context],
+    contexts: Vec<Context>,
     bridges: &[Bridge],
-) -> Result<Kept, Memory>
-    requires { IsValid (system_of contexts.now bridges.now) }
-    ensures { IfOk result (IsSystemKept contexts.now bridges.now) }
+) -> Result<Built, Memory>
+    requires { IsValid (system_of contexts.items bridges.now) }
+    ensures { IfOk result (IsSystemOf contexts.items bridges.now) }
 {
-    are_named(contexts, bridges);
+    are_named(&contexts, bridges);
     match gather(alloc, contexts, bridges) {
-        Ok(kept) => Ok(kept),
+        Ok(built) => Ok(built),
         Err(BuildFault::Memory) => Err(Memory),
         Err(BuildFault::Fault { .. }) => unreachable!(),
     }

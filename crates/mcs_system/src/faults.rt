@@ -54,7 +54,7 @@ pub(crate) fn has_unknown_context(contexts: &[Context], bridges: &[Bridge]) -> b
 }
 
 /// A part of a system that has a name.
-trait HasName {
+pub(crate) trait HasName {
     ghost named: { Self → Name };
 
     /// The bytes of the name.
@@ -79,7 +79,7 @@ impl HasName for Bridge {
 }
 
 /// Whether two of the items have the same name.
-fn has_twins<T: HasName>(alloc: Global, items: &[T]) -> Result<bool, Memory>
+pub(crate) fn has_twins<T: HasName>(alloc: Global, items: &[T]) -> Result<bool, Memory>
     ensures { IfOk result (λ b. b ≡ has_twins (map T.named items.now)) }
 {
     let mut seen = BTreeSet::new(alloc);
@@ -146,7 +146,7 @@ fn has_misfit(contexts: &[Context], bridge: &Bridge) -> bool
 
 /// Whether some rule has the weight 0, or has a head into a program or a read of a program that is
 /// not an atom.
-fn any_rule_misfit(contexts: &[Context], bridges: &[Bridge]) -> bool
+pub(crate) fn any_rule_misfit(contexts: &[Context], bridges: &[Bridge]) -> bool
     ensures { result
         ≡ list_any (λ b. has_misfit (map context_of contexts.now) (bridge_of b)) bridges.now }
 {
@@ -365,7 +365,7 @@ fn has_large_part(bridge: &Bridge) -> bool
 }
 
 /// Whether the head of some rule, or a belief that it reads, is larger than the limit.
-fn any_large_bridge(bridges: &[Bridge]) -> bool
+pub(crate) fn any_large_bridge(bridges: &[Bridge]) -> bool
     ensures { result ≡ list_any (λ b. has_large_part (bridge_of b)) bridges.now }
 {
     bridges.iter().any(has_large_part)

@@ -1,6 +1,7 @@
 //! Multi-context systems as data, with the definitions of their semantics.
 #![tactic(auto)]
 
+mod again;
 mod atomic;
 mod atoms;
 mod bridge;
@@ -12,6 +13,7 @@ mod fault;
 mod faults;
 mod formula;
 mod knowledge;
+mod known;
 mod limit;
 mod name;
 mod names;

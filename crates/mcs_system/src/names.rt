@@ -142,7 +142,7 @@ fn contexts_are_named(contexts: &[Context])
 }
 
 /// The names of these bridge rules are names, and their atoms are.
-fn bridges_are_named(bridges: &[Bridge])
+pub(crate) fn bridges_are_named(bridges: &[Bridge])
     ensures { AllByRecursion IsNamedBridge (map bridge_of bridges.now) }
 {
     for bridge in bridges {

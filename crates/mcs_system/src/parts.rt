@@ -7,12 +7,14 @@ ghost use Rattle.mcs_system.specs.declared.knowledge.Context.{Context};
 ghost use Rattle.mcs_system.specs.declared.limit.Limit.TheVariants.{InputsPerContext};
 ghost use Rattle.mcs_system.specs.declared.limit.Limit.TheVariants.{AtomsPerContext};
 ghost use Rattle.mcs_system.specs.Atoms.{atoms_of};
+ghost use Rattle.mcs_system.specs.Built.{AreKnownReads, AreOwnAtoms, made_of};
 ghost use Rattle.mcs_system.specs.Faults.{exceeds};
 ghost use Rattle.mcs_system.specs.Gathered.{IsLimitDue};
 ghost use Rattle.mcs_system.specs.Imports.{rules_into};
 ghost use Rattle.mcs_system.specs.Parts.{context_part, context_part_of, variables_among};
 ghost use Rattle.mcs_system.specs.Parts.{inputs_among, variables_read, read_into, rule_part};
 ghost use Rattle.mcs_system.specs.Parts.{rule_part_of};
+ghost use Rattle.mcs_system.specs.Plain as plain;
 ghost use Rattle.mcs_system.specs.Seen.{read_of, bridge_of, system_of};
 ghost use Rattle.mcs_system.specs.Systems.{variables};
 
@@ -20,6 +22,7 @@ use crate::atoms::atoms_of;
 use crate::bridge::{Bridge, Read};
 use crate::fault::BuildFault;
 use crate::knowledge::Context;
+use crate::known::KnownContexts;
 use crate::limit::Limit;
 use crate::name::Name;
 use crate::variables::is_among;
@@ -42,6 +45,13 @@ pub(crate) struct ContextParts {
 pub(crate) struct RuleReads {
     pub positive: Vars,
     pub negative: Vars,
+}
+
+/// What the rules of a system read: its variables, and those of each rule.
+#[derive(Drop)]
+pub(crate) struct KnownReads {
+    pub variables: Vec<Read>,
+    pub rules: Vec<RuleReads>,
 }
 
 /// What a system keeps beside its contexts and rules: its variables, and the parts of each context
@@ -99,30 +109,6 @@ fn rules_into(bridges: &[Bridge], context: u32) -> Active
     set
 }
 
-/// Those of the variables that the rule reads, if it goes into the context; otherwise none.
-fn read_into(known: &[Read], bridge: &Bridge, context: u32) -> Vars
-    requires { length known.now ≤ 64 }
-    ensures { result ≡ read_into (map read_of known.now) context (bridge_of bridge.now) }
-{
-    if bridge.target == context {
-        variables_read(known, &bridge.pos).union(variables_read(known, &bridge.neg))
-    } else {
-        Vars::empty()
-    }
-}
-
-/// Those of the variables that rules into the context read.
-fn inputs_among(known: &[Read], bridges: &[Bridge], context: u32) -> Vars
-    requires { length known.now ≤ 64 }
-    ensures { result ≡ inputs_among (map read_of known.now) (map bridge_of bridges.now) context }
-{
-    let mut inputs = Vars::empty();
-    for bridge in bridges {
-        inputs = inputs.union(read_into(known, bridge, context));
-    }
-    inputs
-}
-
 /// What is kept of the rules.
 pub(crate) fn rule_reads(
     alloc: Global,
@@ -144,17 +130,45 @@ pub(crate) fn rule_reads(
     Ok(reads)
 }
 
-/// Whether the rules into one context read more variables than the limit. `known` are the variables
-/// of the system.
-pub(crate) fn has_many_inputs(contexts: &[Context], bridges: &[Bridge], known: &[Read]) -> bool
+/// The variables that the rule reads, if it goes into the context; otherwise none. `reads` are those
+/// of the rule.
+fn read_into(reads: &RuleReads, bridge: &Bridge, context: u32) -> Vars
+    ensures { (vs : List plain.Read) → rule_part_of reads.now ≡ rule_part vs (bridge_of bridge.now)
+        → result ≡ read_into vs context (bridge_of bridge.now) }
+{
+    if bridge.target == context {
+        reads.positive.union(reads.negative)
+    } else {
+        Vars::empty()
+    }
+}
+
+/// The variables that rules into the context read. `reads` are those of the rules.
+fn inputs_among(reads: &[RuleReads], bridges: &[Bridge], context: u32) -> Vars
+    requires { length reads.now ≡ length bridges.now }
+    ensures { (vs : List plain.Read)
+        → map rule_part_of reads.now ≡ map (rule_part vs) (map bridge_of bridges.now)
+        → result ≡ inputs_among vs (map bridge_of bridges.now) context }
+{
+    let mut inputs = Vars::empty();
+    for (k, bridge) in bridges.iter().enumerate() {
+        inputs = inputs.union(read_into(&reads[k], bridge, context));
+    }
+    inputs
+}
+
+/// Whether the rules into one context read more variables than the limit. `reads` are those of the
+/// rules.
+pub(crate) fn has_many_inputs(contexts: &[Context], bridges: &[Bridge], reads: &[RuleReads]) -> bool
     requires few_contexts { length contexts.now ≤ 64 }
-    requires few { length known.now ≤ 64 }
-    requires variables { map read_of known.now ≡ variables (system_of contexts.now bridges.now) }
+    requires reads { map rule_part_of reads.now
+        ≡ map (rule_part (variables (system_of contexts.now bridges.now)))
+        (map bridge_of bridges.now) }
     ensures { result ≡ exceeds (system_of contexts.now bridges.now) InputsPerContext }
 {
     for context in 0..contexts.len() as u32 {
         if Limit::InputsPerContext.is_exceeded_by(
-            inputs_among(known, bridges, context).count() as usize,
+            inputs_among(reads, bridges, context).count() as usize,
         ) {
             return true;
         }
@@ -162,59 +176,59 @@ pub(crate) fn has_many_inputs(contexts: &[Context], bridges: &[Bridge], known: &
     false
 }
 
-/// What is kept of one context. `known` are the variables of the system. Refuses if the context has
+/// What is kept of one context. `known` is what the rules read. Refuses if the context has
 /// more atoms than the limit.
 fn parts_of_context(
     alloc: Global,
-    contexts: &[Context],
+    contexts: &KnownContexts,
     bridges: &[Bridge],
-    known: &[Read],
+    known: &KnownReads,
     context: u32,
 ) -> Result<ContextParts, BuildFault>
-    requires in_range { context < length contexts.now }
+    requires in_range { context < length contexts.now.items.items }
+    requires own { AreOwnAtoms contexts.now.items.items contexts.now.atoms.items }
     requires few_rules { length bridges.now ≤ 64 }
-    requires few { length known.now ≤ 64 }
-    requires variables { map read_of known.now ≡ variables (system_of contexts.now bridges.now) }
+    requires known { AreKnownReads (made_of contexts.now bridges.now) known.now }
     ensures parts { IfOk result
-        (λ p. context_part_of p ≡ context_part (system_of contexts.now bridges.now) context) }
+        (λ p. context_part_of p ≡ context_part (made_of contexts.now bridges.now) context) }
     ensures few { IfOk result (λ p. length p.atoms.items ≤ 64) }
     ensures many { IfErr result
         (IsLimitDue AtomsPerContext (64 < length (atoms_of
-        (system_of contexts.now bridges.now) context))) }
+        (made_of contexts.now bridges.now) context))) }
 {
-    let atoms = atoms_of(alloc, contexts, bridges, known, context)?;
+    let atoms = atoms_of(alloc, contexts, bridges, &known.variables, context)?;
     Ok(ContextParts {
         atoms,
-        variables: variables_among(known, context),
-        inputs: inputs_among(known, bridges, context),
+        variables: variables_among(&known.variables, context),
+        inputs: inputs_among(&known.rules, bridges, context),
         rules: rules_into(bridges, context),
     })
 }
 
-/// What is kept of the contexts. `known` are the variables of the system. Refuses if a context has
+/// What is kept of the contexts. `known` is what the rules read. Refuses if a context has
 /// more atoms than the limit.
 pub(crate) fn parts_of_contexts(
     alloc: Global,
-    contexts: &[Context],
+    contexts: &KnownContexts,
     bridges: &[Bridge],
-    known: &[Read],
+    known: &KnownReads,
 ) -> Result<Vec<ContextParts>, BuildFault>
-    requires few_contexts { length contexts.now ≤ 64 }
+    requires few_contexts { length contexts.now.items.items ≤ 64 }
+    requires own { AreOwnAtoms contexts.now.items.items contexts.now.atoms.items }
     requires few_rules { length bridges.now ≤ 64 }
-    requires few { length known.now ≤ 64 }
-    requires variables { map read_of known.now ≡ variables (system_of contexts.now bridges.now) }
+    requires known { AreKnownReads (made_of contexts.now bridges.now) known.now }
     ensures parts { IfOk result
         (λ parts. map context_part_of parts.items
-        ≡ map (context_part (system_of contexts.now bridges.now))
-        (range_with_len 0 (length contexts.now))) }
-    ensures few { IfOk result (λ _. exceeds (system_of contexts.now bridges.now) AtomsPerContext
+        ≡ map (context_part (made_of contexts.now bridges.now))
+        (range_with_len 0 (length contexts.now.items.items))) }
+    ensures few { IfOk result (λ _. exceeds (made_of contexts.now bridges.now) AtomsPerContext
         ≡ false) }
     ensures many { IfErr result
-        (IsLimitDue AtomsPerContext (exceeds (system_of contexts.now bridges.now) AtomsPerContext
+        (IsLimitDue AtomsPerContext (exceeds (made_of contexts.now bridges.now) AtomsPerContext
         ≡ true)) }
 {
     let mut parts = Vec::new(alloc);
-    for context in 0..contexts.len() as u32 {
+    for context in 0..contexts.items.len() as u32 {
         let own = parts_of_context(alloc, contexts, bridges, known, context)?;
         parts.push(own)?;
     }

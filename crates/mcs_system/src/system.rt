@@ -5,6 +5,7 @@ ghost use Rattle.std.specs.Prelude.{IfOk, IfErr};
 ghost use Rattle.mcs_sets.specs.Sets.{common, single, union};
 ghost use Rattle.mcs_system.specs.Atoms.{atoms_of};
 ghost use Rattle.mcs_system.specs.Built.{IsFaultOf};
+ghost use Rattle.mcs_system.specs.Edits.{with_rule, with_rules, without_rule};
 ghost use Rattle.mcs_system.specs.Faults.{IsValid};
 ghost use Rattle.mcs_system.specs.Imports.{rules_into};
 ghost use Rattle.mcs_system.specs.Naming.{IsSystemNamed};
@@ -15,15 +16,19 @@ ghost use Rattle.mcs_system.specs.Rows.{inputs_of};
 ghost use Rattle.mcs_system.specs.Seen.{context_of, bridge_of, read_of, system_of};
 ghost use Rattle.mcs_system.specs.Systems.{variables, variables_of, applicable, is_applicable};
 
+use crate::again::{keep_again, keep_valid_again};
 use crate::bridge::{Bridge, Read};
-use crate::build::{keep, keep_valid};
+use crate::build::{Built, keep, keep_valid};
+use crate::copied::copy_each;
 use crate::fault::BuildFault;
 use crate::knowledge::Context;
+use crate::known::KnownContexts;
 use crate::name::Name;
 use crate::parts::{ContextParts, Kept, RuleReads};
 use mcs_base::{Active, Marks, Memory, Vars};
 use std::alloc::Global;
 use std::marker::Model;
+use std::sync::Arc;
 
 /// The marks with this one added, unless it is barred.
 fn with_unless(marks: Marks, mark: u32, barred: bool) -> Marks
@@ -36,7 +41,7 @@ fn with_unless(marks: Marks, mark: u32, barred: bool) -> Marks
 /// A multi-context system (Brewka & Eiter 2007): contexts and bridge rules that have none of the
 /// faults.
 pub struct System {
-    contexts: Vec<Context>,
+    contexts: Arc<KnownContexts>,
     bridges: Vec<Bridge>,
     kept: Kept,
 }
@@ -52,18 +57,18 @@ impl Drop for System {
 }
 
 impl Model for System {
-    ghost use Rattle.mcs_system.specs.Built.{IsSystemKept};
+    ghost use Rattle.std.specs.Arc.{arc_value};
+    ghost use Rattle.mcs_system.specs.Built.{IsSystemKept, made_of};
     ghost use Rattle.mcs_system.specs.Codes.{coded_system};
     ghost use Rattle.mcs_system.specs.Plain as plain;
-    ghost use Rattle.mcs_system.specs.Seen.{system_of};
 
     ghost Value = { plain.System };
 
     ghost coded = { coded_system };
 
-    ghost view = { λ s. system_of s.contexts.items s.bridges.items };
+    ghost view = { λ s. made_of (arc_value s.contexts) s.bridges.items };
 
-    ghost invariant = { λ s. IsSystemKept s.contexts.items s.bridges.items s.kept };
+    ghost invariant = { λ s. IsSystemKept (arc_value s.contexts) s.bridges.items s.kept };
 }
 
 impl System {
@@ -77,9 +82,9 @@ impl System {
         ensures ok { IfOk result (λ s. (s ≡ system_of contexts.items bridges.items) × IsValid s) }
         ensures fault { IfErr result (IsFaultOf (system_of contexts.items bridges.items)) }
     {
-        let kept = keep(alloc, &contexts, &bridges)?;
+        let Built { contexts, kept } = keep(alloc, contexts, &bridges)?;
         Ok(System {
-            contexts,
+            contexts: Arc::new(alloc, contexts)?,
             bridges,
             kept,
         })
@@ -95,7 +100,81 @@ impl System {
         requires { IsValid (system_of contexts.items bridges.items) }
         ensures { IfOk result (λ s. s ≡ system_of contexts.items bridges.items) }
     {
-        let kept = keep_valid(alloc, &contexts, &bridges)?;
+        let Built { contexts, kept } = keep_valid(alloc, contexts, &bridges)?;
+        Ok(System {
+            contexts: Arc::new(alloc, contexts)?,
+            bridges,
+            kept,
+        })
+    }
+
+    /// The same system. It shares the contexts.
+    pub fn copy(&self, alloc: Global) -> Result<System, Memory>
+        ensures { IfOk result (λ s. s ≡ self.now) }
+    {
+        let bridges = copy_each(alloc, &self.bridges)?;
+        let kept = keep_valid_again(alloc, &self.contexts, &bridges)?;
+        Ok(System {
+            contexts: self.contexts.clone()?,
+            bridges,
+            kept,
+        })
+    }
+
+    /// The system with this rule as its last one, or the first of the faults that it would have, in
+    /// the order of `build`. The system shares the contexts. The time does not depend on the size of
+    /// their knowledge bases.
+    pub fn with_rule(self, alloc: Global, rule: Bridge) -> Result<System, BuildFault>
+        ensures ok { IfOk result (λ s. (s ≡ with_rule self (bridge_of rule)) × IsValid s) }
+        ensures fault { IfErr result (IsFaultOf (with_rule self (bridge_of rule))) }
+    {
+        let System {
+            contexts,
+            mut bridges,
+            kept: _,
+        } = self;
+        bridges.push(rule)?;
+        let kept = keep_again(alloc, &contexts, &bridges)?;
+        Ok(System {
+            contexts,
+            bridges,
+            kept,
+        })
+    }
+
+    /// The system with these rules in place of its own, or the first of the faults that it would have,
+    /// in the order of `build`. The system shares the contexts. The time does not depend on the size
+    /// of their knowledge bases.
+    pub fn with_rules(self, alloc: Global, rules: Vec<Bridge>) -> Result<System, BuildFault>
+        ensures ok { IfOk result
+            (λ s. (s ≡ with_rules self (map bridge_of rules.items)) × IsValid s) }
+        ensures fault { IfErr result (IsFaultOf (with_rules self (map bridge_of rules.items))) }
+    {
+        let System {
+            contexts,
+            bridges: _,
+            kept: _,
+        } = self;
+        let kept = keep_again(alloc, &contexts, &rules)?;
+        Ok(System {
+            contexts,
+            bridges: rules,
+            kept,
+        })
+    }
+
+    /// The system without the rules of this name; those after them move up. It shares the contexts.
+    /// The time does not depend on the size of their knowledge bases.
+    pub fn without_rule(self, alloc: Global, name: &Name) -> Result<System, Memory>
+        ensures { IfOk result (λ s. s ≡ without_rule self name.now) }
+    {
+        let System {
+            contexts,
+            mut bridges,
+            kept: _,
+        } = self;
+        bridges.retain(|rule| !name.is(&rule.name));
+        let kept = keep_valid_again(alloc, &contexts, &bridges)?;
         Ok(System {
             contexts,
             bridges,
@@ -107,7 +186,7 @@ impl System {
     pub fn is(&self, other: &System) -> bool
         ensures { IsTrue result ↔ (self.now ≡ other.now) }
     {
-        self.contexts == other.contexts && self.bridges == other.bridges
+        self.contexts.items == other.contexts.items && self.bridges == other.bridges
     }
 
     /// The contexts, in the order of the text.
@@ -117,7 +196,7 @@ impl System {
         ensures valid { IsValid self.now }
         ensures named { IsSystemNamed self.now }
     {
-        &self.contexts
+        &self.contexts.items
     }
 
     /// The bridge rules, in the order of the text.

@@ -1,45 +1,26 @@
-use Rattle.std.proofs.Common.{◌≤◌, length, sym, ◌∙◌, arith}
-use Rattle.std.proofs.lemmas.List.{length-map}
-use Rattle.mcs_system.specs.Seen.{context_of, bridge_of, system_of}
-use Rattle.mcs_system.specs.Systems.{variables}
-use Rattle.mcs_system.proofs.BuildLemmas.{due_told, variables_told, inputs_told, atoms_told, within_variables, few_contexts_first}
+use Rattle.std.proofs.Common.{List, sym, subst}
+use Rattle.mcs_system.specs.declared.knowledge.Context as code
+use Rattle.mcs_system.specs.Built.{PassesFirst, AreFewReads}
+use Rattle.mcs_system.specs.Seen.{system_of}
+use Rattle.mcs_system.proofs.AtomLemmas.{own_exceed}
+use Rattle.mcs_system.proofs.BuildLemmas.{due_told, atoms_told, few_reads, fault_handed}
 use Rattle.mcs_system.proofs.build.gather.Goals as goal
 
-pub returns-in_err-variables-clause-fault : goal.returns-in_err-variables-clause-fault
-returns-in_err-variables-clause-fault c =
-    due_told (system_of c.args.contexts.now c.args.bridges.now) _ _ _ _ c.from_residual.ensures.1 (variables_told (system_of c.args.contexts.now c.args.bridges.now) c.requires) c.in_err-variables.ensures.many
+pub returns-in_err-contexts-clause-fault : goal.returns-in_err-contexts-clause-fault
+returns-in_err-contexts-clause-fault c =
+    let vs : AreFewReads (system_of c.args.contexts.items c.args.bridges.now) c.in_ok-reads.reads = rw c.deref.ensures.value at c.in_ok-reads.ensures.ok in
+    due_told (system_of c.args.contexts.items c.args.bridges.now) _ _ _ _ c.from_residual-in_err-contexts.ensures.1
+    (λ has. atoms_told (system_of c.args.contexts.items c.args.bridges.now) c.requires (few_reads (system_of c.args.contexts.items c.args.bridges.now) c.in_ok-reads.reads vs) vs.inputs (own_exceed c.args.contexts.items c.args.bridges.now has))
+    c.in_err-contexts.ensures.many
 
-pub has_many_inputs-requires-clause-few_contexts : goal.has_many_inputs-requires-clause-few_contexts
-has_many_inputs-requires-clause-few_contexts c =
-    let few = few_contexts_first (system_of c.args.contexts.now c.args.bridges.now) c.requires in
-    omega (arith, few.0, length-map c.args.contexts.now context_of)
+pub kept_of-requires-clause-first : goal.kept_of-requires-clause-first
+kept_of-requires-clause-first c = subst (λ (cs : List code.Context). PassesFirst (system_of cs c.args.bridges.now)) (sym c.in_ok-contexts.ensures.own.0) c.requires
 
-pub returns-then-has_many_inputs-clause-fault : goal.returns-then-has_many_inputs-clause-fault
-returns-then-has_many_inputs-clause-fault c =
-    let few : length (variables (system_of c.args.contexts.now c.args.bridges.now)) ≤ 64 = rw (← c.in_ok-variables.ensures.variables, length-map) c.in_ok-variables.ensures.few in
-    rw c.exceeded.ensures (inputs_told (system_of c.args.contexts.now c.args.bridges.now) c.requires few (sym c.has_many_inputs.ensures ∙ c.if-has_many_inputs.true))
+pub kept_of-requires-clause-reads : goal.kept_of-requires-clause-reads
+kept_of-requires-clause-reads c = subst (λ (cs : List code.Context). AreFewReads (system_of cs c.args.bridges.now) c.in_ok-reads.reads) (sym c.in_ok-contexts.ensures.own.0) (rw c.deref.ensures.value at c.in_ok-reads.ensures.ok)
 
-pub parts_of_contexts-requires-clause-few_contexts : goal.parts_of_contexts-requires-clause-few_contexts
-parts_of_contexts-requires-clause-few_contexts c =
-    let few = few_contexts_first (system_of c.args.contexts.now c.args.bridges.now) c.requires in
-    omega (arith, few.0, length-map c.args.contexts.now context_of)
-
-pub parts_of_contexts-requires-clause-few_rules : goal.parts_of_contexts-requires-clause-few_rules
-parts_of_contexts-requires-clause-few_rules c =
-    let few = few_contexts_first (system_of c.args.contexts.now c.args.bridges.now) c.requires in
-    omega (arith, few.1, length-map c.args.bridges.now bridge_of)
-
-pub returns-in_err-parts-clause-fault : goal.returns-in_err-parts-clause-fault
-returns-in_err-parts-clause-fault c =
-    let few : length (variables (system_of c.args.contexts.now c.args.bridges.now)) ≤ 64 = rw (← c.in_ok-variables.ensures.variables, length-map) c.in_ok-variables.ensures.few in
-    due_told (system_of c.args.contexts.now c.args.bridges.now) _ _ _ _ c.from_residual-in_err-parts.ensures.1 (atoms_told (system_of c.args.contexts.now c.args.bridges.now) c.requires few (sym c.has_many_inputs.ensures ∙ c.if-has_many_inputs.false)) c.in_err-parts.ensures.many
+pub returns-in_err-kept-clause-fault : goal.returns-in_err-kept-clause-fault
+returns-in_err-kept-clause-fault c = fault_handed _ _ c.args.bridges.now _ _ c.from_residual-in_err-kept.ensures.1 c.in_ok-contexts.ensures.own.0 c.in_err-kept.ensures.fault
 
 pub returns-clause-ok : goal.returns-clause-ok
-returns-clause-ok c =
-    let few : length (variables (system_of c.args.contexts.now c.args.bridges.now)) ≤ 64 = rw (← c.in_ok-variables.ensures.variables, length-map) c.in_ok-variables.ensures.few in
-    record {
-      variables_are = c.in_ok-variables.ensures.variables;
-      parts_are = c.in_ok-parts.ensures.parts;
-      rules_are = rw (c.deref-3.ensures.value, c.in_ok-variables.ensures.variables) at c.in_ok-reads.ensures;
-      limited = within_variables (system_of c.args.contexts.now c.args.bridges.now) few (sym c.has_many_inputs.ensures ∙ c.if-has_many_inputs.false) c.in_ok-parts.ensures.few;
-    }
+returns-clause-ok c = record { contexts_are = c.in_ok-contexts.ensures.own.0; own = c.in_ok-contexts.ensures.own.1; gathered = c.in_ok-kept.ensures.ok }

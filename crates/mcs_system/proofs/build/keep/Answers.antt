@@ -1,32 +1,18 @@
-use Rattle.std.proofs.Common.{sym, ◌∙◌}
-use Rattle.mcs_system.specs.Built.{PassesFirst}
-use Rattle.mcs_system.specs.Seen.{system_of}
-use Rattle.mcs_system.proofs.BuildLemmas.{flaw_told, limit_told, last_told, none_told}
+use Rattle.std.proofs.Common.{◌∙◌}
+use Rattle.mcs_system.proofs.BuildLemmas.{fault_handed, passes_built, system_built}
 use Rattle.mcs_system.proofs.build.keep.Goals as goal
 
-pub returns-in-Some-clause-fault : goal.returns-in-Some-clause-fault
-returns-in-Some-clause-fault c = rw c.flawed.ensures (flaw_told (system_of c.args.contexts.now c.args.bridges.now) c.in-Some.flaw (sym c.in_ok-flaw.ensures ∙ c.in-Some.is))
-
-pub returns-in-Some-first_limit-clause-fault : goal.returns-in-Some-first_limit-clause-fault
-returns-in-Some-first_limit-clause-fault c = rw c.exceeded.ensures
-    (limit_told (system_of c.args.contexts.now c.args.bridges.now) c.in-Some-first_limit.limit (sym c.in_ok-flaw.ensures ∙ c.in_default.is) (sym c.in-Some-first_limit.ensures))
+pub returns-in_err-pass_first-clause-fault : goal.returns-in_err-pass_first-clause-fault
+returns-in_err-pass_first-clause-fault c = fault_handed _ _ c.args.bridges.now _ _ c.from_residual.ensures.1 c.deref.ensures.value c.in_err-pass_first.ensures.fault
 
 pub gather-requires : goal.gather-requires
-gather-requires c = record { flaws = sym c.in_ok-flaw.ensures ∙ c.in_default.is; limits = sym c.in_default-first_limit.ensures }
+gather-requires c = rw c.deref.ensures.value at c.in_ok-pass_first.ensures.ok
 
-pub returns-in-Some-last_limit-clause-fault : goal.returns-in-Some-last_limit-clause-fault
-returns-in-Some-last_limit-clause-fault c =
-    let first : PassesFirst (system_of c.args.contexts.now c.args.bridges.now) = record { flaws = sym c.in_ok-flaw.ensures ∙ c.in_default.is; limits = sym c.in_default-first_limit.ensures } in
-    rw c.exceeded-in-Some-last_limit.ensures (last_told (system_of c.args.contexts.now c.args.bridges.now) c.in-Some-last_limit.limit first c.in_ok-kept.ensures.ok.limited (sym c.in-Some-last_limit.ensures))
+pub pass_last-requires : goal.pass_last-requires
+pass_last-requires c = rw c.deref-2.ensures.value (passes_built c.args.contexts.items c.args.bridges.now c.in_ok-built.built c.in_ok-built.ensures.ok (rw c.deref.ensures.value at c.in_ok-pass_first.ensures.ok))
+
+pub returns-in_err-pass_last-clause-fault : goal.returns-in_err-pass_last-clause-fault
+returns-in_err-pass_last-clause-fault c = fault_handed _ _ c.args.bridges.now _ _ c.from_residual-in_err-pass_last.ensures.1 (c.deref-2.ensures.value ∙ c.in_ok-built.ensures.ok.contexts_are) c.in_err-pass_last.ensures.fault
 
 pub returns-clause-ok : goal.returns-clause-ok
-returns-clause-ok c =
-    let first : PassesFirst (system_of c.args.contexts.now c.args.bridges.now) = record { flaws = sym c.in_ok-flaw.ensures ∙ c.in_default.is; limits = sym c.in_default-first_limit.ensures } in
-    let kept = c.in_ok-kept.ensures.ok in
-    record {
-      valid = none_told (system_of c.args.contexts.now c.args.bridges.now) first kept.limited (sym c.in_default-last_limit.ensures);
-      named = c.are_named.ensures;
-      variables_are = kept.variables_are;
-      parts_are = kept.parts_are;
-      rules_are = kept.rules_are;
-    }
+returns-clause-ok c = system_built c.args.contexts.items c.args.bridges.now c.in_ok-built.built c.in_ok-built.ensures.ok (rw c.deref-2.ensures.value at c.in_ok-pass_last.ensures.ok) (rw c.deref-3.ensures.value at c.are_named.ensures)

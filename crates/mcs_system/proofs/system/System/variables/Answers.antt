@@ -1,7 +1,9 @@
 use Rattle.std.proofs.Common.{length, ap, arith}
 use Rattle.std.proofs.lemmas.List.{length-map}
-use Rattle.mcs_system.specs.Seen.{read_of, system_of}
+use Rattle.mcs_system.specs.Seen.{read_of}
 use Rattle.mcs_system.proofs.ValidLemmas.{few_variables}
+use Rattle.std.specs.Arc.{arc_value}
+use Rattle.mcs_system.specs.Built.{made_of}
 use Rattle.mcs_system.proofs.system.System.variables.Goals as goal
 
 pub returns-clause-few : goal.returns-clause-few
@@ -10,5 +12,5 @@ returns-clause-few c = omega (
   ap length c.self.invariant.variables_are,
   length-map c.self.inside.kept.variables.items read_of,
   ap length c.deref.ensures.value,
-  few_variables (system_of c.self.inside.contexts.items c.self.inside.bridges.items) c.self.invariant.valid,
+  few_variables (made_of (arc_value c.self.inside.contexts) c.self.inside.bridges.items) c.self.invariant.valid,
 )
