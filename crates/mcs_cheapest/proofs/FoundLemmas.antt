@@ -1,5 +1,5 @@
 -- The cheapest pairs are shown, and all is told.
-use Rattle.std.proofs.Common.{◌≡◌, ℕ, zero, suc, ◌+◌, ◌-◌, ◌<◌, ◌≤◌, max, false, List, [], ◌∷◌, ◌++◌, map, take, length, get_or, Option, Some, sym, ap, ◌∙◌, subst, append_assoc, arith}
+use Rattle.std.proofs.Common.{◌≡◌, ℕ, zero, suc, ◌+◌, ◌-◌, ◌<◌, ◌≤◌, max, false, List, [], ◌∷◌, ◌++◌, take, length, get_or, Option, Some, sym, ap, ◌∙◌, subst, arith}
 use Rattle.std.proofs.lemmas.List.{map-append}
 use Rattle.std.specs.List.{AllByRecursion}
 use Rattle.mcs_sets.specs.Orders.{PairBefore}
@@ -27,14 +27,6 @@ use Rattle.mcs_cheapest.proofs.EndLemmas.{cheapest_told, least_cost_told, some_t
 
 pub read_among : (xs ys : List ℕ) (i x p : ℕ) → ys ≡ xs → i < length ys → x ≡ get_or ys i x → p ≡ x → IsAmong p xs
 read_among xs ys i x p same less is made = subst (λ (y : ℕ). IsAmong y xs) (sym made) (among_get x xs i (slice_get_read_as xs ys i x same less is))
-
--- the costs of a pair more
-pub costs_more : (f : ℕ → ℕ) (before xs : List ℕ) (i x n : ℕ) → i < length xs → x ≡ get_or xs i x → n ≡ f x → map f (before ++ take (i + 1) xs) ≡ map f (before ++ take i xs) ++ n ∷ []
-costs_more f before xs i x n less is same =
-    ap (λ ys. map f (before ++ ys)) (take_read xs i x less is)
-    ∙ ap (map f) (sym (append_assoc before (take i xs) (x ∷ [])))
-    ∙ map-append f (before ++ take i xs) (x ∷ [])
-    ∙ ap (λ (y : ℕ). map f (before ++ take i xs) ++ y ∷ []) (sym same)
 
 -- ---- one more is shown
 pub shown_more : (ds : List shown.Diagnosis) (xs : List ℕ) (i x : ℕ) (d : shown.Diagnosis) → i < length xs → x ≡ get_or xs i x → d.pair ≡ x → pairs_of ds ≡ take i xs → pairs_of (ds ++ d ∷ []) ≡ take (i + 1) xs

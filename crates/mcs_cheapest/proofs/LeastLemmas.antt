@@ -1,16 +1,21 @@
 -- The search by an evaluator that tells the cheapest diagnoses alone takes the same levels.
-use Rattle.std.proofs.Common.{◌≡◌, ℕ, suc, ◌+◌, ◌*◌, ◌/◌, ◌<◌, ◌≤◌, min, List, [], map, length, Some, None, sym, ap, ◌∙◌, subst, inl, inr, arith}
+use Rattle.std.proofs.Common.{◌≡◌, ℕ, suc, ◌+◌, ◌*◌, ◌/◌, ◌<◌, ◌≤◌, max, min, List, [], ◌∷◌, map, take, length, get_or, Some, None, sym, ap, ◌∙◌, subst, inl, inr, arith}
 use Rattle.std.proofs.lemmas.Bool.{cases_lt}
 use Rattle.std.proofs.lemmas.List.{length-map}
 use Rattle.std.proofs.lemmas.Nat.{mul-le}
+use Rattle.std.specs.List.{AllByRecursion}
 use Rattle.mcs_sets.specs.Orders.{PairBefore}
+use Rattle.mcs_sets.specs.Sets.{size}
 use Rattle.mcs_sets.proofs.Lattice.{size-none}
 use Rattle.mcs_base.specs.Least.{IsLeastOf}
 use Rattle.mcs_base.specs.Listings.{IsAmong}
+use Rattle.mcs_base.proofs.Each.{all_among, all_from_among, all_left, all_right, all_take_more, all_weaker}
 use Rattle.mcs_base.proofs.ListingLemmas.{IsListing-nil, none_listed}
 use Rattle.mcs_base.proofs.NumberCases.{not_less}
+use Rattle.mcs_base.proofs.Written.{take_read}
 use Rattle.mcs_system.specs.Faults.{IsValid}
 use Rattle.mcs_system.specs.Plain.{Bridge, System}
+use Rattle.mcs_system.specs.Repairs.{IsDiagnosis}
 use Rattle.mcs_system.specs.Seen.{bridge_of}
 use Rattle.mcs_system.specs.Systems.{IsConsistent}
 use Rattle.mcs_laws.proofs.Choices.{consistent_needs_nothing}
@@ -21,12 +26,13 @@ use Rattle.mcs_states.proofs.Causes.{cause_before, rest_kept, rest_same, told}
 use Rattle.mcs_costs.specs.Costs.{cost, weights, AreCheapest, IsCheapest, IsLeastWeight, SettlesCost, SettlesNone, IsStopLevel, IsUpToStop}
 use Rattle.mcs_costs.proofs.CostLemmas.{cost-none, least_weight_some}
 use Rattle.mcs_costs.proofs.ExistLemmas.{cheapest_exists, least_exists, stop_exists}
-use Rattle.mcs_costs.proofs.StopLemmas.{settles_none_below, stop_is_one, stop_is_quotient, stop_without}
+use Rattle.mcs_costs.proofs.StopLemmas.{cheapest_few, settles_none_below, stop_is_one, stop_is_quotient, stop_without}
 use Rattle.mcs_system.specs.declared.bridge.Bridge as code
 use Rattle.mcs_cheapest.specs.Found.{HasBrokenOff, IsLeastCost}
-use Rattle.mcs_cheapest.specs.Least.{HasTold, IsAsking, IsLooking}
+use Rattle.mcs_cheapest.specs.Least.{HasReached, HasTold, IsAsking, IsLooking, IsMostMarks}
 use Rattle.mcs_cheapest.specs.Searching.{HasStopped, IsDoneBefore, IsTaken}
 use Rattle.mcs_cheapest.proofs.CountLemmas.{beyond_after, unanswered_after}
+use Rattle.mcs_cheapest.proofs.FoundLemmas.{done_still}
 use Rattle.mcs_cheapest.proofs.SearchLemmas.{done_next, raised_next}
 
 -- ---- how far the search goes
@@ -170,17 +176,75 @@ all_looked first e level candidate last pairs valid all past empty l = record {
   asking = subst (IsAsking first e) past l.asking;
 }
 
--- ---- the levels up to the stop level are asked
+-- ---- what was told
 module _ (first e : EvaluatorState) (level : ℕ) (pairs : List ℕ) (t : HasTold first e level pairs) where
   pub told_up_to : IsUpToStop first.system level
   told_up_to = (t.asking.taken level (omega arith)).up_to_stop
 
--- a level that is not above the stop level
-pub below_stop : (m : System) (level stop : ℕ) → level ≤ stop → IsStopLevel m stop → IsUpToStop m level
-below_stop m level stop low is other other_is = let same = stop_is_one m stop other is other_is in omega (arith, low, same)
+  pub told_to : (n : System) → first.system ≡ n → AreCheapest n pairs
+  told_to n same = subst (λ (m : System). AreCheapest m pairs) same t.listed
 
--- all were asked
-pub asked_all : (first e now : EvaluatorState) (level : ℕ) (pairs : List ℕ) → HasTold first e level pairs → (stop : ℕ) → IsStopLevel first.system stop → IsAsking first now (stop + 1) → HasStopped first now pairs
-asked_all first e now level pairs t stop is a =
-    let done = subst (IsDoneBefore now) (let next : stop + 1 ≡ suc stop = omega arith in next) a.done in
-    record { valid = t.valid; listed = t.listed; stop = stop; is_stop = is; level_done = done.0; settled = done.1; taken = λ k few. a.taken k (omega (arith, few)) }
+  -- all levels up to the stop level were asked too
+  pub asked_all : (now : EvaluatorState) → (stop : ℕ) → IsStopLevel first.system stop → IsAsking first now (stop + 1) → HasStopped first now pairs
+  asked_all now stop is a =
+      let done = subst (IsDoneBefore now) (let next : stop + 1 ≡ suc stop = omega arith in next) a.done in
+      record { valid = t.valid; listed = t.listed; stop = stop; is_stop = is; level_done = done.0; settled = done.1; taken = λ k few. a.taken k (omega (arith, few)) }
+
+-- the stop level is not above itself
+pub stop_up_to : (m : System) (stop : ℕ) → IsStopLevel m stop → IsUpToStop m stop
+stop_up_to m stop is other other_is = let same = stop_is_one m stop other is other_is in omega (arith, same)
+
+-- ---- the greatest number of marks
+pub most_of_none : IsMostMarks [] 0
+most_of_none = record { all = tt; least = λ n all. omega arith }
+
+pub most_more : (xs : List ℕ) (i x n most top : ℕ) → i < length xs → x ≡ get_or xs i x → n ≡ size x → top ≡ max most n → IsMostMarks (take i xs) most → IsMostMarks (take (i + 1) xs) top
+most_more xs i x n most top less is number greatest are = record {
+  all = all_take_more (λ p. size p ≤ top) xs i x less is (all_weaker (λ p. size p ≤ most) (λ p. size p ≤ top) (λ p few. omega (arith, few, greatest)) (take i xs) are.all) (omega (arith, number, greatest));
+  least = λ k all.
+      let both = subst (AllByRecursion (λ p. size p ≤ k)) (take_read xs i x less is) all in
+      let before = are.least k (all_left (λ p. size p ≤ k) (take i xs) (x ∷ []) both) in
+      let here = (all_right (λ p. size p ≤ k) (take i xs) (x ∷ []) both).0 in
+      omega (arith, before, here, number, greatest);
+}
+
+-- no cheapest diagnosis has more marks than the stop level says
+module _ (first e : EvaluatorState) (level : ℕ) (pairs : List ℕ) (t : HasTold first e level pairs) (most : ℕ) (are : IsMostMarks pairs most) where
+  pub most_up_to : IsUpToStop first.system most
+  most_up_to stop is = are.least stop (all_from_among (λ p. size p ≤ stop) pairs (λ p among. cheapest_few first.system p stop t.valid ((t.listed.exactly p).0 among) is))
+
+  pub has_reached : (now : EvaluatorState) → IsAsking first now (max level most + 1) → HasReached first now (max level most) pairs
+  has_reached now asking = record {
+    told = record { valid = t.valid; listed = t.listed; asking = asking };
+    few = all_weaker (λ p. size p ≤ most) (λ p. size p ≤ max level most) (λ p few. omega (arith, few)) pairs are.all;
+  }
+
+-- ---- one is shown
+module _ (first e : EvaluatorState) (level : ℕ) (pairs : List ℕ) (r : HasReached first e level pairs) (p : ℕ) (among : IsAmong p pairs) where
+  few_marks : size p ≤ level
+  few_marks = all_among (λ q. size q ≤ level) pairs p r.few among
+
+  pub reached_diagnosis : (n : System) → first.system ≡ n → IsDiagnosis n p
+  reached_diagnosis n same = subst (λ (m : System). IsDiagnosis m p) same ((r.told.listed.exactly p).0 among).one
+
+  -- the call for it halted
+  pub reached_broke_off : (a e' : EvaluatorState) (halt : Halt) → KeepsRest first a → HasHalted a e' (size p) halt → HasBrokenOff first e' halt
+  reached_broke_off a e' halt kept h = record {
+    level = size p;
+    up_to_stop = λ stop is. (let up = told_up_to first e level pairs r.told stop is in omega (arith, few_marks, up));
+    cause = cause_before first a kept (size p) halt h.cause;
+    told = told a e' (size p) halt h;
+    within = λ k less. (r.told.asking.taken k (omega (arith, less, few_marks))).within;
+    answered = λ k i x less. (r.told.asking.taken k (omega (arith, less, few_marks))).answered i x;
+  }
+
+  -- it was done, and the level is still the greatest one done
+  pub asking_still : (a e' : EvaluatorState) → IsAsking first a (level + 1) → HasDone a e' (size p) → KeepsRest a e' → IsAsking first e' (level + 1)
+  asking_still a e' asking h kept =
+      let before = subst (IsDoneBefore a) (let next : level + 1 ≡ suc level = omega arith in next) asking.done in
+      record {
+        going = h.settled.going;
+        rest = rest_kept first a e' asking.rest kept;
+        done = done_next e' level (done_still a e' level (size p) before.0 few_marks h.level_done) h.settled;
+        taken = asking.taken;
+      }

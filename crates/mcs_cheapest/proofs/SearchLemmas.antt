@@ -21,9 +21,9 @@ use Rattle.mcs_states.proofs.Causes.{cause_before, rest_kept, rest_same}
 use Rattle.mcs_diagnosis.specs.Courses.{Course, IsPast}
 use Rattle.mcs_diagnosis.specs.Diagnoses.{ArePairsOfSize, IsDiagnosisOfSize}
 use Rattle.mcs_base.specs.Least.{IsLeastOf}
-use Rattle.mcs_costs.specs.Costs.{cost, IsUpToStop}
+use Rattle.mcs_costs.specs.Costs.{ArePairs, cost, IsUpToStop}
 use Rattle.mcs_cheapest.specs.Found.{HasBrokenOff, Searches}
-use Rattle.mcs_cheapest.specs.Searching.{ArePairs, IsBelowMarks, IsDoneBefore, IsSearching, IsTaken}
+use Rattle.mcs_cheapest.specs.Searching.{IsBelowMarks, IsDoneBefore, IsSearching, IsTaken}
 use Rattle.mcs_cheapest.proofs.CountLemmas.{beyond_after, unanswered_after}
 use Rattle.mcs_cheapest.proofs.EndLemmas.{IsBelow, next_up_to_stop}
 

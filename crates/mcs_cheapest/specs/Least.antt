@@ -1,5 +1,7 @@
 -- The search for the cheapest diagnoses by an evaluator that tells them alone.
 use Rattle.std.specs.Prelude.{◌≡◌, ℕ, ◌+◌, ◌<◌, ◌≤◌, false, List}
+use Rattle.std.specs.List.{AllByRecursion}
+use Rattle.mcs_sets.specs.Sets.{size}
 use Rattle.mcs_system.specs.Faults.{IsValid}
 use Rattle.mcs_states.specs.Evaluators.{EvaluatorState, KeepsRest}
 use Rattle.mcs_costs.specs.Costs.{AreCheapest, SettlesNone}
@@ -23,3 +25,13 @@ pub record HasTold (first now : EvaluatorState) (level : ℕ) (pairs : List ℕ)
   pub valid : IsValid first.system
   pub listed : AreCheapest first.system pairs
   pub asking : IsAsking first now (level + 1)
+
+-- and none of them has more marks than this level
+pub record HasReached (first now : EvaluatorState) (level : ℕ) (pairs : List ℕ) : Type 0 where
+  pub told : HasTold first now level pairs
+  pub few : AllByRecursion (λ p. size p ≤ level) pairs
+
+-- the greatest of their numbers of marks, and 0 of none
+pub record IsMostMarks (pairs : List ℕ) (most : ℕ) : Type 0 where
+  pub all : AllByRecursion (λ p. size p ≤ most) pairs
+  pub least : (n : ℕ) → AllByRecursion (λ p. size p ≤ n) pairs → most ≤ n

@@ -1,22 +1,16 @@
 -- The search for the cheapest diagnoses while it is under way.
 use Rattle.std.specs.Prelude.{◌≡◌, ◌⊎◌, ℕ, zero, suc, ◌*◌, ◌<◌, ◌≤◌, false, List, map, Option, Some, None}
-use Rattle.std.specs.List.{AllByRecursion}
 use Rattle.mcs_sets.specs.Orders.{PairBefore}
-use Rattle.mcs_sets.specs.Sets.{size, Within}
-use Rattle.mcs_base.specs.Listings.{IsAscending, IsListing}
+use Rattle.mcs_sets.specs.Sets.{size}
+use Rattle.mcs_base.specs.Listings.{IsListing}
 use Rattle.mcs_base.specs.Minimal.{IsMinimal}
 use Rattle.mcs_system.specs.Faults.{IsValid}
 use Rattle.mcs_system.specs.Plain.{System}
-use Rattle.mcs_system.specs.Repairs.{all_marks, IsDiagnosis}
+use Rattle.mcs_system.specs.Repairs.{IsDiagnosis}
 use Rattle.mcs_states.specs.Evaluators.{EvaluatorState, KeepsRest, IsEvaluatorSettled, ExceedsBudget, IsUnanswered}
 use Rattle.mcs_diagnosis.specs.Courses.{IsPast}
 use Rattle.mcs_base.specs.Least.{IsLeastOf}
 use Rattle.mcs_costs.specs.Costs.{cost, IsCheapest, IsLeastWeight, IsStopLevel, IsUpToStop}
-
--- sets of marks of rules, in the order of pairs
-pub record ArePairs (m : System) (pairs : List ℕ) : Type 0 where
-  pub marks : AllByRecursion (λ p. Within p (all_marks m)) pairs
-  pub ascending : IsAscending PairBefore pairs
 
 -- this cost is less than so many marks of this weight cost: not where there is none of the two
 abbrev pub CostsLess : Option ℕ → Option ℕ → ℕ → Type 0

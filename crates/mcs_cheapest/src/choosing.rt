@@ -3,12 +3,12 @@
 ghost use Rattle.std.specs.Prelude.{◌≡◌, IfOk};
 ghost use Rattle.mcs_sets.specs.Orders.{PairBefore};
 ghost use Rattle.mcs_base.specs.Listings.{IsAmong, IsListing};
-ghost use Rattle.mcs_costs.specs.Costs.{cost};
-ghost use Rattle.mcs_cheapest.specs.Searching.{ArePairs, CostsLeast};
+ghost use Rattle.mcs_costs.specs.Costs.{ArePairs, cost};
+ghost use Rattle.mcs_cheapest.specs.Searching.{CostsLeast};
 
 use crate::searching::Search;
 use mcs_base::{Marks, Memory};
-use mcs_costs::cost;
+use mcs_costs::of_cost;
 use mcs_system::System;
 use std::alloc::Global;
 
@@ -26,24 +26,4 @@ pub(crate) fn cheapest_pairs(
         None => Ok(Vec::new(alloc)),
         Some(least) => of_cost(alloc, system, &search.pairs, least),
     }
-}
-
-/// Those of the pairs that cost so much, in their order.
-fn of_cost(
-    alloc: Global,
-    system: &System,
-    pairs: &[Marks],
-    price: u64,
-) -> Result<Vec<Marks>, Memory>
-    requires { ArePairs system.now pairs.now }
-    ensures { IfOk result (λ kept. IsListing (λ p. IsAmong p pairs.now
-        × (price ≡ cost system.now p)) PairBefore kept.items) }
-{
-    let mut kept = Vec::new(alloc);
-    for marks in pairs {
-        if cost(system, *marks) == price {
-            kept.push(*marks)?;
-        }
-    }
-    Ok(kept)
 }

@@ -1,10 +1,11 @@
 //! The cheapest diagnoses of a system, by an evaluator that tells them alone.
 
+ghost use Rattle.std.specs.Prelude.{◌≡◌, ◌+◌, false, max};
 ghost use Rattle.mcs_states.specs.Calls.{CanBegin};
-ghost use Rattle.mcs_costs.specs.Costs.{AreCheapest, IsStopLevel};
+ghost use Rattle.mcs_states.specs.Evaluators.{EvaluatorState};
+ghost use Rattle.mcs_costs.specs.Costs.{AreCheapest, IsStopLevel, IsUpToStop};
 ghost use Rattle.mcs_cheapest.specs.Found.{HasSearched, IsLeastCost, Searches};
-ghost use Rattle.mcs_cheapest.specs.Least.{HasTold};
-ghost use Rattle.mcs_cheapest.specs.Searching.{HasStopped};
+ghost use Rattle.mcs_cheapest.specs.Least.{HasReached, HasTold, IsAsking, IsMostMarks};
 
 use crate::cheapest::Cheapest;
 use mcs_base::{Marks, Pair};
@@ -27,12 +28,13 @@ pub fn list_least<E: CheapestEvaluator>(
     ensures { Searches (HasSearched (E.stands evaluator.old) (E.stands evaluator.new))
         (E.stands evaluator.old) (E.stands evaluator.new) result }
 {
-    let pairs = least_pairs(alloc, evaluator, system)?;
+    let Told { pairs, level } = least_pairs(alloc, evaluator, system)?;
     let mut found = Vec::new(alloc);
     for marks in &pairs {
         let shown = show(alloc, evaluator, system, Pair::new(*marks))?;
         found.push(shown)?;
     }
+    take_rest(alloc, evaluator, level, stop_level(system, &pairs))?;
     Ok(Cheapest {
         found,
         cost: cost_of_each(system, &pairs),
@@ -40,29 +42,61 @@ pub fn list_least<E: CheapestEvaluator>(
     })
 }
 
-/// The cheapest diagnoses, and the level at which they were told.
+/// The cheapest diagnoses, and a level up to which all were taken.
 #[derive(Drop)]
 struct Told {
     pairs: Vec<Marks>,
     level: u32,
 }
 
-/// The cheapest diagnoses, once the levels up to the stop level were taken.
+/// The cheapest diagnoses, once so many levels were taken that none of them has more marks. At this
+/// level contexts have fewer rows than at the stop level, so that the diagnoses are shown sooner.
 fn least_pairs<E: CheapestEvaluator>(
     alloc: Global,
     evaluator: &mut E,
     system: &System,
-) -> Result<Vec<Marks>, Halt>
+) -> Result<Told, Halt>
     requires { CanBegin system.now (E.stands evaluator.old) }
-    ensures { Searches (λ pairs. HasStopped (E.stands evaluator.old) (E.stands evaluator.new)
-        pairs.items) (E.stands evaluator.old) (E.stands evaluator.new) result }
+    ensures { Searches (λ told. HasReached (E.stands evaluator.old) (E.stands evaluator.new)
+        told.level told.pairs.items) (E.stands evaluator.old) (E.stands evaluator.new) result }
 {
     let Told { pairs, level } = first_told(alloc, evaluator, system)?;
-    let stop = stop_level(system, &pairs);
-    for before in level..stop {
+    let most = most_marks(&pairs);
+    take_rest(alloc, evaluator, level, most)?;
+    Ok(Told {
+        pairs,
+        level: level.max(most),
+    })
+}
+
+/// How many marks one of the pairs has at most.
+fn most_marks(pairs: &[Marks]) -> u32
+    ensures { IsMostMarks pairs.now result }
+{
+    let mut most: u32 = 0;
+    for marks in pairs {
+        most = most.max(marks.count());
+    }
+    most
+}
+
+/// Takes the levels above one that was taken, up to the last one that is wanted.
+fn take_rest<E: CheapestEvaluator>(
+    alloc: Global,
+    evaluator: &mut E,
+    level: u32,
+    last: u32,
+) -> Result<(), Halt>
+    requires { (E.stands evaluator.old).halted ≡ false }
+    ensures { (first : EvaluatorState) → IsAsking first (E.stands evaluator.old) (level + 1)
+        → IsUpToStop first.system last
+        → Searches (λ _. IsAsking first (E.stands evaluator.new) (max level last + 1))
+        first (E.stands evaluator.new) result }
+{
+    for before in level..last {
         evaluator.reach(alloc, before + 1)?;
     }
-    Ok(pairs)
+    Ok(())
 }
 
 /// Takes levels from 0 on, until the cheapest diagnoses are told, or the level is that of all

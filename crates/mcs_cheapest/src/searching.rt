@@ -1,17 +1,12 @@
 //! The levels that a search for the cheapest diagnoses takes.
 
-ghost use Rattle.std.specs.Prelude.{◌≡◌, ◌↔◌, ◌++◌, ℕ, List, map, IsTrue};
-ghost use Rattle.std.specs.List.{AllByRecursion};
-ghost use Rattle.mcs_sets.specs.Sets.{Within};
-ghost use Rattle.mcs_system.specs.Repairs.{all_marks};
+ghost use Rattle.std.specs.Prelude.{◌≡◌, ◌↔◌, IsTrue};
 ghost use Rattle.mcs_states.specs.Calls.{CanBegin};
-ghost use Rattle.mcs_base.specs.Least.{IsLeastOf};
-ghost use Rattle.mcs_costs.specs.Costs.{cost};
 ghost use Rattle.mcs_cheapest.specs.Found.{Searches};
 ghost use Rattle.mcs_cheapest.specs.Searching.{CostsLess, HasTakenEnough};
 
-use mcs_base::{Marks, lesser};
-use mcs_costs::{cost, least_weight};
+use mcs_base::Marks;
+use mcs_costs::{least_cost, least_weight};
 use mcs_diagnosis::Levels;
 use mcs_states::{Evaluator, Halt};
 use mcs_system::System;
@@ -61,17 +56,4 @@ fn is_settled(least: Option<u64>, weight: Option<u64>, marks: u32) -> bool
         (Some(least), Some(weight)) => (least as u128) < marks as u128 * weight as u128,
         _ => false,
     }
-}
-
-/// The least cost of the pairs and of those before them, whose least cost is `least`.
-fn least_cost(system: &System, pairs: &[Marks], least: Option<u64>) -> Option<u64>
-    requires { AllByRecursion (λ p. Within p (all_marks system.now)) pairs.now }
-    ensures { (before : List ℕ) → IsLeastOf (map (cost system.now) before) least
-        → IsLeastOf (map (cost system.now) (before ++ pairs.now)) result }
-{
-    let mut least = least;
-    for marks in pairs {
-        least = Some(lesser(least, cost(system, *marks)));
-    }
-    least
 }

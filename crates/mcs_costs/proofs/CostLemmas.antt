@@ -1,5 +1,5 @@
 -- Weights of a valid system, and what marks cost.
-use Rattle.std.proofs.Common.{◌≡◌, ℕ, ◌+◌, ◌*◌, ◌/◌, ◌<◌, ◌≤◌, true, List, [], ◌∷◌, ◌++◌, map, take, length, get_or, Some, slice_get, refl, sym, ap, ◌∙◌, subst, inl, inr, arith}
+use Rattle.std.proofs.Common.{◌≡◌, ℕ, ◌+◌, ◌*◌, ◌/◌, ◌<◌, ◌≤◌, true, List, [], ◌∷◌, ◌++◌, map, take, length, get_or, Some, slice_get, refl, sym, ap, ◌∙◌, append_assoc, subst, inl, inr, arith}
 use Rattle.std.proofs.lemmas.Bool.Decides.{nat_tests}
 use Rattle.std.proofs.lemmas.List.{map-append, take_more}
 use Rattle.std.specs.List.{AllByRecursion, sum_by}
@@ -10,6 +10,7 @@ use Rattle.mcs_base.proofs.Each.{all_get}
 use Rattle.mcs_base.proofs.ListingLemmas.{members_listing}
 use Rattle.mcs_base.proofs.Lists.{slice_get_below}
 use Rattle.mcs_base.proofs.SetParts.{members_below_all}
+use Rattle.mcs_base.proofs.Written.{take_read}
 use Rattle.mcs_system.specs.Plain.{Bridge, System}
 use Rattle.mcs_system.specs.declared.bridge.Bridge as code
 use Rattle.mcs_system.specs.Faults.{IsValid}
@@ -114,3 +115,11 @@ weights_more items i b less is = ap (map (λ (x : code.Bridge). x.weight)) (take
 pub weights_seen : (items : List code.Bridge) → map (λ (b : code.Bridge). b.weight) items ≡ map (λ (b : Bridge). b.weight) (map bridge_of items)
 weights_seen [] = refl
 weights_seen (b ∷ items) = ap (λ ws. b.weight ∷ ws) (weights_seen items)
+
+-- the costs of a pair more
+pub costs_more : (f : ℕ → ℕ) (before xs : List ℕ) (i x n : ℕ) → i < length xs → x ≡ get_or xs i x → n ≡ f x → map f (before ++ take (i + 1) xs) ≡ map f (before ++ take i xs) ++ n ∷ []
+costs_more f before xs i x n less is same =
+    ap (λ ys. map f (before ++ ys)) (take_read xs i x less is)
+    ∙ ap (map f) (sym (append_assoc before (take i xs) (x ∷ [])))
+    ∙ map-append f (before ++ take i xs) (x ∷ [])
+    ∙ ap (λ (y : ℕ). map f (before ++ take i xs) ++ y ∷ []) (sym same)

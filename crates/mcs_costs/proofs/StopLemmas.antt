@@ -14,6 +14,9 @@ use Rattle.mcs_laws.proofs.Choices.{consistent_minimal, consistent_needs_nothing
 use Rattle.mcs_laws.proofs.Counting.{minimal_is_small}
 use Rattle.mcs_costs.specs.Costs.{cost, weights, IsCheapest, IsLeastWeight, SettlesCost, IsFirstSettling, IsStopLevel, SettlesNone}
 use Rattle.mcs_costs.specs.Laws.{CheapestHaveFewMarks, StopLevelIsQuotient, StopLevelWithoutDiagnoses, StopLevelsAreOne}
+use Rattle.mcs_costs.specs.Settling.{IsSettling}
+use Rattle.mcs_costs.specs.declared.evaluator.Settling.{Settling}
+use Rattle.mcs_costs.specs.declared.evaluator.Settling.TheVariants.{Settled, NoneUpTo}
 use Rattle.mcs_base.proofs.LeastLemmas.{least_is_one}
 use Rattle.mcs_costs.proofs.CostLemmas.{cost-none, least_weight_some, none_from_cost}
 use Rattle.mcs_costs.proofs.CheapestLemmas.{cheapest_minimal, few_marks}
@@ -123,3 +126,8 @@ settles_none_below m level ahead no_less none pair diagnosis settled = none pair
   | inl (weight, least, cheap) ↦ inl (weight, least, (let more : (level + 1) * weight ≤ (ahead + 1) * weight = mul-le (level + 1) weight (ahead + 1) weight (omega (arith, no_less)) (omega arith) in omega (arith, more, cheap)))
   | inr all ↦ inr (omega (arith, all, no_less))
 ])
+
+-- what is told at a level is so at each below it
+pub settling_lower : (m : System) (level ahead : ℕ) (told : Settling) → level ≤ ahead → IsSettling m ahead told → IsSettling m level told
+settling_lower m level ahead (Settled pairs) no_less all = all
+settling_lower m level ahead (NoneUpTo bound) no_less (above, none) = (omega (arith, no_less, above), none)

@@ -1,12 +1,12 @@
 -- What a repair costs, which diagnoses cost least, and how many marks such a one may have.
 use Rattle.std.specs.Prelude.{◌≡◌, ◌⊎◌, ℕ, ◌+◌, ◌*◌, ◌/◌, ◌<◌, ◌≤◌, List, map, length, Option, Some, None, slice_get}
-use Rattle.std.specs.List.{sum_by}
+use Rattle.std.specs.List.{AllByRecursion, sum_by}
 use Rattle.mcs_sets.specs.Orders.{PairBefore}
-use Rattle.mcs_sets.specs.Sets.{members, size}
+use Rattle.mcs_sets.specs.Sets.{members, size, Within}
 use Rattle.mcs_base.specs.Least.{IsLeastOf}
-use Rattle.mcs_base.specs.Listings.{IsListing}
+use Rattle.mcs_base.specs.Listings.{IsAscending, IsListing}
 use Rattle.mcs_system.specs.Plain.{Bridge, System}
-use Rattle.mcs_system.specs.Repairs.{IsDiagnosis}
+use Rattle.mcs_system.specs.Repairs.{all_marks, IsDiagnosis}
 use Rattle.mcs_system.specs.Systems.{IsConsistent}
 
 -- ---- weights
@@ -30,6 +30,11 @@ IsLeastWeight m w = IsLeastOf (weights m) (Some w)
 -- the cost of a pair: the sum of the weights of its marks' rules, one for each mark
 unfoldable pub cost : System → ℕ → ℕ
 cost m pair = sum_by (mark_weight m) (members pair)
+
+-- sets of marks of rules, in the order of pairs
+pub record ArePairs (m : System) (pairs : List ℕ) : Type 0 where
+  pub marks : AllByRecursion (λ p. Within p (all_marks m)) pairs
+  pub ascending : IsAscending PairBefore pairs
 
 -- a diagnosis is cheapest where no diagnosis costs less
 pub record IsCheapest (m : System) (pair : ℕ) : Type 0 where

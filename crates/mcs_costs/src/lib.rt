@@ -2,10 +2,12 @@
 //! evaluators that tell the cheapest diagnoses alone.
 #![tactic(auto)]
 
+mod choosing;
 mod costing;
 mod evaluator;
 mod laws;
 
+pub use choosing::{least_cost, of_cost};
 pub use costing::{cost, least_weight};
 pub use evaluator::{CheapestEvaluator, Settling};
 pub use laws::{

@@ -7,3 +7,4 @@ pub mod CheapestMarks
 pub mod Settling
 pub mod DearMarks
 pub mod Above
+pub mod Choosing

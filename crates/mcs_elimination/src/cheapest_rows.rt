@@ -39,7 +39,7 @@ pub(crate) fn cheapest_rows(
 }
 
 /// Whether there is no bound, or the price is less.
-fn is_below(price: u64, below: Option<u64>) -> bool
+pub(crate) fn is_below(price: u64, below: Option<u64>) -> bool
     ensures yes { result ≡ true → IsBelow below price }
     ensures no { result ≡ false → ¬ IsBelow below price }
 {

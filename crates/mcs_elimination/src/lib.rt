@@ -11,4 +11,4 @@ mod settled;
 
 pub use cheapest::cheapest_in;
 pub use dear::dear_marks;
-pub use settled::cheapest_at;
+pub use settled::{cheapest_among, cheapest_at};

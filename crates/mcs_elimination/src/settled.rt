@@ -1,14 +1,23 @@
 //! The cheapest diagnoses, as far as they have no more marks than a level says.
 
 ghost use Rattle.std.specs.Prelude.{◌≤◌, ℕ, List, IfOk, MatchOption};
-ghost use Rattle.mcs_costs.specs.Costs.{AreCheapest, SettlesNone};
+ghost use Rattle.mcs_sets.specs.Orders.{PairBefore};
+ghost use Rattle.mcs_sets.specs.Sets.{size};
+ghost use Rattle.mcs_base.specs.Listings.{IsListing};
+ghost use Rattle.mcs_base.specs.Minimal.{IsMinimal};
+ghost use Rattle.mcs_system.specs.Repairs.{IsDiagnosis};
+ghost use Rattle.mcs_costs.specs.Costs.{cost, AreCheapest, IsCheapest, SettlesNone};
 ghost use Rattle.mcs_rows.specs.Local.{AreFittingTables};
-ghost use Rattle.mcs_elimination.specs.Eliminating.{AreDear};
+ghost use Rattle.mcs_elimination.specs.Eliminating.{AreDear, IsCostBound};
+ghost use Rattle.mcs_elimination.specs.CheapestRows.{IsBelow};
 
 use crate::cheapest::cheapest_in;
+use crate::cheapest_rows::is_below;
 use crate::lightest::bound_at;
 use mcs_base::{Marks, Memory};
+use mcs_costs::{least_cost, of_cost};
 use mcs_import::Plan;
+use mcs_system::System;
 use mcs_table::Table;
 use std::alloc::Global;
 
@@ -39,4 +48,49 @@ pub fn cheapest_at(
         return Ok(None);
     }
     Ok(Some(pairs))
+}
+
+/// The same, of the minimal diagnoses with at most so many marks.
+pub fn cheapest_among(
+    alloc: Global,
+    system: &System,
+    pairs: &[Marks],
+    level: u32,
+) -> Result<Option<Vec<Marks>>, Memory>
+    requires { IsListing (λ p. IsMinimal (IsDiagnosis system.now) p × (size p ≤ level)) PairBefore
+        pairs.now }
+    ensures { IfOk result (λ told. MatchOption told (SettlesNone system.now level)
+        (λ cheapest. AreCheapest system.now cheapest.items)) }
+{
+    let below = bound_at(system, level);
+    let cheapest = cheapest_below(alloc, system, pairs, level, below)?;
+    if below.is_some() && cheapest.is_empty() {
+        return Ok(None);
+    }
+    Ok(Some(cheapest))
+}
+
+/// Those of the minimal diagnoses with at most so many marks that are cheapest, if they cost less
+/// than the bound of the level.
+fn cheapest_below(
+    alloc: Global,
+    system: &System,
+    pairs: &[Marks],
+    level: u32,
+    below: Option<u64>,
+) -> Result<Vec<Marks>, Memory>
+    requires pairs { IsListing (λ p. IsMinimal (IsDiagnosis system.now) p × (size p ≤ level))
+        PairBefore pairs.now }
+    requires bound { IsCostBound system.now level below }
+    ensures { IfOk result (λ cheapest. IsListing (λ p. IsCheapest system.now p
+        × IsBelow below (cost system.now p)) PairBefore cheapest.items) }
+{
+    let _bridges = system.bridges();
+    let Some(least) = least_cost(system, pairs, None) else {
+        return Ok(Vec::new(alloc));
+    };
+    if !is_below(least, below) {
+        return Ok(Vec::new(alloc));
+    }
+    of_cost(alloc, system, pairs, least)
 }

@@ -1,10 +1,11 @@
 -- What is left of the tables of all contexts, made one after the other, each with rows that fit those before.
-use Rattle.std.proofs.Common.{◌≡◌, ◌≤◌, ℕ, List, length, map, min, Some, slice_get, subst, ◌↔◌, arith}
+use Rattle.std.proofs.Common.{◌≡◌, ◌≤◌, ℕ, List, ◌++◌, length, map, min, Some, slice_get, subst, ◌↔◌, arith}
 use Rattle.std.proofs.lemmas.Option.{slice_get-get_or}
 use Rattle.std.specs.List.{AllByRecursion, AllZip}
 use Rattle.mcs_sets.specs.Sets.{size, Meets}
+use Rattle.mcs_sets.specs.Orders.{PairBefore}
 use Rattle.mcs_base.specs.Antichains.{HasOneWithin}
-use Rattle.mcs_base.specs.Listings.{IsAmong}
+use Rattle.mcs_base.specs.Listings.{IsAmong, IsListing}
 use Rattle.mcs_base.specs.Minimal.{IsMinimal}
 use Rattle.mcs_system.specs.Plain.{System}
 use Rattle.mcs_system.specs.Faults.{IsValid}
@@ -14,6 +15,7 @@ use Rattle.mcs_laws.proofs.Counting.{minimal_is_small}
 use Rattle.mcs_laws.proofs.Questions.{marks_are_apart}
 use Rattle.mcs_table.specs.declared.row.Row.{Row}
 use Rattle.mcs_table.specs.Tables.{TableData, IsTable, unit_table}
+use Rattle.mcs_table.specs.Without.{IsWithout}
 use Rattle.mcs_table.specs.Elimination.{EliminatesTo, AreJointMarks}
 use Rattle.mcs_table.proofs.EliminationLemmas.{elimination_gives_marks}
 use Rattle.mcs_rows.specs.Local.{IsRowOf, AreLocalTables, AreFittingTables}
@@ -21,6 +23,7 @@ use Rattle.mcs_rows.proofs.LocalLemmas.{local_are_tables}
 use Rattle.mcs_joint.specs.Apart.{EachApart}
 use Rattle.mcs_joint.proofs.Covering.{MarksCover, apart_fitting, apart_moved, cover_minimal, covers-trans, few_cover, few_are_tables, fitting_cover, moved_cover}
 use Rattle.mcs_joint.specs.Reduced.{HasFewMarks, IsReduced}
+use Rattle.mcs_joint.proofs.Keeping.{known_listed}
 use Rattle.mcs_joint.proofs.Leaving.{apart_left, minimal_left}
 use Rattle.mcs_joint.proofs.Repairing.{minimal_marks}
 use Rattle.mcs_joint.proofs.Reducing.{reduced_covers}
@@ -66,8 +69,13 @@ module _ (m : System) (valid : IsValid m) (k level most : ℕ) (is_most : most �
       (λ h. last.0 (other.0 (whole.0 (one.0 h))), λ h. one.1 (whole.1 (other.1 (last.1 h))))
 
   -- of the marks that hold none of the known sets, those of what is left are the minimal diagnoses
-  pub repairs_told : (t : TableData) → EliminatesTo most 0 ordered t → (p : ℕ) → ¬ HasOneWithin sets p → IsAmong p (map (λ (r : Row). r.marks) t.rows) ↔ (IsMinimal (IsDiagnosis m) p × (size p ≤ level))
+  repairs_told : (t : TableData) → EliminatesTo most 0 ordered t → (p : ℕ) → ¬ HasOneWithin sets p → IsAmong p (map (λ (r : Row). r.marks) t.rows) ↔ (IsMinimal (IsDiagnosis m) p × (size p ≤ level))
   repairs_told t eliminates p none =
       let listed = (elimination_gives_marks most ordered t ordered_tables eliminates).exactly p in
       let told = same p none in
       (λ h. told.0 (listed.0 h), λ h. listed.1 (told.1 h))
+
+  -- so with the known ones they are all of them
+  pub repairs_listed : (whole left : TableData) (pairs : List ℕ) → EliminatesTo most 0 ordered whole → IsWithout sets whole left → AllByRecursion (λ p. IsMinimal (IsDiagnosis m) p × (size p ≤ level)) sets
+      → IsListing (λ p. IsAmong p (map (λ (r : Row). r.marks) left.rows ++ sets)) PairBefore pairs → IsListing (λ p. IsMinimal (IsDiagnosis m) p × (size p ≤ level)) PairBefore pairs
+  repairs_listed whole left pairs eliminates without known listed = known_listed (IsDiagnosis m) level sets whole left pairs known without (repairs_told whole eliminates) listed

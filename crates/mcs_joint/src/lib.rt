@@ -11,5 +11,5 @@ mod states;
 pub use first::first_state_in;
 pub use order::scopes;
 pub use reduce::reduced;
-pub use repairs::{marks_of, repairs_in};
+pub use repairs::{few_repairs_in, marks_of, repairs_in};
 pub use states::states_in;

@@ -1,10 +1,10 @@
 //! The minimal diagnoses with few marks, of the tables of all contexts.
 
-ghost use Rattle.std.specs.Prelude.{◌≡◌, ◌≤◌, ℕ, map, IfOk};
+ghost use Rattle.std.specs.Prelude.{◌≡◌, ◌≤◌, ◌++◌, ℕ, map, IfOk, IfSome};
 ghost use Rattle.std.specs.List.{AllByRecursion, AllZip};
 ghost use Rattle.mcs_sets.specs.Sets.{size};
 ghost use Rattle.mcs_sets.specs.Orders.{PairBefore};
-ghost use Rattle.mcs_base.specs.Listings.{IsListing};
+ghost use Rattle.mcs_base.specs.Listings.{IsAmong, IsListing};
 ghost use Rattle.mcs_base.specs.Minimal.{IsMinimal};
 ghost use Rattle.mcs_system.specs.Repairs.{IsDiagnosis};
 ghost use Rattle.mcs_table.specs.declared.row.Row as declared;
@@ -21,6 +21,11 @@ use mcs_base::{Marks, Memory, list_pairs};
 use mcs_import::Plan;
 use mcs_table::{Row, Table, forget, holds_one, join};
 use std::alloc::Global;
+
+/// So many times the rows of the tables are few, and so many besides.
+const MOST_GROWTH: usize = 8;
+
+const FEW_ROWS: usize = 256;
 
 /// The minimal diagnoses of the plan's system that have at most so many marks, in the order of
 /// pairs. Some of them may be known already, in any order: rows whose marks contain one of them
@@ -45,10 +50,44 @@ pub fn repairs_in(
     let few = few_tables(alloc, tables, most)?;
     let fewer = reduced(alloc, few, most)?;
     let left = eliminate(alloc, &fewer, most, known)?;
-    let mut pairs = marks_of(alloc, left.rows())?;
-    pairs.extend_from_slice(known)?;
-    list_pairs(&mut pairs);
+    let pairs = all_marks_of(alloc, &left, known)?;
     Ok(pairs)
+}
+
+/// The minimal diagnoses as `repairs_in` tells them, unless what is left after a join has far more
+/// rows than the tables: then `None`, which says nothing of them.
+pub fn few_repairs_in(
+    alloc: Global,
+    plan: &Plan,
+    tables: &[Table],
+    level: u32,
+    known: &[Marks],
+) -> Result<Option<Vec<Marks>>, Memory>
+    requires tables { (k : ℕ) × (level ≤ k) × AreFittingTables plan.now k known.now tables.now }
+    requires known { AllByRecursion (λ p. IsMinimal (IsDiagnosis plan.now) p
+        × (size p ≤ level)) known.now }
+    ensures { IfOk result (λ told. IfSome told (λ pairs. IsListing
+        (λ p. IsMinimal (IsDiagnosis plan.now) p × (size p ≤ level)) PairBefore pairs.items)) }
+{
+    let most = level.min(plan.system().bridges().len() as u32);
+    let few = few_tables(alloc, tables, most)?;
+    let fewer = reduced(alloc, few, most)?;
+    let Some(left) = eliminate_few(alloc, &fewer, most, known, most_rows(&fewer))? else {
+        return Ok(None);
+    };
+    let pairs = all_marks_of(alloc, &left, known)?;
+    Ok(Some(pairs))
+}
+
+/// The marks of the rows of the table and the other ones, in the order of pairs.
+fn all_marks_of(alloc: Global, table: &Table, others: &[Marks]) -> Result<Vec<Marks>, Memory>
+    ensures { IfOk result (λ all. IsListing (λ p. IsAmong p (map (λ (r : declared.Row). r.marks)
+        table.now.rows ++ others.now)) PairBefore all.items) }
+{
+    let mut all = marks_of(alloc, table.rows())?;
+    all.extend_from_slice(others)?;
+    list_pairs(&mut all);
+    Ok(all)
 }
 
 /// The marks of each row.
@@ -104,6 +143,40 @@ pub(crate) fn eliminate(
         left = eliminate_next(alloc, &left, &tables[k], &tables[k + 1..], level, sets)?;
     }
     Ok(left)
+}
+
+/// What is left of the tables as `eliminate` tells it, or `None` if more rows than so many are left
+/// after a join.
+fn eliminate_few(
+    alloc: Global,
+    tables: &[Table],
+    level: u32,
+    sets: &[Marks],
+    most: usize,
+) -> Result<Option<Table>, Memory>
+    requires tables { AllByRecursion IsTable tables.now }
+    requires apart { EachApart tables.now }
+    ensures { IfOk result (λ told. IfSome told (λ t. (whole : TableData)
+        × EliminatesTo level 0 tables.now whole × IsWithout sets.now whole t)) }
+{
+    let unit = Table::unit(alloc)?;
+    let mut left = without(unit, sets);
+    for k in 0..tables.len() {
+        left = eliminate_next(alloc, &left, &tables[k], &tables[k + 1..], level, sets)?;
+        if left.rows().len() > most {
+            return Ok(None);
+        }
+    }
+    Ok(Some(left))
+}
+
+/// So many rows may be left after a join of these tables at most, where few are looked for.
+fn most_rows(tables: &[Table]) -> usize {
+    let mut rows: usize = 0;
+    for table in tables {
+        rows = rows.saturating_add(table.rows().len());
+    }
+    rows.saturating_mul(MOST_GROWTH).saturating_add(FEW_ROWS)
 }
 
 /// Joins what is left of earlier tables with the next one, leaves out the rows whose marks hold one

@@ -10,7 +10,6 @@ ghost use Rattle.mcs_mesh.specs.Rounds.{evaluator_state_of, AreFresh, AreNew, Ha
 ghost use Rattle.mcs_mesh.specs.Rounds.{HasShown, IsHaltOfRound, IsLastRound};
 
 use crate::answering::{changed_first, changed_states};
-use crate::cheapest::cheapest_of;
 use crate::found::{Found, is_reached};
 use crate::lasting::is_left_out;
 use crate::nodes::NodeList;
@@ -117,6 +116,7 @@ impl<P: Player + Drop> Evaluation<P> {
             found: Found {
                 level: None,
                 pairs: Vec::new(alloc),
+                many: false,
             },
         }
     }
@@ -268,7 +268,10 @@ impl<P: Player + Drop> CheapestEvaluator for Evaluation<P> {
     fn cheapest(&mut self, alloc: Global, level: u32) -> Result<Settling, Halt> {
         Evaluation::reach(self, alloc, level)?;
         let done = self.done.unwrap_or(level);
-        match cheapest_of(alloc, &self.plan, &self.nodes, done, level) {
+        match self
+            .found
+            .cheapest(alloc, &self.plan, &self.nodes, done, level)
+        {
             Ok(told) => Ok(told),
             Err(Memory) => Err(Halt::Memory.kept_in(&mut self.halt)),
         }

@@ -5,15 +5,18 @@ ghost use Rattle.mcs_base.specs.Listings.{IsAmong, IsAscending, IsListing};
 ghost use Rattle.mcs_sets.specs.Orders.{PairBefore};
 ghost use Rattle.mcs_sets.specs.Sets.{size};
 ghost use Rattle.mcs_states.specs.Evaluators.{AreRepairs};
+ghost use Rattle.mcs_costs.specs.Settling.{IsSettling};
 ghost use Rattle.mcs_mesh.specs.Found.{AreRepairsFound};
 ghost use Rattle.mcs_mesh.specs.Players.{known_to};
 ghost use Rattle.mcs_mesh.specs.Rounds.{AreKnown};
 
+use crate::cheapest::{cheapest_of, settling_among};
 use crate::lasting::level_ahead;
 use crate::nodes::NodeList;
 use mcs_base::{Marks, Memory};
+use mcs_costs::Settling;
 use mcs_import::Plan;
-use mcs_joint::repairs_in;
+use mcs_joint::{few_repairs_in, repairs_in};
 use std::alloc::Global;
 
 /// So many of the minimal diagnoses that are known are looked for at most in the marks of each row.
@@ -25,6 +28,8 @@ const MOST_LOOKED_FOR: usize = 128;
 pub(crate) struct Found {
     pub level: Option<u32>,
     pub pairs: Vec<Marks>,
+    /// Whether there were too many to be listed where the cheapest ones were looked for.
+    pub many: bool,
 }
 
 /// Whether this level, if there is one, is no less than the other.
@@ -88,6 +93,64 @@ impl Found {
         let pairs = repairs_in(alloc, plan, &tables, ahead, looked_for)?;
         self.pairs = pairs;
         self.level = Some(ahead);
+        Ok(())
+    }
+
+    /// The cheapest diagnoses, in the order of pairs, if they are known from the questions of the
+    /// level; otherwise a level, this one or a higher one, of which none settles a diagnosis. They
+    /// are taken of the minimal diagnoses, unless these are too many. All questions of the level
+    /// `done`, which is no less, were asked.
+    pub(crate) fn cheapest<N: NodeList>(
+        &mut self,
+        alloc: Global,
+        plan: &Plan,
+        nodes: &N,
+        done: u32,
+        level: u32,
+    ) -> Result<Settling, Memory>
+        requires before { AreRepairsFound plan.now self.old.level self.old.pairs.items }
+        requires one_each { length (N.seen nodes.now) ≡ length plan.now.contexts }
+        requires known { AreKnown plan.now done (known_to (N.seen nodes.now)) }
+        requires within { level ≤ done }
+        ensures told { IfOk result (IsSettling plan.now level) }
+        ensures kept { AreRepairsFound plan.now self.new.level self.new.pairs.items }
+    {
+        if !self.many && !is_reached(self.level, level) {
+            self.find_few(alloc, plan, nodes, done, level)?;
+        }
+        if is_reached(self.level, level) {
+            let found = self.level.unwrap_or(level);
+            return settling_among(alloc, plan.system(), &self.pairs, found);
+        }
+        cheapest_of(alloc, plan, nodes, done, level)
+    }
+
+    /// Finds what `find` finds, unless there is too much of it.
+    fn find_few<N: NodeList>(
+        &mut self,
+        alloc: Global,
+        plan: &Plan,
+        nodes: &N,
+        done: u32,
+        level: u32,
+    ) -> Result<(), Memory>
+        requires before { AreRepairsFound plan.now self.old.level self.old.pairs.items }
+        requires one_each { length (N.seen nodes.now) ≡ length plan.now.contexts }
+        requires known { AreKnown plan.now done (known_to (N.seen nodes.now)) }
+        requires within { level ≤ done }
+        requires lower { (d : ℕ) → self.old.level ≡ Some d → d ≤ level }
+        ensures { AreRepairsFound plan.now self.new.level self.new.pairs.items }
+    {
+        let ahead = level_ahead(plan.system(), level);
+        let looked_for = &self.pairs[..self.pairs.len().min(MOST_LOOKED_FOR)];
+        let tables = nodes.minimal_tables(alloc, plan, done, looked_for)?;
+        match few_repairs_in(alloc, plan, &tables, ahead, looked_for)? {
+            Some(pairs) => {
+                self.pairs = pairs;
+                self.level = Some(ahead);
+            }
+            None => self.many = true,
+        }
         Ok(())
     }
 }

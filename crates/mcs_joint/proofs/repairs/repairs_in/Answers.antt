@@ -1,17 +1,14 @@
-use Rattle.std.proofs.Common.{◌≡◌, ◌∙◌, ◌++◌, ap, sym, subst, length, min, map, ℕ, List}
+use Rattle.std.proofs.Common.{◌≡◌, ◌∙◌, ap, sym, subst, length, min}
 use Rattle.std.proofs.lemmas.List.{length-map}
 use Rattle.std.specs.List.{AllByRecursion}
 use Rattle.mcs_system.specs.Faults.{IsValid}
 use Rattle.mcs_system.specs.Plain.{System}
-use Rattle.mcs_system.specs.Repairs.{IsDiagnosis}
 use Rattle.mcs_system.specs.Seen.{bridge_of}
-use Rattle.mcs_table.specs.declared.row.Row.{Row}
 use Rattle.mcs_table.specs.Tables.{IsTable}
 use Rattle.mcs_table.specs.Elimination.{EliminatesTo}
 use Rattle.mcs_joint.specs.Apart.{EachApart}
 use Rattle.mcs_joint.proofs.Covering.{apart_few, few_are_tables}
-use Rattle.mcs_joint.proofs.Keeping.{known_listed}
-use Rattle.mcs_joint.proofs.Repaired.{fitting_apart, repairs_told}
+use Rattle.mcs_joint.proofs.Repaired.{fitting_apart, repairs_listed}
 use Rattle.mcs_joint.proofs.repairs.repairs_in.Goals as goal
 
 pub reduced-requires : goal.reduced-requires
@@ -33,6 +30,4 @@ returns c =
     let most : c.min-most.result ≡ min level (length m.bridges) = c.min-most.ensures ∙ ap (min level) (sym (length-map c.bridges.result.now bridge_of) ∙ ap length (c.bridges.ensures.value ∙ ap (λ (s : System). s.bridges) c.system.ensures)) in
     let (whole, eliminates, less) = c.in_ok-left.ensures in
     let whole_left = subst (λ ts. EliminatesTo c.min-most.result 0 ts whole) c.deref.ensures.value eliminates in
-    let told = repairs_told m valid k level c.min-most.result most high sets c.args.tables.now c.in_ok-few.few.items c.in_ok-fewer.fewer.items given c.in_ok-few.ensures c.in_ok-fewer.ensures whole whole_left in
-    let items : c.extend_from_slice.new.self.items ≡ map (λ (r : Row). r.marks) c.in_ok-left.left.rows ++ sets = c.in_ok-extend_from_slice.ensures.items ∙ ap (λ (xs : List ℕ). xs ++ sets) (c.in_ok-pairs.ensures ∙ ap (map (λ (r : Row). r.marks)) c.rows.ensures.value) in
-    known_listed (IsDiagnosis m) level sets whole c.in_ok-left.left c.list_pairs.new.pairs.items c.requires.known less told (rw items at c.list_pairs.ensures)
+    repairs_listed m valid k level c.min-most.result most high sets c.args.tables.now c.in_ok-few.few.items c.in_ok-fewer.fewer.items given c.in_ok-few.ensures c.in_ok-fewer.ensures whole c.in_ok-left.left c.in_ok-pairs.pairs.items whole_left less c.requires.known c.in_ok-pairs.ensures

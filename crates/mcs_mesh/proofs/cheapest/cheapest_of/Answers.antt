@@ -1,6 +1,6 @@
-use Rattle.std.proofs.Common.{◌<◌, List, ℕ, MatchOption, subst, sym}
+use Rattle.std.proofs.Common.{◌<◌, List, ℕ, subst, sym}
 use Rattle.mcs_system.specs.Plain.{System}
-use Rattle.mcs_costs.specs.Costs.{AreCheapest, SettlesNone}
+use Rattle.mcs_costs.proofs.StopLemmas.{settling_lower}
 use Rattle.mcs_elimination.specs.Eliminating.{AreDear, AreDearMarks}
 use Rattle.mcs_elimination.proofs.DearMarks.{dear_marks_are_dear}
 use Rattle.mcs_mesh.specs.Rounds.{HasFewRules}
@@ -15,8 +15,5 @@ cheapest_at-requires g c =
     let (k, high, given) = tables_ahead c.args.plan.now c.args.level ahead c.args.done dear c.in_ok-tables.tables.items c.level_ahead-ahead.ensures.no_less above c.requires.within c.in_ok-tables.ensures in
     (k, dear, high, subst (λ (m : System). AreDear m ahead dear) c.system-2.ensures (dear_marks_are_dear c.system-2.result.now ahead dear (subst (λ (sets : List ℕ). AreDearMarks c.system-2.result.now ahead sets) (sym c.deref.ensures.value) c.in_ok-dear.ensures)), given)
 
-pub returns-in-Some : goal.returns-in-Some
-returns-in-Some g c = subst (λ told. MatchOption told (SettlesNone c.args.plan.now c.level_ahead-ahead.result) (λ pairs. AreCheapest c.args.plan.now pairs.items)) c.in-Some.is c.in_ok-pairs.ensures
-
 pub returns : goal.returns
-returns g c = (c.level_ahead-ahead.ensures.no_less, subst (λ told. MatchOption told (SettlesNone c.args.plan.now c.level_ahead-ahead.result) (λ pairs. AreCheapest c.args.plan.now pairs.items)) c.in-None.is c.in_ok-pairs.ensures)
+returns g c = settling_lower c.args.plan.now c.args.level c.level_ahead-ahead.result c.settling.result c.level_ahead-ahead.ensures.no_less (c.settling.ensures c.args.plan.now c.in_ok-cheapest.ensures)

@@ -5,8 +5,8 @@ use Rattle.mcs_system.specs.Repairs.{all_marks}
 use Rattle.mcs_base.specs.Least.{IsLeastOf}
 use Rattle.mcs_base.proofs.Each.{all_read}
 use Rattle.mcs_costs.specs.Costs.{cost}
-use Rattle.mcs_cheapest.proofs.FoundLemmas.{costs_more}
-use Rattle.mcs_cheapest.proofs.searching.least_cost.Goals as goal
+use Rattle.mcs_costs.proofs.CostLemmas.{costs_more}
+use Rattle.mcs_costs.proofs.choosing.least_cost.Goals as goal
 
 pub loop-marks-init : goal.loop-marks-init
 loop-marks-init c = λ before least. subst (λ (ps : List ℕ). IsLeastOf (map (cost c.args.system.now) ps) c.args.least) (sym (append-nil before)) least

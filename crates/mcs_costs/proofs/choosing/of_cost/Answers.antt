@@ -7,8 +7,8 @@ use Rattle.mcs_base.proofs.Each.{all_read}
 use Rattle.mcs_base.proofs.ListingLemmas.{kept_more, left_out}
 use Rattle.mcs_system.specs.Repairs.{all_marks}
 use Rattle.mcs_costs.specs.Costs.{cost}
-use Rattle.mcs_cheapest.proofs.choosing.of_cost.Goals.{then-cost-price+in_ok-push, else-cost-price}
-use Rattle.mcs_cheapest.proofs.choosing.of_cost.Goals as goal
+use Rattle.mcs_costs.proofs.choosing.of_cost.Goals.{then-cost-price+in_ok-push, else-cost-price}
+use Rattle.mcs_costs.proofs.choosing.of_cost.Goals as goal
 
 pub cost-requires : goal.cost-requires
 cost-requires c = all_read (λ p. Within p (all_marks c.args.system.now)) c.args.pairs.now c.loop-marks.marks-index c.marks-item.result c.loop-marks-test.true c.marks-item.is c.requires.marks
