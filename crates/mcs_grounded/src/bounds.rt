@@ -9,10 +9,18 @@ use std::alloc::Global;
 
 /// For each context, of the atoms in its cone, those that its answer set has for certain, and those
 /// that it may have. Both are empty for classical contexts.
-#[derive(Drop)]
 pub(crate) struct Bounds {
     pub(crate) certain: Vec<Vars>,
     pub(crate) possible: Vec<Vars>,
+}
+
+impl Drop for Bounds {
+    fn drop(self) {
+        let Bounds {
+            certain: _,
+            possible: _,
+        } = self;
+    }
 }
 
 impl Bounds {

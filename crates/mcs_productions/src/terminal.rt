@@ -59,8 +59,7 @@ impl Terminal {
 
 /// The number of the reserved word as a terminal.
 fn keyword_number(keyword: Keyword) -> u32
-    ensures number { result ≡ keyword_number keyword }
-    ensures small { result < 128 }
+    ensures { result ≡ keyword_number keyword }
 {
     match keyword {
         Keyword::Context => 0,
@@ -83,8 +82,7 @@ fn keyword_number(keyword: Keyword) -> u32
 
 /// The number of the sign as a terminal.
 fn sign_number(sign: Sign) -> u32
-    ensures number { result ≡ sign_number sign }
-    ensures small { result < 128 }
+    ensures { result ≡ sign_number sign }
 {
     match sign {
         Sign::OpenBrace => 15,

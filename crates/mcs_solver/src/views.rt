@@ -1,7 +1,7 @@
 //! What a knowledge base accepts with heads, as views of beliefs, by the logic of its kind.
 
 ghost use Rattle.std.specs.Prelude.{◌≡◌, ◌≤◌, ℕ, List, [], ◌∷◌, ◌++◌, None, length, map, IfOk};
-ghost use Rattle.std.specs.Prelude.{OnOk, IsTrue};
+ghost use Rattle.std.specs.Prelude.{OnOk, IsTrue, ◌↔◌};
 ghost use Rattle.std.specs.List.{AllByRecursion};
 ghost use Rattle.mcs_sets.specs.Orders.{StateBefore};
 ghost use Rattle.mcs_base.specs.Listings.{IsListing};
@@ -29,6 +29,7 @@ use mcs_asking::AnswerCert;
 use mcs_base::{Memory, Vars};
 use mcs_classical::{Consequences, add_formulas, add_meant, assumed, outputs_with};
 use mcs_default::{TheoryBase, extensions_from};
+use mcs_evidence::defaults_of;
 use mcs_program::{answer_sets_from, list_answer_sets};
 use mcs_sat::ClauseBase;
 use mcs_system::{Formula, Kb, Name, ProgRule, TheoryItem, names_of};
@@ -301,8 +302,39 @@ fn kept_theory(
     }
 }
 
-/// The views that a default theory accepts. Without a certificate, what was found before is used as
+/// Whether the theory has no defaults. Then it accepts all consequences of its facts, and nothing
+/// else.
+fn has_no_defaults(alloc: Global, items: &[TheoryItem]) -> Result<bool, Memory>
+    ensures { IfOk result (λ b. IsTrue b ↔ (defaults_of (map item_of items.now) ≡ [])) }
+{
+    let defaults = defaults_of(alloc, items)?;
+    Ok(defaults.is_empty())
+}
+
+/// The views that a default theory accepts, without a certificate. What was found before is used as
 /// far as possible, and what is found is kept.
+fn listed_views(
+    alloc: Global,
+    known: &mut Option<Known>,
+    items: &[TheoryItem],
+    question: &Question<'_>,
+) -> Result<Vec<Vars>, Memory>
+    requires few_defaults { length (defaults_of (map item_of items.now)) ≤ 10 }
+    requires items { AreOverItems (asked_names question.now) (map item_of items.now) }
+    requires made { IsMadeFor question.now (DefaultTheory (map item_of items.now)) known.old }
+    ensures made { IsMadeFor question.now (DefaultTheory (map item_of items.now)) known.new }
+    ensures exact { IfOk result (λ views. AreAnswer question.now
+        (DefaultTheory (map item_of items.now)) views.items) }
+{
+    let given = question.given;
+    let mut base = kept_theory(alloc, known, items, given.asked)?;
+    let listed = base.list_extensions(alloc, items, given, question.rules);
+    *known = Some(Known::Theory(base));
+    listed
+}
+
+/// The views that a default theory accepts. Where no certificate is wanted, no belief is asked for
+/// and there are no defaults, no clauses are made.
 fn theory_views(
     alloc: Global,
     known: &mut Option<Known>,
@@ -322,13 +354,13 @@ fn theory_views(
     if question.certify {
         let heads = assumed(alloc, given.assumptions, question.rules)?;
         let (views, cert) = extensions_from(alloc, items, &heads, given)?;
-        Ok((views, Some(AnswerCert::Default(cert))))
-    } else {
-        let mut base = kept_theory(alloc, known, items, given.asked)?;
-        let listed = base.list_extensions(alloc, items, given, question.rules);
-        *known = Some(Known::Theory(base));
-        Ok((listed?, None))
+        return Ok((views, Some(AnswerCert::Default(cert))));
     }
+    if given.asked.beliefs.is_empty() && has_no_defaults(alloc, items)? {
+        return view_of_nothing(alloc, false);
+    }
+    let views = listed_views(alloc, known, items, question)?;
+    Ok((views, None))
 }
 
 /// The views of the answer sets of a program. The heads and the beliefs have to be atoms.
