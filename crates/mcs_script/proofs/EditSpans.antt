@@ -23,7 +23,7 @@ use Rattle.mcs_faults.specs.declared.fault.TextFault.TheVariants as texts
 use Rattle.mcs_faults.specs.Watching.{fault_for}
 use Rattle.mcs_language.specs.declared.rules.ReadRule.{ReadRule}
 use Rattle.mcs_language.specs.Rules.{IsRuleOf, IsToldOfRule}
-use Rattle.mcs_script.specs.declared.one.ReadEdit.{ReadEdit}
+use Rattle.mcs_script.specs.declared.reading.ReadEdit.{ReadEdit}
 use Rattle.mcs_script.specs.Edits.{Added, Adds, Drops, Lists, IsWrittenEdit, edit_entries, SaysEdit}
 use Rattle.mcs_script.specs.Seen.{edit_of}
 use Rattle.mcs_script.specs.Worked.{written_rule}

@@ -9,5 +9,4 @@ pub mod OneScript
 pub mod Periods
 pub mod ScriptLemmas
 pub mod ShareLemmas
-pub mod ValidAgain
 pub mod WorkedEdits

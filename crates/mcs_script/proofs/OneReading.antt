@@ -1,5 +1,5 @@
 -- What is read by itself has one fault at most, and none where it is spelled.
-use Rattle.std.proofs.Common.{◌≡◌, ℕ, zero, suc, ◌+◌, ◌<◌, ◌≤◌, List, [], ◌∷◌, ◌++◌, map, take, drop, length, get_or, Option, Some, None, slice_get, refl, sym, ap, ◌∙◌, subst, inl, inr, arith}
+use Rattle.std.proofs.Common.{◌≡◌, ℕ, ◌<◌, ◌≤◌, List, [], ◌∷◌, ◌++◌, map, take, drop, length, get_or, Option, Some, None, slice_get, refl, sym, ap, ◌∙◌, subst, inl, inr, arith}
 use Rattle.std.specs.Prelude.{slice_range}
 use Rattle.std.proofs.lemmas.Bool.{cases_lt}
 use Rattle.std.proofs.lemmas.List.{append-nil, append_assoc, length-append, length-map, map-append, nil_from_length, take-append-drop}
@@ -8,13 +8,12 @@ use Rattle.mcs_base.proofs.Lists.{slice_get_seam}
 use Rattle.mcs_system.specs.Plain.{Name}
 use Rattle.mcs_system.specs.declared.limit.Limit.{Limit}
 use Rattle.mcs_system.specs.declared.limit.Limit.TheVariants.{Contexts, Bridges, RulesPerContext, Variables, InputsPerContext, AtomsPerContext, DefaultsPerContext, ItemsPerContext, Weight, FormulaSize, OpenParentheses, NameBytes}
-use Rattle.mcs_tokens.specs.Tokens.{IsNextToken}
 use Rattle.mcs_tokens.specs.declared.scan.Span.{Span}
 use Rattle.mcs_tokens.proofs.Unique.{next_is_unique}
 use Rattle.mcs_grammar.specs.Entries.{Token, Entry, tokens_of}
 use Rattle.mcs_grammar.specs.Faults.{TextFault, NoGrammar, NoContext, Twin, NoAtom, Exceeds, rank, fault_number, limit_of}
 use Rattle.mcs_grammar.specs.Texts.{token_texts}
-use Rattle.mcs_grammar.specs.Alone.{AreFirstTokens, IsNextAt, Begins, IsWhole, IsFaultNext, AreFree, SpellsOne, HasFirstFault}
+use Rattle.mcs_grammar.specs.Alone.{AreFirstTokens, IsNextAt, Begins, IsFaultNext, AreFree, SpellsOne, HasFirstFault}
 use Rattle.mcs_grammar.proofs.RankLemmas.{in_order}
 
 -- ---- a rank is that of one fault

@@ -1,6 +1,6 @@
 -- Rules and edits with the same tokens say the same.
 use Rattle.std.proofs.Common.{◌≡◌, ℕ, ◌+◌, ◌<◌, ◌≤◌, List, [], ◌∷◌, ◌++◌, codes, map, take, length, Option, Some, None, slice_get, refl, sym, ap, ◌∙◌, subst, inl, inr, arith, append-nil, length-append}
-use Rattle.std.specs.Prelude.{IsTrue, slice_index}
+use Rattle.std.specs.Prelude.{slice_index}
 use Rattle.std.proofs.lemmas.Bool.{eqb-false}
 use Rattle.std.proofs.lemmas.List.{length-map, length-take-le, nil_from_length}
 use Rattle.std.proofs.lemmas.Option.{slice_get_within}
@@ -20,13 +20,13 @@ use Rattle.mcs_productions.specs.declared.production.Production.TheVariants as n
 use Rattle.mcs_grammar.specs.Written.{WrittenBridge, IsWrittenBridge}
 use Rattle.mcs_grammar.specs.Entries.{Token, Entry, entry, Weighs, optional, weight_entries, mark_entries, bridge_entries, tokens_of}
 use Rattle.mcs_grammar.specs.Saying.{weight_said, SaysBridge}
-use Rattle.mcs_grammar.specs.Faults.{TextFault, Exceeds, Has}
+use Rattle.mcs_grammar.specs.Faults.{Exceeds, Has}
 use Rattle.mcs_grammar.specs.Texts.{token_texts}
 use Rattle.mcs_grammar.specs.Alone.{contexts_said, IsFaultNext, SpellsOne}
 use Rattle.mcs_account.specs.Mark.{events_of, tokens_in}
 use Rattle.mcs_account.specs.Marks.{Marked, bridge_marks}
 use Rattle.mcs_account.specs.Account.{Account, no_account, bare_context, accounted}
-use Rattle.mcs_account.proofs.Accounts.{bridge_said, bridge-accounts, idle, names_in}
+use Rattle.mcs_account.proofs.Accounts.{bridge_said, bridge-accounts, idle}
 use Rattle.mcs_account.proofs.Forward.{marked-of}
 use Rattle.mcs_account.proofs.Fronts.{same-kinds, same-marks}
 use Rattle.mcs_account.proofs.RuleFronts.{rule-tokens, bare-names}

@@ -1,20 +1,17 @@
 -- A script has one fault at most, none where it is spelled, and spells one list of edits at most.
-use Rattle.std.proofs.Common.{◌≡◌, ℕ, ◌+◌, ◌<◌, ◌≤◌, List, [], ◌∷◌, ◌++◌, length, Option, Some, None, refl, sym, ap, ◌∙◌, subst, inl, inr, arith, ◌⊎◌}
+use Rattle.std.proofs.Common.{◌≡◌, ℕ, ◌<◌, ◌≤◌, List, [], ◌∷◌, ◌++◌, length, Option, Some, None, refl, sym, ap, ◌∙◌, subst, inl, inr, arith}
 use Rattle.std.proofs.lemmas.Bool.{cases_lt}
 use Rattle.std.proofs.lemmas.List.{append-nil, length-append, length-map, nil_from_length}
 use Rattle.std.proofs.lemmas.Option.{same_Some}
 use Rattle.mcs_base.specs.Listings.{IsAmong}
 use Rattle.mcs_tokens.specs.Tokens.{IsNextToken}
-use Rattle.mcs_tokens.specs.declared.scan.Span.{Span}
 use Rattle.mcs_tokens.proofs.Unique.{next_is_unique}
 use Rattle.mcs_system.specs.Plain.{Name, Context, System}
 use Rattle.mcs_system.specs.Faults.{Fault, fault, fault_of, IsValid}
 use Rattle.mcs_system.specs.declared.limit.Limit.{Limit}
 use Rattle.mcs_system.proofs.ValidLemmas.{few_contexts}
-use Rattle.mcs_grammar.specs.Alone.{AreFirstTokens, SpellsOne}
-use Rattle.mcs_grammar.specs.Texts.{token_texts}
-use Rattle.mcs_script.specs.Edits.{Edit, Added, Dropped, Listed, context_names, rule_names, edited, system_after, IsThere, WrittenEdit, IsWrittenEdit, edit_entries}
-use Rattle.mcs_script.specs.Scripts.{BeginsAt, ReadsEdit, SpellsEdit, IsMisspelled, DropsNone, MakesNoSystem, EditHasFault, SpellsEdits, SpellsScript, ScriptHasFault}
+use Rattle.mcs_script.specs.Edits.{Edit, Dropped, context_names, rule_names, edited, system_after, IsThere, IsWrittenEdit, edit_entries}
+use Rattle.mcs_script.specs.Scripts.{BeginsAt, ReadsEdit, SpellsEdit, IsMisspelled, EditHasFault, SpellsEdits}
 use Rattle.mcs_script.specs.Laws.{ScriptsHaveOneFault, SpelledScriptsHaveNoFault, ScriptsAreUnambiguous}
 use Rattle.mcs_script.proofs.OneReading.{one-first-fault, spelled-no-fault, one-spelled}
 use Rattle.mcs_script.proofs.OneRule.{light-edit, edit-same}
@@ -85,6 +82,17 @@ edit-parts m few bytes at (e ∷ es) (d ∷ ds) end end' (next, h, hs) (next', k
     let more = edit-parts (edited m e) (few-edited m e few) bytes next es ds end end' hs later (omega (arith, short)) in
     (more.0, ap (λ (x : Edit). x ∷ ds) (sym one.1) ∙ ap (λ (l : List Edit). e ∷ l) more.1, more.2)
 
+-- a system of which an edit is spelled has few contexts, since the edited one is valid
+few-of-edit : (m : System) (bytes : List ℕ) (at end : ℕ) (es : List Edit) → SpellsEdits m bytes at es end → 0 < length es → length m.contexts ≤ 64
+few-of-edit m bytes at end [] h some = absurd (omega (arith, some))
+few-of-edit m bytes at end (e ∷ es) (next, first, rest) some = omega (arith, few_contexts (edited m e) first.valid, ap (λ (cs : List Context). length cs) (edited_contexts m e))
+
+-- the same of a whole script, whatever the system
+edit-rest : (m : System) (bytes : List ℕ) (es ds : List Edit) (end end' : ℕ) → SpellsEdits m bytes 0 es end → SpellsEdits m bytes 0 ds end' → length es ≤ length ds
+    → (rest : List Edit) × (ds ≡ es ++ rest) × SpellsEdits (system_after m es) bytes end rest end'
+edit-rest m bytes [] ds end end' h k short = (ds, refl, subst (λ (i : ℕ). SpellsEdits m bytes i ds end') (sym h) k)
+edit-rest m bytes (e ∷ es) ds end end' h k short = edit-parts m (few-of-edit m bytes 0 end (e ∷ es) h (omega arith)) bytes 0 (e ∷ es) ds end end' h k short
+
 -- one more is spelled there
 one-more : (m : System) (bytes : List ℕ) (end end' : ℕ) (rest : List Edit) → 0 < length rest → SpellsEdits m bytes end rest end' → (e : Edit) × (next : ℕ) × SpellsEdit m bytes end e next
 one-more m bytes end end' [] some h = absurd (omega (arith, some))
@@ -133,19 +141,17 @@ one-script-fault m bytes number number' limit limit' offset offset' valid h k = 
         spelled-no-edit-fault (system_after m es) (few-after m es few) bytes end more.0 more.1 n l o more.2 f
 
 pub spelled-script-no-fault : SpelledScriptsHaveNoFault
-spelled-script-no-fault m bytes number limit offset es valid h k = elim (cases_lt (length k.edits) (length es)) [
+spelled-script-no-fault m bytes number limit offset es h k = elim (cases_lt (length k.edits) (length es)) [
   | inl less ↦
+      let few = few-of-edit m bytes 0 h.end es h.spelled (omega (arith, less)) in
       let parts = edit-parts m few bytes 0 k.edits es k.end h.end k.spelled h.spelled (omega (arith, less)) in
       let more = one-more (system_after m k.edits) bytes k.end h.end parts.0 (some-left k.edits es parts.0 parts.1 less) parts.2 in
       spelled-no-edit-fault (system_after m k.edits) (few-after m k.edits few) bytes k.end more.0 more.1 number limit offset more.2 k.fault_is
   | inr past ↦
-      let parts = edit-parts m few bytes 0 es k.edits h.end k.end h.spelled k.spelled (omega (arith, past)) in
+      let parts = edit-rest m bytes es k.edits h.end k.end h.spelled k.spelled (omega (arith, past)) in
       on parts.0 parts.2
 ]
   where
-    few : length m.contexts ≤ 64
-    few = few_contexts m valid
-
     on : (rest : List Edit) → SpellsEdits (system_after m es) bytes h.end rest k.end → ⊥
     on [] place =
         let (to, next, less) = k.more in
@@ -154,21 +160,18 @@ spelled-script-no-fault m bytes number limit offset es valid h k = elim (cases_l
     on (e ∷ rest) (next, first, others) = begins-somewhere (system_after m es) bytes h.end next e first.read h.ended
 
 pub one-script : ScriptsAreUnambiguous
-one-script m bytes es ds valid h k = elim (cases_lt (length es) (length ds)) [
+one-script m bytes es ds h k = elim (cases_lt (length es) (length ds)) [
   | inl less ↦ absurd (cut es ds h.end k.end h.spelled k.spelled h.ended less)
   | inr past ↦ elim (cases_lt (length ds) (length es)) [
     | inl less ↦ absurd (cut ds es k.end h.end k.spelled h.spelled k.ended less)
     | inr also ↦
-        let parts = edit-parts m few bytes 0 es ds h.end k.end h.spelled k.spelled (omega (arith, also)) in
+        let parts = edit-rest m bytes es ds h.end k.end h.spelled k.spelled (omega (arith, also)) in
         none-left es ds parts.0 parts.1 (omega (arith, past))
   ]
 ]
   where
-    few : length m.contexts ≤ 64
-    few = few_contexts m valid
-
     cut : (xs ys : List Edit) (end end' : ℕ) → SpellsEdits m bytes 0 xs end → SpellsEdits m bytes 0 ys end' → IsNextToken bytes end (length bytes) (length bytes) → ¬ (length xs < length ys)
     cut xs ys end end' hs ks ended less =
-        let parts = edit-parts m few bytes 0 xs ys end end' hs ks (omega (arith, less)) in
+        let parts = edit-rest m bytes xs ys end end' hs ks (omega (arith, less)) in
         let more = one-more (system_after m xs) bytes end end' parts.0 (some-left xs ys parts.0 parts.1 less) parts.2 in
         begins-somewhere (system_after m xs) bytes end more.1 more.0 more.2.read ended

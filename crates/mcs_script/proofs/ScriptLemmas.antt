@@ -12,7 +12,7 @@ use Rattle.mcs_faults.specs.declared.fault.TextFault as code_text
 use Rattle.mcs_faults.specs.declared.fault.TextFault.TheVariants as texts
 use Rattle.mcs_language.proofs.SpanLemmas.{inside}
 use Rattle.mcs_script.specs.declared.edit.Edit as code
-use Rattle.mcs_script.specs.declared.one.ReadEdit.{ReadEdit}
+use Rattle.mcs_script.specs.declared.reading.ReadEdit.{ReadEdit}
 use Rattle.mcs_script.specs.declared.script.Script.{Script}
 use Rattle.mcs_script.specs.Edits.{Edit, Added, Dropped, Listed, context_names, edited, system_after, IsThere, WrittenEdit, Adds, Drops, Lists, IsWrittenEdit, edit_entries, SaysEdit}
 use Rattle.mcs_script.specs.Reading.{IsEditOf, IsToldOfEdit}
@@ -67,6 +67,14 @@ begun names bytes at end w one = on one.spans refl
     on : (spans : List Span) → one.spans ≡ spans → (from to : ℕ) × (IsNextToken bytes at from to × (from < length bytes))
     on [] is = absurd (no_empty w (sym one.written ∙ ap (token_texts bytes) is))
     on (s ∷ spans) is = let first = subst (λ (xs : List Span). AreFirstTokens bytes at xs end) is one.tokens in (s.from, s.to, (first.0, first.1))
+
+-- each edit takes a byte at least
+pub edits_take_bytes : (m : System) (bytes : List ℕ) (at end : ℕ) (es : List Edit) → SpellsEdits m bytes at es end → at + length es ≤ end
+edits_take_bytes m bytes at end [] spelled = omega (arith, spelled)
+edits_take_bytes m bytes at end (e ∷ es) (next, one, rest) =
+    let (from, to, (first, some)) = begun (context_names m) bytes at next one.read.written one.read.spelled in
+    let bounds = edit_ends (context_names m) bytes at next one.read.written (omega (arith, first.after, some)) one.read.spelled in
+    omega (arith, bounds.0, edits_take_bytes (edited m e) bytes next end es rest)
 
 -- ---- one more edit
 module _ (m : System) (bytes : List ℕ) (es : List Edit) (at : ℕ) (spelled : SpellsEdits m bytes 0 es at) (from to : ℕ) (next : IsNextToken bytes at from to) (more : from < length bytes) where

@@ -15,7 +15,7 @@ use Rattle.mcs_system.specs.Seen.{read_of}
 use Rattle.mcs_script.specs.declared.share.Share.{Share}
 use Rattle.mcs_script.specs.Drafts.{AreShares}
 use Rattle.mcs_script.specs.Found.{AreFound, Finds, inputs_by, atoms_by, IsShare, FindsMore}
-use Rattle.mcs_script.proofs.CountLemmas.{occurring}
+use Rattle.mcs_system.proofs.CountLemmas.{occurring}
 use Rattle.mcs_script.proofs.FoundLemmas.{finds_nothing, finds_then}
 
 pub finds_none_by : (i : ℕ) (s : Share) → FindsMore i [] s s

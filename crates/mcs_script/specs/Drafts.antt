@@ -2,6 +2,7 @@
 use Rattle.std.specs.Prelude.{◌≡◌, ℕ, ◌≤◌, List, map, length, slice_get, Some}
 use Rattle.mcs_system.specs.declared.bridge.Bridge as code
 use Rattle.mcs_system.specs.declared.bridge.Read as code_read
+use Rattle.mcs_system.specs.Edits.{with_rules}
 use Rattle.mcs_system.specs.Plain.{Context, Bridge, System}
 use Rattle.mcs_system.specs.Seen.{bridge_of, read_of}
 use Rattle.mcs_system.specs.Systems.{occurrences}
@@ -10,9 +11,6 @@ use Rattle.mcs_script.specs.declared.share.Share.{Share}
 use Rattle.mcs_script.specs.Found.{AreFound, IsShare}
 
 -- the contexts of one system, with these rules
-abbrev pub with_rules : System → List Bridge → System
-with_rules m rules = record { contexts = m.contexts; bridges = rules }
-
 abbrev pub drafted : System → List code.Bridge → System
 drafted bare rules = with_rules bare (map bridge_of rules)
 

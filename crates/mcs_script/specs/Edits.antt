@@ -4,11 +4,11 @@
 --   edit   = "add" bridge | "drop" name "." | "list" "."
 --
 -- A bridge rule may have marks and a weight. The words `add`, `drop` and `list` are not reserved.
-use Rattle.std.specs.Prelude.{◌≡◌, not, List, [], ◌∷◌, ◌++◌, map, filter, codes}
+use Rattle.std.specs.Prelude.{◌≡◌, List, [], ◌∷◌, map, codes}
 use Rattle.mcs_base.specs.Listings.{IsAmong}
 use Rattle.mcs_system.specs.Plain as plain
 use Rattle.mcs_system.specs.Plain.{Name, System}
-use Rattle.mcs_system.specs.Logic.{same_name}
+use Rattle.mcs_system.specs.Edits.{with_rule, without_rule}
 use Rattle.mcs_grammar.specs.Written.{IsNameWord, WrittenBridge, IsWrittenBridge}
 use Rattle.mcs_grammar.specs.Entries.{Entry, entry, bridge_entries}
 use Rattle.mcs_grammar.specs.Saying.{SaysBridge}
@@ -30,8 +30,8 @@ rule_names m = map (λ (b : plain.Bridge). b.name) m.bridges
 
 -- a new rule comes last, those after a dropped one move up, and the contexts stay
 abbrev pub edited : System → Edit → System
-edited m (Added b) = record m { bridges = m.bridges ++ b ∷ [] }
-edited m (Dropped n) = record m { bridges = filter (λ (b : plain.Bridge). not (same_name n b.name)) m.bridges }
+edited m (Added b) = with_rule m b
+edited m (Dropped n) = without_rule m n
 edited m Listed = m
 
 -- the system after all of them; that after the first e is `system_after m (take e edits)`

@@ -28,8 +28,8 @@ ScriptsHaveOneFault = (m : System) (bytes : List ℕ) (number number' : ℕ) (li
 
 -- a script that is spelled has none
 abbrev pub SpelledScriptsHaveNoFault : Type 0
-SpelledScriptsHaveNoFault = (m : System) (bytes : List ℕ) (number : ℕ) (limit : Option Limit) (offset : ℕ) (es : List Edit) → IsValid m → SpellsScript m bytes es → ¬ ScriptHasFault m bytes number limit offset
+SpelledScriptsHaveNoFault = (m : System) (bytes : List ℕ) (number : ℕ) (limit : Option Limit) (offset : ℕ) (es : List Edit) → SpellsScript m bytes es → ¬ ScriptHasFault m bytes number limit offset
 
 -- it spells one list of edits at most
 abbrev pub ScriptsAreUnambiguous : Type 0
-ScriptsAreUnambiguous = (m : System) (bytes : List ℕ) (es ds : List Edit) → IsValid m → SpellsScript m bytes es → SpellsScript m bytes ds → es ≡ ds
+ScriptsAreUnambiguous = (m : System) (bytes : List ℕ) (es ds : List Edit) → SpellsScript m bytes es → SpellsScript m bytes ds → es ≡ ds

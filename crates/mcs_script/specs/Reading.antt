@@ -11,7 +11,7 @@ use Rattle.mcs_faults.specs.declared.fault.Fault as code_fault
 use Rattle.mcs_faults.specs.declared.fault.Fault.TheVariants as faults
 use Rattle.mcs_faults.specs.declared.fault.TextFault as code_text
 use Rattle.mcs_faults.specs.declared.fault.TextFault.TheVariants as texts
-use Rattle.mcs_script.specs.declared.one.ReadEdit.{ReadEdit}
+use Rattle.mcs_script.specs.declared.reading.ReadEdit.{ReadEdit}
 use Rattle.mcs_script.specs.Edits.{Dropped, WrittenEdit, IsWrittenEdit, edit_entries, SaysEdit}
 use Rattle.mcs_script.specs.Seen.{edit_of}
 

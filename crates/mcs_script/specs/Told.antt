@@ -6,7 +6,7 @@ use Rattle.mcs_faults.specs.declared.fault.TextFault as code_text
 use Rattle.mcs_faults.specs.declared.fault.TextFault.TheVariants as texts
 use Rattle.mcs_tokens.specs.Tokens.{IsNextToken}
 use Rattle.mcs_script.specs.declared.edit.Edit as code_edit
-use Rattle.mcs_script.specs.declared.one.ReadEdit.{ReadEdit}
+use Rattle.mcs_script.specs.declared.reading.ReadEdit.{ReadEdit}
 use Rattle.mcs_script.specs.declared.script.Script.{Script}
 use Rattle.mcs_script.specs.Reading.{IsEditOf}
 use Rattle.mcs_script.specs.Edits.{Edit, context_names, edited, system_after, IsThere}

@@ -1,12 +1,11 @@
-//! A system that is edited while a script is read. What an edit costs does not depend on the size
-//! of the contexts, except for the one that is refused.
+//! A system that is edited many times. No edit reads the contexts.
 
 ghost use Rattle.std.specs.Prelude.{◌≡◌, ◌<◌, ◌++◌, [], ◌∷◌, IfErr, IfOk, IsTrue, OnOk};
 ghost use Rattle.std.specs.Prelude.{length, map};
 ghost use Rattle.mcs_system.specs.Built.{IsFaultOf};
 ghost use Rattle.mcs_system.specs.Faults.{IsValid, reads_of};
 ghost use Rattle.mcs_system.specs.Logic.{is_in};
-ghost use Rattle.mcs_system.specs.Seen.{bridge_of, context_of, read_of};
+ghost use Rattle.mcs_system.specs.Seen.{bridge_of, read_of};
 ghost use Rattle.mcs_script.specs.Drafts.{AreShares, AreWithin, drafted};
 ghost use Rattle.mcs_script.specs.Edits.{Added, Dropped, edited, rule_names};
 ghost use Rattle.mcs_script.specs.Found.{AreFound, IsShare};
@@ -18,21 +17,10 @@ use crate::fits::{fits, has_rule};
 use crate::found::find_reads_of;
 use crate::share::{Share, find_more, reads_of, share_of};
 use mcs_base::Memory;
-use mcs_system::{Bridge, BuildFault, Context, Limit, Name, Read, System};
+use mcs_system::{Bridge, BuildFault, Limit, Name, Read, System};
 use std::alloc::Global;
 use std::marker::Model;
 use std::mem;
-
-/// Copies of the contexts.
-fn copied_contexts(alloc: Global, contexts: &[Context]) -> Result<Vec<Context>, Memory>
-    ensures { IfOk result (λ copies. map context_of copies.items ≡ map context_of contexts.now) }
-{
-    let mut copies = Vec::new(alloc);
-    for context in contexts {
-        copies.push(context.copy(alloc)?)?;
-    }
-    Ok(copies)
-}
 
 /// Copies of the rules.
 fn copied_rules(alloc: Global, rules: &[Bridge]) -> Result<Vec<Bridge>, Memory>
@@ -144,21 +132,44 @@ fn test(alloc: Global, bare: &System, rules: &[Bridge], known: bool) -> Result<(
     if known {
         return Ok(());
     }
-    let contexts = copied_contexts(alloc, bare.contexts())?;
     let rules = copied_rules(alloc, rules)?;
-    drop(System::build(alloc, contexts, rules)?);
+    drop(bare.copy(alloc)?.with_rules(alloc, rules)?);
     Ok(())
 }
 
-/// A system that is edited. The model is the system.
-#[derive(Drop)]
-pub(crate) struct Draft {
+/// The system with these rules in place of its own.
+fn with_valid_rules(alloc: Global, bare: &System, rules: Vec<Bridge>) -> Result<System, Memory>
+    requires { IsValid (drafted bare.now rules.items) }
+    ensures { IfOk result (λ s. s ≡ drafted bare.now rules.items) }
+{
+    let bare = bare.copy(alloc)?;
+    match bare.with_rules(alloc, rules) {
+        Ok(system) => Ok(system),
+        Err(BuildFault::Memory) => Err(Memory),
+        Err(BuildFault::Fault { .. }) => unreachable!(),
+    }
+}
+
+/// A system that is edited. It shares the contexts of the system that it was made from. What an edit
+/// takes does not depend on the size of the contexts, and hardly on the number of rules.
+pub struct Draft {
     /// The contexts alone.
     bare: System,
     rules: Vec<Bridge>,
     /// The variables, and maybe further reads.
     reads: Vec<Read>,
     shares: Vec<Share>,
+}
+
+impl Drop for Draft {
+    fn drop(self) {
+        let Draft {
+            bare: _,
+            rules: _,
+            reads: _,
+            shares: _,
+        } = self;
+    }
 }
 
 impl Model for Draft {
@@ -180,9 +191,8 @@ impl Draft {
     pub fn of(alloc: Global, system: &System) -> Result<Draft, Memory>
         ensures { IfOk result (λ d. d ≡ system.now) }
     {
-        let contexts = copied_contexts(alloc, system.contexts())?;
-        let bare = System::of_valid(alloc, contexts, Vec::new(alloc))?;
         let rules = copied_rules(alloc, system.bridges())?;
+        let bare = with_valid_rules(alloc, system, Vec::new(alloc))?;
         let reads = reads_of(alloc, &rules)?;
         let shares = shares_of(alloc, &bare, &rules)?;
         Ok(Draft {
@@ -191,6 +201,14 @@ impl Draft {
             reads,
             shares,
         })
+    }
+
+    /// The system as it is now.
+    pub fn system(&self, alloc: Global) -> Result<System, Memory>
+        ensures { IfOk result (λ s. s ≡ self.now) }
+    {
+        let rules = copied_rules(alloc, &self.rules)?;
+        with_valid_rules(alloc, &self.bare, rules)
     }
 
     /// Whether some rule has the name.

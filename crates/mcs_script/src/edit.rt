@@ -1,6 +1,13 @@
 //! Edits of a system.
 
-use mcs_system::{Bridge, Name};
+ghost use Rattle.std.specs.Prelude.{◌≡◌, IfErr, IfOk};
+ghost use Rattle.mcs_script.specs.Edits.{edited};
+ghost use Rattle.mcs_script.specs.Seen.{edit_of};
+ghost use Rattle.mcs_system.specs.Built.{IsFaultOf};
+ghost use Rattle.mcs_system.specs.Faults.{IsValid};
+
+use mcs_system::{Bridge, BuildFault, Name, System};
+use std::alloc::Global;
 
 /// An edit of a system. The contexts of the system stay as they are.
 #[derive(Drop)]
@@ -11,4 +18,22 @@ pub enum Edit {
     Drop(Name),
     /// A listing of the system is asked for.
     List,
+}
+
+/// The system after the edit, or the fault that it would have. It shares the contexts. A `Draft`
+/// takes less time for each of many edits.
+pub fn edited(alloc: Global, system: System, edit: &Edit) -> Result<System, BuildFault>
+    ensures ok { IfOk result (λ s. (s ≡ edited system (edit_of edit.now)) × IsValid s) }
+    ensures fault { IfErr result (IsFaultOf (edited system (edit_of edit.now))) }
+{
+    // The contract of `contexts` ensures that the system is valid.
+    let _ = system.contexts();
+    match edit {
+        Edit::Add(rule) => {
+            let rule = rule.copy(alloc)?;
+            system.with_rule(alloc, rule)
+        }
+        Edit::Drop(name) => Ok(system.without_rule(alloc, name)?),
+        Edit::List => Ok(system),
+    }
 }

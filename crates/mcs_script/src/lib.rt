@@ -7,12 +7,12 @@ mod edit;
 mod fits;
 mod found;
 mod laws;
-mod one;
 mod reading;
 mod script;
 mod share;
 
-pub use edit::Edit;
+pub use draft::Draft;
+pub use edit::{Edit, edited};
 pub use laws::{
     dropped_rules_leave_systems, rules_are_unambiguous, rules_have_one_fault,
     scripts_are_unambiguous, scripts_have_one_fault, spelled_rules_have_no_fault,

@@ -8,13 +8,21 @@ ghost use Rattle.mcs_script.specs.Reading.{IsDrop, IsNameFault, IsOtherAt, IsRea
 ghost use Rattle.mcs_script.specs.Reading.{IsTokenTo};
 
 use crate::edit::Edit;
-use crate::one::ReadEdit;
 use mcs_account::is_name_word;
 use mcs_faults::{Fault, TextFault};
 use mcs_language::{ReadRule, RuleReader};
 use mcs_system::{Limit, Name};
 use mcs_tokens::{Span, next_token};
 use std::alloc::Global;
+
+/// An edit that was read by itself, the offset after its last token, and the reader for the rules
+/// of further ones.
+#[derive(Drop)]
+pub struct ReadEdit {
+    pub rules: RuleReader,
+    pub edit: Edit,
+    pub end: usize,
+}
 
 /// The offset after the next token, if this is a period, or else where the next token begins. The
 /// end of the text counts as a token.

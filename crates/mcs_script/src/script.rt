@@ -12,8 +12,7 @@ ghost use Rattle.mcs_faults.specs.declared.fault.TextFault.TheVariants as texts;
 
 use crate::draft::Draft;
 use crate::edit::Edit;
-use crate::one::ReadEdit;
-use crate::reading::read_edit;
+use crate::reading::{ReadEdit, read_edit};
 use mcs_base::Memory;
 use mcs_faults::TextFault;
 use mcs_language::RuleReader;

@@ -3,9 +3,10 @@ use Rattle.std.proofs.lemmas.Fn.{filter_same}
 use Rattle.mcs_system.specs.Logic.{same_name}
 use Rattle.mcs_system.specs.Plain.{Bridge, System}
 use Rattle.mcs_system.specs.Seen.{bridge_of}
-use Rattle.mcs_script.specs.Drafts.{with_rules}
+use Rattle.mcs_system.specs.Edits.{with_rules}
 use Rattle.mcs_script.specs.Edits.{Dropped, edited}
-use Rattle.mcs_script.proofs.DraftLemmas.{draft_fewer, filtered_seen}
+use Rattle.mcs_system.proofs.FewerRules.{filtered_seen}
+use Rattle.mcs_script.proofs.DraftLemmas.{draft_fewer}
 use Rattle.mcs_script.proofs.draft.Draft.without_rule.Goals as goal
 
 pub invariant_of-result : goal.invariant_of-result
