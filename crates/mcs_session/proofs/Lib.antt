@@ -1,0 +1,12 @@
+pub mod PlaceLemmas
+pub mod SameAnswers
+pub mod TextLemmas
+pub mod TableLemmas
+pub mod HeadLemmas
+pub mod KeptLemmas
+pub mod JournalLemmas
+pub mod OracleLemmas
+pub mod WorkedKeys
+pub mod AskedLemmas
+pub mod LendingLemmas
+pub mod SettlingLemmas

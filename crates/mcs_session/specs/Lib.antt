@@ -1,0 +1,12 @@
+pub mod Keys
+pub mod KeyTexts
+pub mod Journals
+pub mod Tables
+pub mod Kept
+pub mod Sessions
+pub mod Asked
+pub mod Inside
+pub mod Codes
+pub mod Journalled
+pub mod Laws
+pub mod Worked
