@@ -3,3 +3,4 @@ pub mod Listing
 pub mod Repairs
 pub mod Solutions
 pub mod Cheapest
+pub mod Sessions

@@ -1,5 +1,5 @@
 //! The lines that a run prints of a system, its equilibria, its diagnoses, the cheapest of them, and
-//! its explanations.
+//! its explanations, and those of an edit session.
 #![tactic(auto)]
 
 mod cheapest_lines;
@@ -7,6 +7,7 @@ mod laws;
 mod lines;
 mod members;
 mod repair_lines;
+mod session_lines;
 
 pub use cheapest_lines::{cheapest_end_line, cheapest_line};
 pub use laws::{
@@ -19,3 +20,4 @@ pub use lines::{
 };
 pub use members::{Member, push_set};
 pub use repair_lines::{diagnosis_line, end_line, explanation_line};
+pub use session_lines::{answers_line, list_line, session_end_line};
