@@ -3,3 +3,4 @@ pub mod PlainLemmas
 pub mod WorkLemmas
 pub mod WorkedLemmas
 pub mod LineLemmas
+pub mod DeviceLemmas

@@ -15,7 +15,9 @@ use Rattle.mcs_listing.proofs.JobLemmas.{told_also, of_file}
 refused_plain : (why : Refusal) (bytes : List ℕ) → IsRefusedFor why bytes → IsRefusedPlain why bytes
 refused_plain refusals.TooLong bytes h = h
 refused_plain refusals.ReportTooLong bytes h = h
+refused_plain refusals.ScriptTooLong bytes h = h
 refused_plain (refusals.Text number offset limit) bytes h = h
+refused_plain (refusals.Script number offset limit) bytes h = h
 refused_plain (refusals.NotPlain name) bytes h = absurd h
 
 pub reading_plain : (stop : Stop) (rose failed : Type 0) (files : Option (List File)) → StopsReading IsRefusedFor stop rose failed files → StopsReading IsRefusedPlain stop rose failed files

@@ -7,7 +7,7 @@ use Rattle.mcs_states.specs.Evaluators.{EvaluatorState}
 use Rattle.mcs_states.specs.declared.halt.Halt.{Halt}
 use Rattle.mcs_node.specs.Nodes.{NodeData}
 use Rattle.mcs_mesh.specs.Players.{AreNodesOf, oracles_of}
-use Rattle.mcs_mesh.specs.Rounds.{AreNew, EvaluationData, HasLastRound, HasShown, IsHaltOfRound, IsLastRound, evaluator_state_of}
+use Rattle.mcs_mesh.specs.Rounds.{AreFresh, AreNew, EvaluationData, HasLastRound, HasShown, IsHaltOfRound, IsLastRound, evaluator_state_of}
 use Rattle.mcs_work.specs.Work.{Works}
 use Rattle.mcs_work.specs.declared.task.Task.{Task}
 use Rattle.mcs_work.specs.declared.task.WorkStop.{WorkStop}
@@ -21,17 +21,18 @@ use Rattle.mcs_listing.specs.Working.{Begins, HasWorked}
 pub new_nodes : (m : System) (budget : ℕ) (oracles : List OracleState) (nodes : List NodeData) → AreNew m budget oracles nodes → AreNew m budget (oracles_of nodes) nodes
 new_nodes m budget oracles nodes new = record { one_each = new.one_each; oracles_are = refl; each = new.each }
 
+-- an evaluation begins with them
+pub begun_with : (m plan : System) (budget : ℕ) (oracles : List OracleState) (nodes : List NodeData) → plan ≡ m → AreNew plan budget oracles nodes → AreFresh m oracles → Begins m plan budget nodes
+begun_with m plan budget oracles nodes is new fresh = record {
+  plan_is = is;
+  new = subst (λ (n : System). AreNew n budget (oracles_of nodes) nodes) is (new_nodes plan budget oracles nodes new);
+  fresh = subst (AreFresh m) (sym new.oracles_are) fresh;
+}
+
 -- the nodes have the solvers of the system
 module _ (keep : Bool) (m : System) (os : List OracleState) (are : os ≡ map (λ i. solver_with keep m i []) (range_with_len 0 (length m.contexts))) (nodes : List NodeData) (same : oracles_of nodes ≡ map (λ (x : OracleState). x) os) where
   node_solver : (i : ℕ) (o : OracleState) → slice_get (oracles_of nodes) i ≡ Some o → o ≡ solver_with keep m i []
   node_solver i o is = solver_seen keep m os are i o (ap (λ (l : List OracleState). slice_get l i) (sym same) ∙ is)
-
-  pub begins : (plan : System) (budget : ℕ) → plan ≡ m → AreNew plan budget (map (λ (x : OracleState). x) os) nodes → Begins m plan budget nodes
-  begins plan budget is new = record {
-    plan_is = is;
-    new = subst (λ (n : System). AreNew n budget (oracles_of nodes) nodes) is (new_nodes plan budget (map (λ (x : OracleState). x) os) nodes new);
-    fresh = λ i o at. let one = node_solver i o at in (ap (λ (s : OracleState). s.system) one, ap (λ (s : OracleState). s.context) one, ap (λ (s : OracleState). s.journal) one);
-  }
 
   pub nodes_sure : AreSure (oracles_of nodes)
   nodes_sure i o at = ap (λ (s : OracleState). s.holds) (node_solver i o at)

@@ -36,9 +36,9 @@ abbrev pub told_limit : Option Limit → List ℕ
 told_limit None = []
 told_limit (Some limit) = codes ": " ++ limit_words limit
 
--- mcs: refused: FN at OFFSET: LIMIT NUMBER
-unfoldable pub fault_line : ℕ → ℕ → Option Limit → List ℕ
-fault_line number offset limit = codes "mcs: refused: F" ++ (decimal number ++ (codes " at " ++ (decimal offset ++ (told_limit limit ++ codes "\n"))))
+-- FRONT N at OFFSET: LIMIT NUMBER
+unfoldable pub fault_line : List ℕ → ℕ → ℕ → Option Limit → List ℕ
+fault_line front number offset limit = front ++ (decimal number ++ (codes " at " ++ (decimal offset ++ (told_limit limit ++ codes "\n"))))
 
 -- mcs: refused: not plain: NAME
 unfoldable pub not_plain_line : Name → List ℕ
@@ -48,7 +48,9 @@ not_plain_line name = codes "mcs: refused: not plain: " ++ (name ++ codes "\n")
 abbrev pub refusal_line : Refusal → List ℕ
 refusal_line refusals.TooLong = codes "mcs: refused: file longer than 1048576\n"
 refusal_line refusals.ReportTooLong = codes "mcs: refused: report longer than 268435456\n"
-refusal_line (refusals.Text number offset limit) = fault_line number offset limit
+refusal_line refusals.ScriptTooLong = codes "mcs: refused: script longer than 1048576\n"
+refusal_line (refusals.Text number offset limit) = fault_line (codes "mcs: refused: F") number offset limit
+refusal_line (refusals.Script number offset limit) = fault_line (codes "mcs: refused: script F") number offset limit
 refusal_line (refusals.NotPlain name) = not_plain_line name
 
 -- mcs: unfinished at level K, budget N
@@ -80,6 +82,11 @@ stop_for_words words.Memory = stops.Memory
 abbrev pub stop_for_text : TextFault → Stop
 stop_for_text (texts.Fault number offset limit) = stops.Refused (refusals.Text number offset limit)
 stop_for_text texts.Memory = stops.Memory
+
+-- by what is told of a script
+abbrev pub stop_for_script : TextFault → Stop
+stop_for_script (texts.Fault number offset limit) = stops.Refused (refusals.Script number offset limit)
+stop_for_script texts.Memory = stops.Memory
 
 -- by why a line was not written
 abbrev pub stop_for_unwritten : Unwritten → Stop

@@ -1,7 +1,7 @@
 -- What a task prints of a system within a budget, and why it stops.
-use Rattle.std.specs.Prelude.{◌≡◌, ◌⊎◌, ℕ, ◌+◌, ◌<◌, false, List, ◌++◌, length, codes, Option, Some, None, slice_get}
+use Rattle.std.specs.Prelude.{◌≡◌, ◌⊎◌, ℕ, ◌+◌, ◌<◌, ◌≤◌, false, List, ◌++◌, length, codes, Option, Some, None, slice_get, Result, IsErrOf}
 use Rattle.std.specs.Fmt.{decimal}
-use Rattle.mcs_ports.specs.Pieces.{appended}
+use Rattle.mcs_ports.specs.Pieces.{Device, appended}
 use Rattle.mcs_text.specs.Writes.{WritesFront}
 use Rattle.mcs_system.specs.Plain.{System}
 use Rattle.mcs_system.specs.Systems.{variables}
@@ -73,6 +73,12 @@ pub record PrintsFront (P : List ℕ → Type 0) (before now : Option (List ℕ)
   pub text : List ℕ
   pub holds : P text
   pub front : WritesFront text before now
+
+-- a call used the device: the count did not fall, no write failed unless that is told, and nothing was noted
+pub record UsesSink {T : Type 0} (before now : Device) (r : Result T Stop) : Type 0 where
+  pub later : before.faults ≤ now.faults
+  pub unfailed : ¬ IsErrOf r stops.WriteFault → now.faults ≡ before.faults
+  pub notes : now.notes ≡ before.notes
 
 -- ---- the work on a system
 -- why the work on a system stops that prints such stages, and what was written then

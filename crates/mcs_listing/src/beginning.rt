@@ -5,6 +5,7 @@ ghost use Rattle.std.specs.Prelude.{◌≡◌, cond, [], ◌∷◌, map, length,
 ghost use Rattle.std.specs.Arc.{arc_value};
 ghost use Rattle.std.specs.List.{range_with_len};
 ghost use Rattle.mcs_mesh.specs.Players.{oracles_of};
+ghost use Rattle.mcs_mesh.specs.Rounds.{AreFresh};
 ghost use Rattle.mcs_solver.specs.Solvers.{solver_with};
 ghost use Rattle.mcs_listing.specs.Listings.{AreSure, HaveOrigin};
 ghost use Rattle.mcs_listing.specs.Working.{Begins};
@@ -13,6 +14,7 @@ use mcs_base::Memory;
 use mcs_import::Plan;
 use mcs_mesh::{Nodes, nodes_of};
 use mcs_solver::LocalSolver;
+use mcs_states::Oracle;
 use mcs_system::System;
 use std::alloc::Global;
 use std::sync::Arc;
@@ -42,9 +44,27 @@ pub fn begin_evaluation(
     ensures keeps { IfOk result (λ b. HaveOrigin (cond keep ([] ∷ []) [])
         (oracles_of b.nodes.list.items)) }
 {
-    let plan = Arc::new(alloc, Plan::of(alloc, system.clone()?)?)?;
     let solvers = solvers_of(alloc, system, keep)?;
-    let list = nodes_of(alloc, &plan, budget, solvers)?;
+    begin_with(alloc, system, solvers, budget)
+}
+
+/// What an evaluation of the system begins with, within a budget of questions, by these oracles, one
+/// for each context, of which none was asked. Stops only for want of memory.
+pub fn begin_with<O: Oracle>(
+    alloc: Global,
+    system: &Arc<System>,
+    oracles: Vec<O>,
+    budget: u64,
+) -> Result<Beginning<Nodes<O>>, Memory>
+    requires one_each { length oracles.items ≡ length (arc_value system.now).contexts }
+    requires own { AreFresh (arc_value system.now) (map O.stands oracles.items) }
+    ensures budget { IfOk result (λ b. b.budget ≡ budget) }
+    ensures begins { IfOk result (λ b. Begins (arc_value system.now) (arc_value b.plan) b.budget
+        b.nodes.list.items) }
+    ensures same { IfOk result (λ b. oracles_of b.nodes.list.items ≡ map O.stands oracles.items) }
+{
+    let plan = Arc::new(alloc, Plan::of(alloc, system.clone()?)?)?;
+    let list = nodes_of(alloc, &plan, budget, oracles)?;
     Ok(Beginning {
         plan,
         nodes: Nodes { list },

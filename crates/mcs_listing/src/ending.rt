@@ -4,7 +4,8 @@ ghost use Rattle.std.specs.Prelude.{◌≡◌, ◌++◌, OnOk};
 ghost use Rattle.mcs_listing.specs.Endings.{line_of, refusal_line, unfinished_line, fault_line};
 ghost use Rattle.mcs_listing.specs.Endings.{not_plain_line};
 ghost use Rattle.mcs_listing.specs.Endings.{told_limit, status_of, stop_for_words, stop_for_text};
-ghost use Rattle.mcs_listing.specs.Endings.{stop_for_unwritten, stop_for_work, IsEndingTold};
+ghost use Rattle.mcs_listing.specs.Endings.{stop_for_script, stop_for_unwritten, stop_for_work};
+ghost use Rattle.mcs_listing.specs.Endings.{IsEndingTold};
 ghost use Rattle.mcs_listing.specs.Endings.{IsToldAs};
 ghost use Rattle.mcs_listing.specs.declared.ending.Stop.TheVariants as stops;
 
@@ -25,8 +26,17 @@ pub enum Refusal {
     TooLong,
     /// The report is longer than one may be.
     ReportTooLong,
+    /// The script is longer than one may be.
+    ScriptTooLong,
     /// The text has a fault: its number, the offset of its token, and for number 5 the limit.
     Text {
+        number: u8,
+        offset: usize,
+        limit: Option<Limit>,
+    },
+    /// The script has a fault: its number, the offset at which it is told, and for number 5 the
+    /// limit.
+    Script {
         number: u8,
         offset: usize,
         limit: Option<Limit>,
@@ -109,6 +119,24 @@ impl From<Unwritten> for Stop {
     }
 }
 
+/// Why the run stops, if its script is no script of edits for this reason.
+pub(crate) fn stop_for_script(fault: TextFault) -> Stop
+    ensures { result ≡ stop_for_script fault }
+{
+    match fault {
+        TextFault::Fault {
+            number,
+            offset,
+            limit,
+        } => Stop::Refused(Refusal::Script {
+            number,
+            offset,
+            limit,
+        }),
+        TextFault::Memory => Stop::Memory,
+    }
+}
+
 /// Why the run stops, if its work stops for this reason. `budget` is that of the run. No oracle of
 /// a run can miss an answer.
 pub fn stop_for_work(stop: WorkStop, budget: u64) -> Stop
@@ -166,11 +194,17 @@ fn push_refusal(line: &mut Text, why: &Refusal) -> Result<(), Memory>
     match why {
         Refusal::TooLong => line.push(b"mcs: refused: file longer than 1048576\n"),
         Refusal::ReportTooLong => line.push(b"mcs: refused: report longer than 268435456\n"),
+        Refusal::ScriptTooLong => line.push(b"mcs: refused: script longer than 1048576\n"),
         Refusal::Text {
             number,
             offset,
             limit,
-        } => push_fault(line, *number, *offset, *limit),
+        } => push_fault(line, b"mcs: refused: F", *number, *offset, *limit),
+        Refusal::Script {
+            number,
+            offset,
+            limit,
+        } => push_fault(line, b"mcs: refused: script F", *number, *offset, *limit),
         Refusal::NotPlain(name) => push_not_plain(line, name),
     }
 }
@@ -187,17 +221,19 @@ fn push_unfinished(line: &mut Text, level: u32, budget: u64) -> Result<(), Memor
     line.push(b"\n")
 }
 
-/// Appends the line of a text with this fault at this offset.
+/// Appends the line of a text with this fault at this offset. `front` is what stands before the
+/// number of the fault.
 #[tactic(auto, unfolding(crate::specs::Endings::fault_line))]
 fn push_fault(
     line: &mut Text,
+    front: &[u8],
     number: u8,
     offset: usize,
     limit: Option<Limit>,
 ) -> Result<(), Memory>
-    ensures { OnOk result (line.new ≡ line.old ++ fault_line number offset limit) }
+    ensures { OnOk result (line.new ≡ line.old ++ fault_line front.now number offset limit) }
 {
-    line.push(b"mcs: refused: F")?;
+    line.push(front)?;
     line.push_number(number as u64)?;
     line.push(b" at ")?;
     line.push_number(offset as u64)?;

@@ -11,9 +11,9 @@ mod status;
 mod working;
 
 pub use answers::write_answers;
-pub use beginning::{Beginning, begin_evaluation, shared};
+pub use beginning::{Beginning, begin_evaluation, begin_with, shared};
 pub use ending::{Refusal, Stop, note_want_of_memory, stop_for_work, tell};
 pub use number::print_number;
-pub use reading::{report_in, system_for, system_in};
+pub use reading::{report_in, script_in, system_for, system_in};
 pub use status::Status;
 pub use working::{work_by, work_in_turn};

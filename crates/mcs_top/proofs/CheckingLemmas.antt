@@ -25,7 +25,7 @@ use Rattle.mcs_listing.specs.declared.ending.Refusal.TheVariants as refusals
 use Rattle.mcs_listing.specs.declared.ending.Stop.{Stop}
 use Rattle.mcs_listing.specs.declared.ending.Stop.TheVariants as stops
 use Rattle.mcs_listing.proofs.JobLemmas.{told_also, told_first, told_two, of_two, apart_of_two, lacks_first, lacks_second}
-use Rattle.mcs_top.proofs.DoingLemmas.{sink_wrote, sink_cut}
+use Rattle.mcs_listing.proofs.DeviceLemmas.{sink_wrote, sink_cut}
 
 -- what comes of a stop
 pub stop_of : {U : Type 0} (P : Stop → Type 0) (stop : Stop) (r : Result U Stop) → IsErrAnd r (λ s. s ≡ stop) → P stop → IfErr r P
@@ -45,7 +45,7 @@ writes_err text before now e (Err d) is w = record {
 }
 
 -- ---- why a file of it is not had
-never_first : (files : List File) → OfFirstFile (λ bytes. ⊥) files → ⊥
+pub never_first : (files : List File) → OfFirstFile (λ bytes. ⊥) files → ⊥
 never_first [] h = h
 never_first (None ∷ files) h = h
 never_first (Some bytes ∷ files) h = h
@@ -53,7 +53,9 @@ never_first (Some bytes ∷ files) h = h
 first_refused : (why : Refusal) (files : List File) → OfFirstFile (IsRefusedFor why) files → IsCheckRefusal why files
 first_refused refusals.TooLong files h = h
 first_refused refusals.ReportTooLong files h = absurd (never_first files h)
+first_refused refusals.ScriptTooLong files h = absurd (never_first files h)
 first_refused (refusals.Text number offset limit) files h = h
+first_refused (refusals.Script number offset limit) files h = absurd (never_first files h)
 first_refused (refusals.NotPlain name) files h = absurd (never_first files h)
 
 module _ (held : Option (Word → File)) (file report : Word) where
@@ -79,7 +81,9 @@ module _ (held : Option (Word → File)) (file report : Word) where
     report_stops rose failed more-rose more-failed up higher stops.Usage h = h
     report_stops rose failed more-rose more-failed up higher (stops.Refused refusals.TooLong) h = absurd h
     report_stops rose failed more-rose more-failed up higher (stops.Refused refusals.ReportTooLong) h = too_long h
+    report_stops rose failed more-rose more-failed up higher (stops.Refused refusals.ScriptTooLong) h = absurd h
     report_stops rose failed more-rose more-failed up higher (stops.Refused (refusals.Text number offset limit)) h = absurd h
+    report_stops rose failed more-rose more-failed up higher (stops.Refused (refusals.Script number offset limit)) h = absurd h
     report_stops rose failed more-rose more-failed up higher (stops.Refused (refusals.NotPlain name)) h = absurd h
     report_stops rose failed more-rose more-failed up higher (stops.Unfinished level limit) h = h
     report_stops rose failed more-rose more-failed up higher stops.ReadFault h = (up h.0, lacks_second held file report (IsTextOf m) (λ bytes. (n : System) × IsTextOf n bytes) failed more-failed (λ bytes spelled. (m, spelled)) higher read h.1)

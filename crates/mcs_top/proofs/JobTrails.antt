@@ -19,7 +19,7 @@ use Rattle.mcs_listing.specs.declared.ending.Stop.TheVariants as stops
 use Rattle.mcs_listing.specs.declared.status.Status.{Status}
 use Rattle.mcs_listing.specs.declared.status.Status.TheVariants as statuses
 use Rattle.mcs_listing.proofs.JobLemmas.{told_also}
-use Rattle.mcs_top.specs.Meaning.{JobMeaning, IfJob, OfTask, file_job, report_job, made_job, meaning, files_in}
+use Rattle.mcs_top.specs.Meaning.{JobMeaning, IfJob, OfTask, file_job, report_job, made_job, session_job, meaning, files_in}
 use Rattle.mcs_top.specs.Promise.{IsStopCause, as_done}
 use Rattle.mcs_top.specs.declared.outcome.Outcome.{Outcome}
 use Rattle.mcs_top.specs.declared.outcome.Outcome.TheVariants as outcomes
@@ -119,22 +119,31 @@ made_left number budget workers t r shows = record {
     at (Ok x) h = h
     at (Err stop) h = stopped stop h
 
--- ---- a report, which one worker checks
-pub check_left : (IsTold : List ℕ → System → List ℕ → Type 0) (file report : Word) (files : Option (List File)) (t : TrailData) → IsNoTrail t → (r : Result Outcome Stop) → LeavesTrail (report_job IsTold file report) files t r
-check_left IsTold file report files t none r = record { alone = λ less. none; few = if_told files _ (λ fs less. none); ending = at r }
+-- ---- a job that plays no rounds in threads
+-- it has fewer than two workers, and shows nothing
+pub unplayed_left : (job : JobMeaning) (files : Option (List File)) (t : TrailData) → IsNoTrail t → ((fs : List File) → job.shows t fs) → ((level : ℕ) (fs : List File) → job.shows_beyond t level fs) → (r : Result Outcome Stop) → LeavesTrail job files t r
+unplayed_left job files t none shows beyond r = record { alone = λ less. none; few = if_told files _ (λ fs less. none); ending = at r }
   where
-    stopped : (stop : Stop) → ShowsEnding (report_job IsTold file report) files t (Err stop)
+    stopped : (stop : Stop) → ShowsEnding job files t (Err stop)
     stopped stops.Usage = none
     stopped (stops.Refused why) = none
-    stopped (stops.Unfinished level limit) = if_told files _ (λ fs. none)
+    stopped (stops.Unfinished level limit) = if_told files _ (beyond level)
     stopped stops.ReadFault = none
     stopped stops.WriteFault = tt
     stopped stops.Memory = tt
 
-    at : (r : Result Outcome Stop) → ShowsEnding (report_job IsTold file report) files t r
-    at (Ok outcomes.Done) = if_told files _ (λ fs. none)
+    at : (r : Result Outcome Stop) → ShowsEnding job files t r
+    at (Ok outcomes.Done) = if_told files _ shows
     at (Ok outcomes.NotValid) = none
     at (Err stop) = stopped stop
+
+-- a report is checked
+pub check_left : (IsTold : List ℕ → System → List ℕ → Type 0) (file report : Word) (files : Option (List File)) (t : TrailData) → IsNoTrail t → (r : Result Outcome Stop) → LeavesTrail (report_job IsTold file report) files t r
+check_left IsTold file report files t none r = unplayed_left (report_job IsTold file report) files t none (λ fs. none) (λ level fs. none) r
+
+-- a script is listed
+pub session_left : (file script : Word) (budget : ℕ) (files : Option (List File)) (t : TrailData) → IsNoTrail t → (r : Result Outcome Stop) → LeavesTrail (session_job file script budget) files t r
+session_left file script budget files t none r = unplayed_left (session_job file script budget) files t none (λ fs. none) (λ level fs. none) r
 
 -- ---- what the run promises
 module _ (words : List Word) (held : Option (Word → File)) (before now : Option (List ℕ)) (t : TrailData) where

@@ -4,6 +4,7 @@ pub mod StageLemmas
 pub mod DoingLemmas
 pub mod ProvingLemmas
 pub mod CheckingLemmas
+pub mod SessionLemmas
 pub mod PromiseLemmas
 pub mod TrailLemmas
 pub mod JobTrails

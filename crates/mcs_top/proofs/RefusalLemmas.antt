@@ -13,15 +13,22 @@ use Rattle.mcs_generator.specs.Generated.{generated_system}
 use Rattle.mcs_work.specs.Tasks.{IsTaskText, IsTaskStage, IsTaskUpTo, TakesLevel}
 use Rattle.mcs_work.specs.declared.task.Task.{Task}
 use Rattle.mcs_work.specs.declared.task.Task.TheVariants.{Equilibria, Grounded, Solve, Cheapest, Make}
-use Rattle.mcs_words.specs.Commands.{Word, Request, equilibria, grounded, solve, cheapest, check, make}
+use Rattle.mcs_script.specs.Edits.{Edit}
+use Rattle.mcs_script.specs.Scripts.{SpellsScript, ScriptHasFault}
+use Rattle.mcs_script.proofs.OneScript.{one-script, spelled-script-no-fault}
+use Rattle.mcs_words.specs.Commands.{Word, Request, equilibria, grounded, solve, cheapest, check, make, session}
 use Rattle.mcs_check.specs.Validity.{IsValidReport}
 use Rattle.mcs_listing.specs.Jobs.{File, OfOneFile, OfFirstFile, OfTwoFiles, LacksOneOfTwo}
-use Rattle.mcs_listing.specs.Texts.{IsTextOf, IsTextFor, IsNotPlainAt, IsRefusedFor, IsRefusedTask}
-use Rattle.mcs_top.specs.Meaning.{JobMeaning, OfReport, IsReportTooLong, IsToldValid, IsToldCheapest, IsToldFailing, FailsATest, IsSolution, IsSolutionStage, IsCheckRefusal, IsWithinBudget, OfTask, file_job, report_job, made_job, meaning}
+use Rattle.mcs_listing.specs.Texts.{IsTextOf, IsTextFor, IsNotPlainAt, IsRefusedFor, IsRefusedTask, IsScriptOf, IsRefusedScript}
+use Rattle.mcs_top.specs.Meaning.{JobMeaning, OfReport, IsReportTooLong, IsToldValid, IsToldCheapest, IsToldFailing, FailsATest, IsSolution, IsSolutionStage, IsCheckRefusal, OfSession, IsScriptRefused, IsSessionRefusal, IsWithinBudget, OfTask, file_job, report_job, made_job, session_job, meaning}
 use Rattle.mcs_listing.specs.Listings.{Suffices, IsShort, IsListedBefore}
 use Rattle.mcs_listing.specs.declared.ending.Refusal.{Refusal}
 use Rattle.mcs_listing.specs.declared.ending.Refusal.TheVariants as refusals
 use Rattle.mcs_listing.proofs.JobLemmas.{apart_of_file, of_file, of_two, apart_of_two, apart_of_first}
+use Rattle.mcs_editing.specs.Listed.{listed_systems}
+use Rattle.mcs_editing.specs.Texts.{IsSessionStage}
+use Rattle.mcs_editing.specs.Sessions.{SufficesForEach, IsShortForOne, IsSessionWithin, IsSessionBefore}
+use Rattle.mcs_editing.proofs.BudgetLemmas.{before_is_stage, before_is_short, suffices_or_not}
 
 -- a text that was written whole is a front of itself
 pub whole_front : (text : List ℕ) (before now : Option (List ℕ)) → now ≡ appended before text → WritesFront text before now
@@ -30,6 +37,8 @@ whole_front text before now is = record { front = text; rest = []; parts = appen
 not_refused : (bytes : List ℕ) (m : System) (why : Refusal) → IsTextOf m bytes → IsRefusedFor why bytes → ⊥
 not_refused bytes m refusals.TooLong text long = long text.fits
 not_refused bytes m refusals.ReportTooLong text h = h
+not_refused bytes m refusals.ScriptTooLong text h = h
+not_refused bytes m (refusals.Script number offset limit) text h = h
 not_refused bytes m (refusals.NotPlain name) text h = h
 not_refused bytes m (refusals.Text number offset limit) text h = no-fault bytes m number limit offset text.spelled h.1
 
@@ -52,6 +61,8 @@ not_refused_task Cheapest bytes m why text h = not_refused bytes m why text h
 not_refused_task Make bytes m why text h = not_refused bytes m why text h
 not_refused_task Grounded bytes m refusals.TooLong text h = not_refused bytes m refusals.TooLong text.text h
 not_refused_task Grounded bytes m refusals.ReportTooLong text h = h
+not_refused_task Grounded bytes m refusals.ScriptTooLong text h = h
+not_refused_task Grounded bytes m (refusals.Script number offset limit) text h = h
 not_refused_task Grounded bytes m (refusals.Text number offset limit) text h = not_refused bytes m (refusals.Text number offset limit) text.text h
 not_refused_task Grounded bytes m (refusals.NotPlain name) text (n, other, unplain) =
     let at : IsNotPlainAt name m = subst (IsNotPlainAt name) (texts-unambiguous bytes n m other.spelled text.text.spelled) unplain in
@@ -92,6 +103,8 @@ module _ (task : Task) (budget : ℕ) (m : System) where
 report_not_refused : (P : System → List ℕ → Type 0) (why : Refusal) (files : List File) → OfTwoFiles (OfReport P) files → IsCheckRefusal why files → ⊥
 report_not_refused P refusals.TooLong files = apart_of_first (OfReport P) (IsRefusedFor refusals.TooLong) (λ bytes more (m, read, few, holds). not_refused bytes m refusals.TooLong read) files
 report_not_refused P refusals.ReportTooLong files = apart_of_two (OfReport P) IsReportTooLong (λ bytes more (m, read, few, holds) (n, again, long). long few) files
+report_not_refused P refusals.ScriptTooLong files = λ h k. k
+report_not_refused P (refusals.Script number offset limit) files = λ h k. k
 report_not_refused P (refusals.NotPlain name) files = λ h k. k
 report_not_refused P (refusals.Text number offset limit) files =
     apart_of_first (OfReport P) (IsRefusedFor (refusals.Text number offset limit)) (λ bytes more (m, read, few, holds). not_refused bytes m (refusals.Text number offset limit) read) files
@@ -114,12 +127,49 @@ first_lacks P Q f (Some bytes ∷ (None ∷ [])) h k = f bytes h k
 first_lacks P Q f (Some bytes ∷ (None ∷ (file ∷ files))) h k = k
 first_lacks P Q f (Some bytes ∷ (Some more ∷ files)) h k = k
 
+refused_not_missing : (why : Refusal) (files : List File) → OfFirstFile (IsRefusedFor why) files → LacksOneOfTwo (λ bytes. (m : System) × IsTextOf m bytes) files → ⊥
+refused_not_missing why files = first_lacks (IsRefusedFor why) (λ bytes. (m : System) × IsTextOf m bytes) (λ bytes refused (m, read). not_refused bytes m why read refused) files
+
 check_refusal_not_missing : (why : Refusal) (files : List File) → IsCheckRefusal why files → LacksOneOfTwo (λ bytes. (m : System) × IsTextOf m bytes) files → ⊥
-check_refusal_not_missing refusals.TooLong files = first_lacks (IsRefusedFor refusals.TooLong) (λ bytes. (m : System) × IsTextOf m bytes) (λ bytes refused (m, read). not_refused bytes m refusals.TooLong read refused) files
+check_refusal_not_missing refusals.TooLong files = refused_not_missing refusals.TooLong files
 check_refusal_not_missing refusals.ReportTooLong files = both_there IsReportTooLong (λ bytes. (m : System) × IsTextOf m bytes) files
+check_refusal_not_missing refusals.ScriptTooLong files = λ h k. h
+check_refusal_not_missing (refusals.Script number offset limit) files = λ h k. h
 check_refusal_not_missing (refusals.NotPlain name) files = λ h k. h
-check_refusal_not_missing (refusals.Text number offset limit) files = first_lacks (IsRefusedFor (refusals.Text number offset limit)) (λ bytes. (m : System) × IsTextOf m bytes)
-    (λ bytes refused (m, read). not_refused bytes m (refusals.Text number offset limit) read refused) files
+check_refusal_not_missing (refusals.Text number offset limit) files = refused_not_missing (refusals.Text number offset limit) files
+
+-- ---- a script of edits of the system of a file
+-- one that spells edits is refused for nothing
+script_not_refused : (m n : System) (edits : List Edit) (why : Refusal) (script : List ℕ) → n ≡ m → IsScriptOf m edits script → IsRefusedScript n why script → ⊥
+script_not_refused m n edits refusals.TooLong script same is h = h
+script_not_refused m n edits refusals.ReportTooLong script same is h = h
+script_not_refused m n edits refusals.ScriptTooLong script same is long = long is.fits
+script_not_refused m n edits (refusals.Text number offset limit) script same is h = h
+script_not_refused m n edits (refusals.Script number offset limit) script same is h = spelled-script-no-fault m script number limit offset edits is.spelled (subst (λ (s : System). ScriptHasFault s script number limit offset) same h.1)
+script_not_refused m n edits (refusals.NotPlain name) script same is h = h
+
+both_taken : (P : List System → Type 0) (why : Refusal) (files : List File) → OfTwoFiles (OfSession P) files → OfTwoFiles (IsScriptRefused why) files → ⊥
+both_taken P why = apart_of_two (OfSession P) (IsScriptRefused why)
+    (λ bytes script (m, read, edits, is, holds) (n, again, refused). script_not_refused m n edits why script (texts-unambiguous bytes n m again.spelled read.spelled) is refused)
+
+first_taken : (P : List System → Type 0) (why : Refusal) (files : List File) → OfTwoFiles (OfSession P) files → OfFirstFile (IsRefusedFor why) files → ⊥
+first_taken P why = apart_of_first (OfSession P) (IsRefusedFor why) (λ bytes script (m, read, edits, is, holds). not_refused bytes m why read)
+
+session_not_refused : (P : List System → Type 0) (why : Refusal) (files : List File) → OfTwoFiles (OfSession P) files → IsSessionRefusal why files → ⊥
+session_not_refused P refusals.TooLong files = first_taken P refusals.TooLong files
+session_not_refused P refusals.ReportTooLong files = λ h k. k
+session_not_refused P refusals.ScriptTooLong files = both_taken P refusals.ScriptTooLong files
+session_not_refused P (refusals.Text number offset limit) files = first_taken P (refusals.Text number offset limit) files
+session_not_refused P (refusals.Script number offset limit) files = both_taken P (refusals.Script number offset limit) files
+session_not_refused P (refusals.NotPlain name) files = λ h k. k
+
+session_refusal_not_missing : (why : Refusal) (files : List File) → IsSessionRefusal why files → LacksOneOfTwo (λ bytes. (m : System) × IsTextOf m bytes) files → ⊥
+session_refusal_not_missing refusals.TooLong files = refused_not_missing refusals.TooLong files
+session_refusal_not_missing refusals.ReportTooLong files = λ h k. h
+session_refusal_not_missing refusals.ScriptTooLong files = both_there (IsScriptRefused refusals.ScriptTooLong) (λ bytes. (m : System) × IsTextOf m bytes) files
+session_refusal_not_missing (refusals.Text number offset limit) files = refused_not_missing (refusals.Text number offset limit) files
+session_refusal_not_missing (refusals.Script number offset limit) files = both_there (IsScriptRefused (refusals.Script number offset limit)) (λ bytes. (m : System) × IsTextOf m bytes) files
+session_refusal_not_missing (refusals.NotPlain name) files = λ h k. h
 
 missing : (P : List ℕ → Type 0) (files : List File) → files ≡ None ∷ [] → OfOneFile P files → ⊥
 missing P files is h = subst (OfOneFile P) is h
@@ -203,6 +253,46 @@ report_apart IsTold file report = record {
   beyond_is_stage = λ text level files h. absurd h;
 }
 
+-- ---- a session, by a script of edits of the system of a file
+abbrev AnyListed : List System → Type 0
+AnyListed systems = Unit {0}
+
+any_session : (P : List System → Type 0) (files : List File) → OfTwoFiles (OfSession P) files → OfTwoFiles (OfSession AnyListed) files
+any_session P files = of_two (OfSession P) (OfSession AnyListed) (λ bytes script (m, read, edits, is, holds). (m, read, edits, is, tt)) files
+
+-- two files have one list of systems
+same_listed : (bytes script : List ℕ) (m n : System) (es ds : List Edit) → IsTextOf m bytes → IsTextOf n bytes → IsScriptOf m es script → IsScriptOf n ds script → listed_systems n ds ≡ listed_systems m es
+same_listed bytes script m n es ds read again is other =
+    let same : n ≡ m = texts-unambiguous bytes n m again.spelled read.spelled in
+    let edits : ds ≡ es = one-script m script ds es (subst (λ (s : System). SpellsScript s script ds) same other.spelled) is.spelled in
+    ap (λ (s : System). listed_systems s ds) same ∙ ap (listed_systems m) edits
+
+sessions_apart : (P Q : List System → Type 0) → ((systems : List System) → P systems → Q systems → ⊥) → (files : List File) → OfTwoFiles (OfSession P) files → OfTwoFiles (OfSession Q) files → ⊥
+sessions_apart P Q apart files = apart_of_two (OfSession P) (OfSession Q)
+    (λ bytes script (m, read, es, is, holds) (n, again, ds, other, holds'). apart (listed_systems m es) holds (subst Q (same_listed bytes script m n es ds read again is other) holds')) files
+
+session_apart : (file script : Word) (budget : ℕ) → KeepsApart (session_job file script budget)
+session_apart file script budget = record {
+  fits = OfTwoFiles (OfSession AnyListed);
+  output_fits = λ text files h. any_session (λ systems. IsSessionWithin budget systems text) files h;
+  rejection_fits = λ text files h. absurd h;
+  stage_fits = λ text files h. any_session (λ systems. IsSessionStage systems text) files h;
+  beyond_fits = λ text level files h. any_session (λ systems. IsSessionBefore budget level systems text) files h;
+  short_fits = λ files h. any_session (IsShortForOne budget) files h;
+  possible_fits = λ files h. any_session (SufficesForEach budget) files h;
+  invalid_fits = λ files h. absurd h;
+  not_refused = λ why files h k. session_not_refused AnyListed why files h k;
+  not_lacking = λ files h k. both_there (OfSession AnyListed) (λ bytes. (m : System) × IsTextOf m bytes) files h k;
+  refusal_not_lacking = λ why files h k. session_refusal_not_missing why files h k;
+  output_not_short = λ text files h k. sessions_apart (λ systems. IsSessionWithin budget systems text) (IsShortForOne budget) (λ systems printed short. suffices_or_not budget systems printed.0 short) files h k;
+  rejection_not_short = λ text files h k. h;
+  possible_not_beyond = λ text level files h k. sessions_apart (SufficesForEach budget) (λ systems. IsSessionBefore budget level systems text)
+      (λ systems enough before. suffices_or_not budget systems enough (before_is_short budget level systems text before)) files h k;
+  invalid_not_beyond = λ text level files h k. h;
+  beyond_is_stage = λ text level files h. of_two (OfSession (λ systems. IsSessionBefore budget level systems text)) (OfSession (λ systems. IsSessionStage systems text))
+      (λ bytes script (m, read, edits, is, before). (m, read, edits, is, before_is_stage budget level (listed_systems m edits) text before)) files h;
+}
+
 -- ---- a generated system, which is of no file
 made_apart : (number budget workers : ℕ) → KeepsApart (made_job number budget workers)
 made_apart number budget workers = record {
@@ -233,3 +323,4 @@ apart (cheapest file None budget workers) = file_apart (IsTaskText Cheapest) (Is
 apart (cheapest file (Some report) budget workers) = report_apart IsToldCheapest file report
 apart (check file report) = report_apart IsToldValid file report
 apart (make number budget workers) = made_apart number budget workers
+apart (session file script budget) = session_apart file script budget

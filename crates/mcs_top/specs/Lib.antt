@@ -1,6 +1,7 @@
 pub mod TaskTrails
 pub mod Meaning
 pub mod Examining
+pub mod Scripts
 pub mod Promise
 pub mod Programs
 pub mod Trails

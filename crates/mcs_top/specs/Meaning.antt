@@ -6,17 +6,21 @@ use Rattle.mcs_work.specs.Tasks.{IsTaskText, IsTaskStage}
 use Rattle.mcs_work.specs.declared.task.Task.{Task}
 use Rattle.mcs_work.specs.declared.task.Task.TheVariants.{Equilibria, Grounded, Solve, Cheapest, Make}
 use Rattle.mcs_crew.specs.Trails.{IsNoTrail, TrailData}
-use Rattle.mcs_words.specs.Commands.{Word, Request, equilibria, grounded, solve, cheapest, check, make, IsJobOf}
+use Rattle.mcs_words.specs.Commands.{Word, Request, equilibria, grounded, solve, cheapest, check, make, session, IsJobOf}
 use Rattle.mcs_check.specs.Validity.{IsProvedListing, IsValidReport, IsFailure}
 use Rattle.mcs_check.specs.Findings.{finding_line}
 use Rattle.mcs_check.specs.declared.finding.Reason.{Reason}
 use Rattle.mcs_check.specs.declared.finding.Finding.TheVariants.{Valid, Fails}
 use Rattle.mcs_proof_text.specs.Reports.{most_report_bytes}
+use Rattle.mcs_script.specs.Edits.{Edit}
 use Rattle.mcs_listing.specs.Jobs.{File, told_all, OfOneFile, OfFirstFile, OfTwoFiles, LacksOneOfTwo}
-use Rattle.mcs_listing.specs.Texts.{IsTextOf, IsTextFor, IsRefusedFor, IsRefusedTask}
+use Rattle.mcs_listing.specs.Texts.{IsTextOf, IsTextFor, IsRefusedFor, IsRefusedTask, IsScriptOf, IsRefusedScript}
 use Rattle.mcs_listing.specs.Listings.{Suffices, IsShort, IsListingText, IsListedBefore, AfterNumber}
 use Rattle.mcs_listing.specs.declared.ending.Refusal.{Refusal}
 use Rattle.mcs_listing.specs.declared.ending.Refusal.TheVariants as refusals
+use Rattle.mcs_editing.specs.Listed.{listed_systems}
+use Rattle.mcs_editing.specs.Texts.{IsSessionStage}
+use Rattle.mcs_editing.specs.Sessions.{SufficesForEach, IsShortForOne, IsSessionWithin, IsSessionBefore}
 use Rattle.mcs_top.specs.TaskTrails.{UsesFew, ShowsTask, ShowsBeyond}
 
 -- Of the words that ask for it: the files that it reads, what it may use. Of what a shelf tells of these files: what it prints,
@@ -97,8 +101,28 @@ IsReportTooLong bytes report = (m : System) × IsTextOf m bytes × ¬ (length re
 abbrev pub IsCheckRefusal : Refusal → List File → Type 0
 IsCheckRefusal refusals.TooLong files = OfFirstFile (IsRefusedFor refusals.TooLong) files
 IsCheckRefusal refusals.ReportTooLong files = OfTwoFiles IsReportTooLong files
+IsCheckRefusal refusals.ScriptTooLong files = ⊥
 IsCheckRefusal (refusals.Text number offset limit) files = OfFirstFile (IsRefusedFor (refusals.Text number offset limit)) files
+IsCheckRefusal (refusals.Script number offset limit) files = ⊥
 IsCheckRefusal (refusals.NotPlain name) files = ⊥
+
+-- ---- a script of edits of the system of a file
+-- the first bytes spell a system, the others a script of edits of it, and this holds of the systems that these list
+abbrev pub OfSession : (List System → Type 0) → List ℕ → List ℕ → Type 0
+OfSession P bytes script = (m : System) × IsTextOf m bytes × (edits : List Edit) × IsScriptOf m edits script × P (listed_systems m edits)
+
+-- the first bytes spell a system, and the others are refused as a script of it
+abbrev pub IsScriptRefused : Refusal → List ℕ → List ℕ → Type 0
+IsScriptRefused why bytes script = (m : System) × IsTextOf m bytes × IsRefusedScript m why script
+
+-- why a script, or the file of its system, is refused
+abbrev pub IsSessionRefusal : Refusal → List File → Type 0
+IsSessionRefusal refusals.TooLong files = OfFirstFile (IsRefusedFor refusals.TooLong) files
+IsSessionRefusal refusals.ReportTooLong files = ⊥
+IsSessionRefusal refusals.ScriptTooLong files = OfTwoFiles (IsScriptRefused refusals.ScriptTooLong) files
+IsSessionRefusal (refusals.Text number offset limit) files = OfFirstFile (IsRefusedFor (refusals.Text number offset limit)) files
+IsSessionRefusal (refusals.Script number offset limit) files = OfTwoFiles (IsScriptRefused (refusals.Script number offset limit)) files
+IsSessionRefusal (refusals.NotPlain name) files = ⊥
 
 -- ---- jobs that are alike
 -- the text of a system for which the budget suffices
@@ -153,6 +177,26 @@ report_job IsTold file report = record {
   shows_beyond = λ t level files. IsNoTrail t;
 }
 
+-- the job that lists the system of a file wherever a script of its edits asks for it, by one worker, within a budget of each listing
+abbrev pub session_job : Word → Word → ℕ → JobMeaning
+session_job file script budget = record {
+  files = file ∷ script ∷ [];
+  budget = budget;
+  workers = 1;
+  output = λ text. OfTwoFiles (OfSession (λ systems. IsSessionWithin budget systems text));
+  rejection = λ text files. ⊥;
+  stage = λ text. OfTwoFiles (OfSession (λ systems. IsSessionStage systems text));
+  beyond = λ text level. OfTwoFiles (OfSession (λ systems. IsSessionBefore budget level systems text));
+  short = OfTwoFiles (OfSession (IsShortForOne budget));
+  refusal = IsSessionRefusal;
+  lacking = LacksOneOfTwo (λ bytes. (m : System) × IsTextOf m bytes);
+  possible = OfTwoFiles (OfSession (SufficesForEach budget));
+  invalid = λ files. ⊥;
+  uses_few = λ files. Unit {0};
+  shows = λ t files. IsNoTrail t;
+  shows_beyond = λ t level files. IsNoTrail t;
+}
+
 -- the job that counts what is listed of the system that is generated for a number
 abbrev pub made_job : ℕ → ℕ → ℕ → JobMeaning
 made_job number budget workers = record {
@@ -182,6 +226,7 @@ meaning (cheapest file None budget workers) = task_job Cheapest file budget work
 meaning (cheapest file (Some report) budget workers) = report_job IsToldCheapest file report
 meaning (check file report) = report_job IsToldValid file report
 meaning (make number budget workers) = made_job number budget workers
+meaning (session file script budget) = session_job file script budget
 
 -- ---- the job that words ask for
 -- the names of the files that a job reads, in order

@@ -1,5 +1,5 @@
 -- What a run promises of the job that its words ask for.
-use Rattle.std.specs.Prelude.{◌≡◌, ◌⊎◌, ℕ, ◌≤◌, List, [], Option, Result, Ok, Err, IfSome, IfOk, IfErr, IsErrOf}
+use Rattle.std.specs.Prelude.{◌≡◌, ◌⊎◌, ℕ, ◌≤◌, List, [], Option, Result, Ok, Err, IfSome, IfOk, IfErr}
 use Rattle.mcs_ports.specs.Causes.{Rose}
 use Rattle.mcs_ports.specs.Pieces.{Device, noted}
 use Rattle.mcs_words.specs.Commands.{Word, Request, IsJobOf}
@@ -7,7 +7,7 @@ use Rattle.mcs_check.specs.declared.finding.Finding.{Finding}
 use Rattle.mcs_check.specs.declared.finding.Finding.TheVariants.{Valid, Fails}
 use Rattle.mcs_listing.specs.Jobs.{File, told_all}
 use Rattle.mcs_listing.specs.Endings.{refusal_line, unfinished_line, line_of}
-use Rattle.mcs_listing.specs.Listings.{Prints, PrintsFront}
+use Rattle.mcs_listing.specs.Listings.{Prints, PrintsFront, UsesSink}
 use Rattle.mcs_top.specs.Meaning.{JobMeaning, files_in, OfJob, IfJob}
 use Rattle.mcs_top.specs.declared.outcome.Outcome.{Outcome}
 use Rattle.mcs_top.specs.declared.outcome.Outcome.TheVariants as outcomes
@@ -193,12 +193,6 @@ LeavesText stops.WriteFault job files before now = IfSome files (WritesStage bef
 LeavesText stops.Memory job files before now = (now ≡ before) ⊎ IfSome files (WritesStage before now job)
 
 -- ---- what a part of a run does
--- it uses the device: the count did not fall, no write failed unless that is told, and nothing was noted
-pub record UsesSink {T : Type 0} (before now : Device) (r : Result T Stop) : Type 0 where
-  pub later : before.faults ≤ now.faults
-  pub unfailed : ¬ IsErrOf r stops.WriteFault → now.faults ≡ before.faults
-  pub notes : now.notes ≡ before.notes
-
 -- it does the job, by what the shelf holds by name, within its counts of faults and of failures before and after
 pub record DoesJob (job : JobMeaning) (held : Option (Word → File)) (faults faults' failures failures' : ℕ) (before now : Device) (r : Result Outcome Stop) : Type 0 where
   pub shelf_later : faults ≤ faults'

@@ -26,12 +26,15 @@ use std::thread::Threads;
 /// - `grounded FILE` prints those projected equilibria that are grounded. It is refused if the system
 ///   is not plain, that is, if a context is neither classical nor a normal program.
 /// - `check FILE REPORT` prints whether REPORT has such a listing with its proof.
+/// - `session FILE SCRIPT` edits the system whose text is in FILE as SCRIPT says, and prints what
+///   `solve` prints of it wherever SCRIPT asks for it, with how many answers were new and how many
+///   were kept. The budget is that of each listing.
 /// - `make NUMBER` reads no file. It prints how many members each list of the generated system of
 ///   that number has.
 ///
 /// Rounds of questions are played by so many workers as the words say, but by no more than there
 /// are contexts. One worker is the caller itself, which then waits for nobody, as it does for
-/// `check`. What is printed does not depend on their number.
+/// `check` and `session`. What is printed does not depend on their number.
 ///
 /// Returns the status. For each status but `Done` and `NotValid` one line is noted. Nothing is
 /// written but the output of the job, or a prefix of it. What each status implies is stated by the

@@ -5,11 +5,10 @@ ghost use Rattle.std.specs.Arc.{arc_value};
 ghost use Rattle.mcs_ports.specs.Causes.{Rose};
 ghost use Rattle.mcs_mesh.specs.Players.{oracles_of};
 ghost use Rattle.mcs_crew.specs.Trails.{IsNoTrail, trail_of};
-ghost use Rattle.mcs_listing.specs.Listings.{IsListingText, Prints, StopsWork};
+ghost use Rattle.mcs_listing.specs.Listings.{IsListingText, Prints, StopsWork, UsesSink};
 ghost use Rattle.mcs_work.specs.Tasks.{IsDefinedFor};
 ghost use Rattle.mcs_listing.specs.Working.{CanWork, IsWorked};
 ghost use Rattle.mcs_top.specs.Evaluating.{HasListed, ShowsWork};
-ghost use Rattle.mcs_top.specs.Promise.{UsesSink};
 ghost use Rattle.mcs_top.specs.TaskTrails.{ShowsEnd};
 
 use crate::assignment::Assignment;

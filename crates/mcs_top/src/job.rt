@@ -15,6 +15,7 @@ use crate::making::generated;
 use crate::outcome::Outcome;
 use crate::proving::prove;
 use crate::reported::cheapest_by_report;
+use crate::session::list_session;
 use mcs_crew::Trail;
 use mcs_listing::Stop;
 use mcs_ports::{Gate, Shelf, Sink};
@@ -91,6 +92,11 @@ pub(crate) fn do_job<H: Shelf, K: Sink, G: Gate + Sync, R: Threads + Wait + Sync
             budget,
             workers,
         } => done(generated(rt, alloc, *number, *budget, *workers, sink, gate, trail)),
+        Job::Session {
+            file,
+            script,
+            budget,
+        } => done(list_session(alloc, file, script, *budget, shelf, sink, gate)),
     }
 }
 

@@ -14,6 +14,7 @@ mod outcome;
 mod program;
 mod proving;
 mod reported;
+mod session;
 mod threads;
 
 pub use command::run;

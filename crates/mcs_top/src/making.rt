@@ -6,7 +6,7 @@ ghost use Rattle.mcs_work.specs.declared.task.Task.TheVariants.{Make};
 ghost use Rattle.mcs_generator.specs.Generated.{generated_system};
 ghost use Rattle.mcs_crew.specs.Trails.{IsNoTrail, trail_of};
 ghost use Rattle.mcs_listing.specs.Listings.{AfterNumber, IsListingText, Prints, StopsGenerated};
-ghost use Rattle.mcs_top.specs.Promise.{UsesSink};
+ghost use Rattle.mcs_listing.specs.Listings.{UsesSink};
 ghost use Rattle.mcs_top.specs.TaskTrails.{ShowsEnd};
 
 use crate::assignment::Assignment;

@@ -7,9 +7,9 @@ ghost use Rattle.mcs_listing.specs.Jobs.{told_all};
 ghost use Rattle.mcs_work.specs.declared.task.Task.TheVariants.{Solve};
 ghost use Rattle.mcs_crew.specs.Trails.{IsNoTrail, trail_of};
 ghost use Rattle.mcs_check.specs.Validity.{IsProvedListing};
-ghost use Rattle.mcs_listing.specs.Listings.{Prints, StopsStages};
+ghost use Rattle.mcs_listing.specs.Listings.{Prints, StopsStages, UsesSink};
 ghost use Rattle.mcs_top.specs.Meaning.{IsSolutionStage, IsWithinBudget, meaning};
-ghost use Rattle.mcs_top.specs.Promise.{DoesJob, UsesSink, as_done};
+ghost use Rattle.mcs_top.specs.Promise.{DoesJob, as_done};
 ghost use Rattle.mcs_top.specs.TaskTrails.{ShowsEnd};
 ghost use Rattle.mcs_top.specs.Trails.{LeavesTrail};
 

@@ -2,7 +2,7 @@
 use Rattle.std.proofs.Common.{◌≤◌, Option, option_map, subst, ◌≡◌, ℕ, nat_eq, Bool, cond, List, [], ◌∷◌, Some, None, Ok, Err, Result, MatchResult, get_or, slice_get, length, arith, codes, refl, sym, ap, ◌∙◌}
 use Rattle.std.specs.Str.{bytes_eq}
 use Rattle.mcs_base.specs.Numbers.{value_of_digits}
-use Rattle.mcs_words.specs.Commands.{Word, Command, Request, equilibria, solve, check, make, grounded, cheapest, default_number, IsChosen, HasSettings, AsksFor, IsJobOf}
+use Rattle.mcs_words.specs.Commands.{Word, Command, Request, equilibria, solve, check, make, grounded, cheapest, session, default_number, IsChosen, HasSettings, AsksFor, IsJobOf}
 use Rattle.mcs_words.specs.declared.setting.Setting.{Setting}
 use Rattle.mcs_words.specs.declared.setting.Setting.TheVariants.{Budget, Workers}
 use Rattle.mcs_words.specs.declared.task.Task.{Task}
@@ -29,7 +29,8 @@ chosen_is s (value ∷ (second ∷ values)) n h = absurd h
 abbrev task_at : Word → Task
 task_at word = cond (bytes_eq word (codes "equilibria")) task.Equilibria
     (cond (bytes_eq word (codes "solve")) task.Solve (cond (bytes_eq word (codes "check")) task.Check
-    (cond (bytes_eq word (codes "make")) task.Make (cond (bytes_eq word (codes "grounded")) task.Grounded task.Cheapest))))
+    (cond (bytes_eq word (codes "make")) task.Make (cond (bytes_eq word (codes "grounded")) task.Grounded
+    (cond (bytes_eq word (codes "cheapest")) task.Cheapest task.Session)))))
 
 task_named : (t : Task) → task_at (task_name t) ≡ t
 task_named task.Equilibria = refl
@@ -38,6 +39,7 @@ task_named task.Check = refl
 task_named task.Make = refl
 task_named task.Grounded = refl
 task_named task.Cheapest = refl
+task_named task.Session = refl
 
 abbrev word_of : Option Word → Word
 word_of None = []
@@ -50,6 +52,7 @@ request_at task.Check file report budget workers proof = check file (word_of rep
 request_at task.Make file report budget workers proof = make (value_of_digits file) budget workers
 request_at task.Grounded file report budget workers proof = grounded file budget workers
 request_at task.Cheapest file report budget workers proof = cheapest file report budget workers
+request_at task.Session file report budget workers proof = session file (word_of report) budget
 
 -- what a command asks for, where it asks for anything
 abbrev request_by : List Word → ℕ → ℕ → Bool → Request
@@ -68,6 +71,7 @@ asks_for c (make number budget workers) h = settings_are c budget workers h.0 h.
 asks_for c (grounded file budget workers) h = settings_are c budget workers h.0 h.3 ∙ ap (λ (words : List Word). request_by words budget workers h.0) h.1
 asks_for c (cheapest file None budget workers) h = settings_are c budget workers h.0 h.4 ∙ ap (λ (words : List Word). request_by words budget workers h.0) h.1
 asks_for c (cheapest file (Some report) budget workers) h = settings_are c budget workers h.0 h.4 ∙ ap (λ (words : List Word). request_by words budget workers h.0) h.1
+asks_for c (session file script budget) h = settings_are c budget h.0 h.1 h.5 ∙ ap (λ (words : List Word). request_by words budget h.0 h.1) h.2
 
 pub asks_once : (c : Command) (a b : Request) → AsksFor c a → AsksFor c b → a ≡ b
 asks_once c a b h k = sym (asks_for c a h) ∙ asks_for c b k
@@ -104,6 +108,7 @@ asks_whole c (make number budget workers) h = let words = ap length h.2 in setti
 asks_whole c (grounded file budget workers) h = let words = ap length h.1 in settings_whole c budget workers h.0 h.3 (omega (arith, words)) (omega (arith, words))
 asks_whole c (cheapest file None budget workers) h = let words = ap length h.1 in settings_whole c budget workers h.0 h.4 (omega (arith, words)) (omega (arith, words))
 asks_whole c (cheapest file (Some report) budget workers) h = let words = ap length h.1 in settings_whole c budget workers h.0 h.4 (omega (arith, words)) (omega (arith, words))
+asks_whole c (session file script budget) h = let words = ap length h.2 in settings_whole c budget h.0 h.1 h.5 (omega (arith, words)) (omega (arith, words))
 
 pub not_whole : (words : List Word) (t : Tally) (request : Request) → Some t ≡ option_map tally_of (read words Open) → ¬ IsWholeTally t → ¬ IsJobOf words request
 not_whole words t request e never job =
@@ -131,3 +136,4 @@ named_first c first words (check file report) e h = (task.Check, cc (e, h.3))
 named_first c first words (make number budget workers) e h = (task.Make, cc (e, h.2))
 named_first c first words (grounded file budget workers) e h = (task.Grounded, cc (e, h.1))
 named_first c first words (cheapest file report budget workers) e h = (task.Cheapest, cc (e, h.1))
+named_first c first words (session file script budget) e h = (task.Session, cc (e, h.2))

@@ -109,6 +109,9 @@ pub data Request : Type 0 where
   -- to list the diagnoses of least cost of the system that a file has, by a report or by asking: the file, the file of the
   -- report if there is one, a budget of questions, a number of workers
   cheapest : Word → Option Word → ℕ → ℕ → Request
+  -- to list the system that a file has where a script of edits asks for it: the file, the file of the script, a budget of
+  -- questions of each listing
+  session : Word → Word → ℕ → Request
 
 -- the name of a file: not empty, and not `-`
 abbrev pub IsFile : Word → Type 0
@@ -123,8 +126,8 @@ abbrev pub report_word : Option Word → List Word
 report_word None = []
 report_word (Some report) = report ∷ []
 
--- what a command asks for: its plain words are the job, its file or number, and a report, which must be there for `check` and
--- may be there for `cheapest`. Options and flag are what they may be also where they have no effect
+-- what a command asks for: its plain words are the job, its file or number, and a second file, which must be there for `check`
+-- and `session` and may be there for `cheapest`. Options and flag are what they may be also where they have no effect
 abbrev pub AsksFor : Command → Request → Type 0
 AsksFor c (equilibria file budget workers) =
     (proof : Bool) × (c.plain ≡ codes "equilibria" ∷ file ∷ []) × IsFile file × HasSettings c budget workers proof
@@ -139,6 +142,8 @@ AsksFor c (grounded file budget workers) =
     (proof : Bool) × (c.plain ≡ codes "grounded" ∷ file ∷ []) × IsFile file × HasSettings c budget workers proof
 AsksFor c (cheapest file report budget workers) =
     (proof : Bool) × (c.plain ≡ codes "cheapest" ∷ file ∷ report_word report) × IsFile file × IfSome report IsFile × HasSettings c budget workers proof
+AsksFor c (session file script budget) =
+    (workers : ℕ) × (proof : Bool) × (c.plain ≡ codes "session" ∷ file ∷ script ∷ []) × IsFile file × IsFile script × HasSettings c budget workers proof
 
 -- the words ask for the job
 abbrev pub IsJobOf : List Word → Request → Type 0

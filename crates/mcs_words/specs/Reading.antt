@@ -5,10 +5,10 @@ use Rattle.std.specs.Str.{bytes_eq}
 use Rattle.std.specs.Option.{option_map_or}
 use Rattle.std.specs.declared.alloc.Global.{Global}
 use Rattle.mcs_base.specs.Numbers.{IsNumber}
-use Rattle.mcs_words.specs.Commands.{Word, Command, Request, equilibria, solve, check, make, grounded, cheapest, report_word, nothing, with_plain, with_value, with_proof, begins_with_dash, IsFile, most_made}
+use Rattle.mcs_words.specs.Commands.{Word, Command, Request, equilibria, solve, check, make, grounded, cheapest, session, report_word, nothing, with_plain, with_value, with_proof, begins_with_dash, IsFile, most_made}
 use Rattle.mcs_words.specs.declared.given.Given.{Given}
 use Rattle.mcs_words.specs.declared.job.Job.{Job}
-use Rattle.mcs_words.specs.declared.job.Job.TheVariants.{Equilibria, Solve, Check, Make, Grounded, Cheapest}
+use Rattle.mcs_words.specs.declared.job.Job.TheVariants.{Equilibria, Solve, Check, Make, Grounded, Cheapest, Session}
 use Rattle.mcs_words.specs.declared.kind.Kind.{Kind}
 use Rattle.mcs_words.specs.declared.kind.Kind.TheVariants as code
 use Rattle.mcs_words.specs.declared.reading.Place.{Place}
@@ -31,6 +31,7 @@ request_of (Check file report) = check (string_bytes file) (string_bytes report)
 request_of (Make number budget workers) = make number budget workers
 request_of (Grounded file budget workers) = grounded (string_bytes file) budget workers
 request_of (Cheapest file report budget workers) = cheapest (string_bytes file) (option_map string_bytes report) budget workers
+request_of (Session file script budget) = session (string_bytes file) (string_bytes script) budget
 
 -- the first plain word of a job
 abbrev pub task_name : Task → Word
@@ -40,6 +41,7 @@ task_name task.Check = codes "check"
 task_name task.Make = codes "make"
 task_name task.Grounded = codes "grounded"
 task_name task.Cheapest = codes "cheapest"
+task_name task.Session = codes "session"
 
 -- what its other plain words are
 abbrev pub IsOneFile : List Word → Type 0

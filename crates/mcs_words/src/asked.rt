@@ -81,6 +81,14 @@ pub(crate) fn job(alloc: Global, given: &Given) -> Result<Job, WordsFault>
                 workers,
             })
         }
+        Task::Session => {
+            let (file, script) = two_files(alloc, given)?;
+            Ok(Job::Session {
+                file,
+                script,
+                budget,
+            })
+        }
     }
 }
 
@@ -123,7 +131,7 @@ fn one_file(alloc: Global, given: &Given) -> Result<String, WordsFault>
     }
 }
 
-/// The file and the report, if both can name a file.
+/// The file and the one after it, if both can name a file.
 fn two_files(alloc: Global, given: &Given) -> Result<(String, String), WordsFault>
     ensures { MatchResult result
         (λ p. (targets_of given.now ≡ string_bytes p.0 ∷ string_bytes p.1 ∷ [])

@@ -49,6 +49,13 @@ pub enum Job {
         budget: u64,
         workers: u32,
     },
+    /// To edit the system in the file by the script, which is a file too, and to list what it has
+    /// wherever the script asks for it. The budget is that of each listing.
+    Session {
+        file: String,
+        script: String,
+        budget: u64,
+    },
 }
 
 impl Drop for Job {
@@ -81,6 +88,11 @@ impl Drop for Job {
                 report: _,
                 budget: _,
                 workers: _,
+            } => {}
+            Job::Session {
+                file: _,
+                script: _,
+                budget: _,
             } => {}
         }
     }

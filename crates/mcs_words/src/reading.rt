@@ -28,15 +28,15 @@ pub(crate) enum Place {
 /// The job that the words ask for. `words` are those after the program's name.
 ///
 /// - The job is `equilibria FILE`, `solve FILE`, `grounded FILE`, `cheapest FILE [REPORT]`,
-///   `check FILE REPORT` or `make NUMBER`.
+///   `check FILE REPORT`, `session FILE SCRIPT` or `make NUMBER`.
 /// - The options `--budget N` and `--workers N` and the flag `--proof` may be anywhere before `--`,
 ///   each at most once. An option may also be written `--budget=N`. After `--` every word is plain.
-/// - FILE and REPORT are not empty and not `-`.
+/// - FILE, REPORT and SCRIPT are not empty and not `-`.
 /// - NUMBER and N are one or more digits. NUMBER is 0 to 4,294,967,295. The budget is 1 to
 ///   4,294,967,295, by default 100,000. The workers are 1 to 64, by default 1.
 ///
 /// The options and the flag are allowed for each job. For `check`, and for `cheapest` with REPORT,
-/// they change nothing; the flag changes `solve` alone.
+/// they change nothing. For `session` the workers change nothing. The flag changes `solve` alone.
 ///
 /// `Usage` is returned exactly if the words ask for no job, unless `Memory` is returned in its
 /// place.

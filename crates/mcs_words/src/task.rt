@@ -18,6 +18,8 @@ pub(crate) enum Task {
     Grounded,
     /// `cheapest`.
     Cheapest,
+    /// `session`.
+    Session,
 }
 
 /// The job that the word names.
@@ -37,6 +39,8 @@ pub(crate) fn task_of(word: &str) -> Option<Task>
         Some(Task::Grounded)
     } else if word == "cheapest" {
         Some(Task::Cheapest)
+    } else if word == "session" {
+        Some(Task::Session)
     } else {
         None
     }

@@ -7,7 +7,7 @@ use Rattle.mcs_listing.specs.Listings.{StopsWork}
 use Rattle.mcs_listing.specs.Working.{CanWork}
 use Rattle.mcs_listing.proofs.WorkLemmas.{nothing_left, work_stopped, work_unfailed}
 use Rattle.mcs_crew.specs.Trails.{trail_of}
-use Rattle.mcs_top.proofs.DoingLemmas.{still}
+use Rattle.mcs_listing.proofs.DeviceLemmas.{still}
 use Rattle.mcs_top.proofs.TrailLemmas.{first_evaluator, has_listed, nothing_end}
 use Rattle.std.specs.Arc.{arc_value}
 use Rattle.mcs_top.proofs.evaluating.evaluate_system.Goals as goal

@@ -6,7 +6,7 @@ use Rattle.mcs_listing.specs.declared.ending.Stop.TheVariants as stops
 use Rattle.mcs_listing.specs.Listings.{StopsWork}
 use Rattle.mcs_listing.proofs.WorkLemmas.{nothing_left}
 use Rattle.mcs_crew.specs.Trails.{trail_of}
-use Rattle.mcs_top.proofs.DoingLemmas.{still, sink_err, sink_ok}
+use Rattle.mcs_listing.proofs.DeviceLemmas.{still, sink_err, sink_ok}
 use Rattle.mcs_top.proofs.TrailLemmas.{listing_of, nothing_end, stop_end}
 use Rattle.mcs_top.proofs.evaluating.list_system.Goals as goal
 

@@ -4,7 +4,7 @@ use Rattle.mcs_top.proofs.StageLemmas.{made_output, made_causes, made_leaves}
 use Rattle.mcs_top.proofs.DoingLemmas.{does_done}
 use Rattle.mcs_crew.specs.Trails.{trail_of}
 use Rattle.mcs_top.specs.Meaning.{IsToldCheapest, IsToldValid, meaning}
-use Rattle.mcs_top.proofs.JobTrails.{check_left, made_left}
+use Rattle.mcs_top.proofs.JobTrails.{check_left, made_left, session_left}
 use Rattle.mcs_top.proofs.job.do_job.Goals as goal
 
 pub returns-in-Equilibria-clause-does : goal.returns-in-Equilibria-clause-does
@@ -81,3 +81,13 @@ returns-in-Check-clause-trail g c none = rw c.in-Check.is (check_left IsToldVali
 
 pub returns-in-Make-clause-trail : goal.returns-in-Make-clause-trail
 returns-in-Make-clause-trail g c none = rw (c.in-Make.is, c.done-in-Make.ensures) (made_left _ _ _ (trail_of c.generated.new.trail) c.generated.result (c.generated.ensures.trail none))
+
+-- ---- a session
+pub returns-in-Session-clause-does : goal.returns-in-Session-clause-does
+returns-in-Session-clause-does g c = rw (c.in-Session.is, ← c.deref-in-Session.ensures, ← c.deref-in-Session-2.ensures, c.done-in-Session.ensures) c.list_session.ensures
+
+pub returns-in-Session-clause-unread : goal.returns-in-Session-clause-unread
+returns-in-Session-clause-unread g c none = absurd (let no = rw c.in-Session.is at none in cc)
+
+pub returns-in-Session-clause-trail : goal.returns-in-Session-clause-trail
+returns-in-Session-clause-trail g c none = rw c.in-Session.is (session_left _ _ _ _ (trail_of c.args.trail.now) none c.done-in-Session.result)

@@ -1,6 +1,6 @@
 use Rattle.mcs_listing.specs.Listings.{StopsGenerated}
 use Rattle.mcs_listing.proofs.WorkLemmas.{made_done, made_stops, line_stopped}
-use Rattle.mcs_top.proofs.DoingLemmas.{still, sink_then, sink_wrote, sink_cut}
+use Rattle.mcs_listing.proofs.DeviceLemmas.{still, sink_then, sink_wrote, sink_cut}
 use Rattle.mcs_base.proofs.Results.{err_told}
 use Rattle.mcs_listing.specs.declared.ending.Stop.TheVariants as stops
 use Rattle.mcs_work.specs.declared.task.Task.TheVariants.{Make}

@@ -6,7 +6,7 @@ use Rattle.mcs_listing.specs.Listings.{StopsStages}
 use Rattle.mcs_top.specs.Meaning.{IsSolutionStage}
 use Rattle.mcs_work.specs.declared.task.Task.TheVariants.{Solve}
 use Rattle.mcs_top.proofs.ProvingLemmas.{nothing_proved, work_stops_proof, listed_asked, listed_proved, listed_stops}
-use Rattle.mcs_top.proofs.DoingLemmas.{still, sink_err}
+use Rattle.mcs_listing.proofs.DeviceLemmas.{still, sink_err}
 use Rattle.mcs_top.proofs.TrailLemmas.{answered_end, nothing_end, stop_end}
 use Rattle.mcs_top.proofs.proving.prove_system.Goals as goal
 

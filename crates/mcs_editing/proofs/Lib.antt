@@ -1,0 +1,9 @@
+pub mod KeyLemmas
+pub mod SessionTexts
+pub mod BudgetLemmas
+pub mod WorkedSession
+pub mod CountLemmas
+pub mod SolvingLemmas
+pub mod CourseLemmas
+pub mod LoopLemmas
+pub mod ScriptLemmas

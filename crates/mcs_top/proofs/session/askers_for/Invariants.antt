@@ -1,0 +1,10 @@
+use Rattle.std.proofs.Common.{◌≡◌, [], length}
+use Rattle.std.specs.List.{AllByRecursion}
+use Rattle.mcs_editing.specs.Asked.{keys_asked}
+use Rattle.mcs_top.proofs.session.askers_for.Given as goal
+
+abbrev pub invariant-loop : goal.invariant-loop
+invariant-loop l = record {
+  many : length l.askers.items ≡ l.counter;
+  unasked : AllByRecursion (λ a. keys_asked a.solved.items ≡ []) l.askers.items;
+}
