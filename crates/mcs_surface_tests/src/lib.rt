@@ -38,6 +38,8 @@ mod reports;
 #[cfg(test)]
 mod runs;
 #[cfg(test)]
+mod sessions;
+#[cfg(test)]
 mod solutions;
 #[cfg(test)]
 mod statuses;

@@ -43,6 +43,11 @@ fn told(alloc: Global, job: &Job) -> Result<String, AllocError> {
             budget,
             workers,
         } => format!(in alloc; "make {number}, budget {budget}, workers {workers}"),
+        Job::Session {
+            file,
+            script,
+            budget,
+        } => format!(in alloc; "session of {file} by {script}, budget {budget}"),
     }
 }
 
@@ -98,7 +103,9 @@ cheapest f => cheapest of f, budget 100000, workers 1
 cheapest --budget 7 f --proof --workers 3 => cheapest of f, budget 7, workers 3
 cheapest f r => cheapest of f by r, budget 100000, workers 1
 --workers=4 cheapest --budget 7 f r => cheapest of f by r, budget 7, workers 4
-cheapest -- -f --proof => cheapest of -f by --proof, budget 100000, workers 1";
+cheapest -- -f --proof => cheapest of -f by --proof, budget 100000, workers 1
+session f s => session of f by s, budget 100000
+--proof session --budget 7 f --workers 3 s => session of f by s, budget 7";
 
 #[test]
 fn words_that_ask_for_a_job(rt: HostRuntime) {
@@ -175,7 +182,13 @@ cheapest -
 cheapest f -
 cheapest f  --proof
 cheapest f r x
-cheapest f --budget 0";
+cheapest f --budget 0
+session
+session f
+session f -
+session f  --proof
+session f s x
+session f s --workers 0";
 
 #[test]
 fn words_that_ask_for_none(rt: HostRuntime) {
