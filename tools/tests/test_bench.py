@@ -71,6 +71,22 @@ class Workers(Ground):
             self.assertRegex(table, r"\na text +0\.\d+ +0\.\d+ ")
 
 
+class Sessions(Ground):
+    def test_words(self):
+        self.assertEqual(self.ran("bench/sessions", "--help")[0], 0)
+        for words in (["--fast"], ["--program", "nothing"], ["--random", "some"]):
+            status, table, _ = self.ran("bench/sessions", *words)
+            self.assertEqual((status, table), (2, ""), words)
+
+    def test_a_difference_is_told(self):
+        for told, noted in [
+            ("end of session: 0 lists, 0 answers", "the session has other numbers of listings or answers than its lines"),
+            ("end of session: 1 lists, 0 answers", "the last line is not that of the session"),
+        ]:
+            program = self.script("mcs", f"#!/bin/sh\necho '{told}'\n")
+            self.assertEqual(self.ran("bench/sessions", "--program", program), (1, "", f"sessions: {noted}\n"))
+
+
 class Hostile(Ground):
     def test_words(self):
         self.assertEqual(self.ran("bench/hostile", "--help")[0], 0)

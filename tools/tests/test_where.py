@@ -125,10 +125,34 @@ if grep -q 'd:' "$3"; then echo 'mcs: refused: F2 at 33' >&2; exit 3; fi
         text, got, told, _ = self.noted("", "mcs: refused: file longer than 1048576")
         self.assertEqual((got, told), (3, f"{text}:1:1: the file has more than 1048576 bytes, and longer ones are not taken\n"))
 
+    def scripted(self, script, note, status=3):
+        """What is told of a script, where a program in the place of `mcs` notes this line."""
+        text, script = self.file("a text.mcs", "context c classical {}\n"), self.file("an edit", script)
+        program = self.script("mcs", f"#!/bin/sh\n[ \"$1\" = session ] || exit 9\necho '{note}' >&2\nexit {status}\n")
+        return (text, script, *self.ran("tools/where", text, script, MCS=program))
+
+    def test_the_place_in_a_script(self):
+        for note, sentence in [
+            ("F6 at 6", "F6: no bridge rule has the name that this edit drops"),
+            ("F5 at 6: rules_per_context 12", "F5: with this edit a limit is exceeded: rules_per_context, which is 12"),
+            ("F1 at 6", "F1: no script goes on so: something before this is missing, or this is out of place"),
+            ("F2 at 6", "F2: no context has this name"),
+        ]:
+            _, script, status, told, noted = self.scripted("list.\ndrop r9.\n", f"mcs: refused: script {note}")
+            self.assertEqual((status, told, noted), (3, f"{script}:2:1: {sentence}\ndrop r9.\n^\n", ""))
+        text, _, status, told, _ = self.scripted("", "mcs: refused: F2 at 8")
+        self.assertEqual((status, told.split("\n")[0]), (3, f"{text}:1:9: F2: no context has this name"))
+        _, script, status, told, _ = self.scripted("", "mcs: refused: script longer than 1048576")
+        self.assertEqual((status, told), (3, f"{script}:1:1: the script has more than 1048576 bytes, and longer ones are not taken\n"))
+
+    def test_a_script_that_is_taken(self):
+        self.assertEqual(self.scripted("list.", "mcs: unfinished at level 0, budget 1", 4)[2:], (0, "", ""))
+        self.assertEqual(self.scripted("list.", "mcs: read fault", 5)[2:], (5, "", "mcs: read fault\n"))
+
     def test_words(self):
-        for words in ([], ["a", "b"], ["--all", "a"]):
+        for words in ([], ["a", "b", "c"], ["--all", "a"]):
             status, told, noted = self.ran("tools/where", *words)
-            self.assertEqual((status, told, noted), (2, "", "usage: where FILE\n"))
+            self.assertEqual((status, told, noted), (2, "", "usage: where FILE [SCRIPT]\n"))
         status, told, noted = self.ran("tools/where", "a", MCS=os.path.join(self.room, "nothing"))
         self.assertEqual((status, told), (127, ""))
         self.assertOneLine(noted)
@@ -149,3 +173,7 @@ if grep -q 'd:' "$3"; then echo 'mcs: refused: F2 at 33' >&2; exit 3; fi
         self.assertEqual(self.ran("tools/where", text, MCS=PROGRAM), (0, "", ""))
         status, told, noted = self.ran("tools/where", self.room + "/nothing.mcs", MCS=PROGRAM)
         self.assertEqual((status, told, noted), (5, "", "mcs: read fault\n"))
+        script = self.file("an edit", "list.\nadd bridge r: c:p.\nlist.\ndrop s.\n")
+        status, told, noted = self.ran("tools/where", text, script, MCS=PROGRAM)
+        self.assertEqual((status, noted), (3, ""))
+        self.assertEqual(told, f"{script}:4:1: F6: no bridge rule has the name that this edit drops\ndrop s.\n^\n")
