@@ -1,10 +1,10 @@
 -- Finding an answer among those to ascending questions.
-use Rattle.std.proofs.Common.{◌≡◌, ℕ, ◌<◌, ◌≤◌, Bool, IsTrue, Result, Ok, Err, is_ok, List, length, get_or, take, arith, sym, ap, ◌∙◌, subst, inl, inr, true≢false}
+use Rattle.std.proofs.Common.{◌≡◌, ℕ, ◌<◌, ◌≤◌, Bool, IsTrue, Result, Ok, Err, is_ok, List, length, get_or, take, nat_cmp, arith, sym, ap, ◌∙◌, subst, inl, inr, true≢false}
 use Rattle.std.proofs.lemmas.Bool.{cases_lt}
 use Rattle.std.proofs.lemmas.List.{get_or-map, length-map, get_or-take, length-take}
 use Rattle.std.specs.List.Sorted.{IsPartitionedBy, IsBinarySearchResult, IsSearchInRange}
+use Rattle.std.specs.FinMap.{nat_cmp-IsAntisymmetric}
 use Rattle.mcs_base.specs.Listings.{IsAmong}
-use Rattle.mcs_base.specs.StateOrder.{state_cmp, equal_is}
 use Rattle.mcs_base.proofs.Among.{map_among, place_among, among_at}
 use Rattle.mcs_base.proofs.Ascending.{before_at}
 use Rattle.mcs_base.proofs.NumberCases.{less_test, test_less}
@@ -62,8 +62,7 @@ module _ (answers : List Answer) (up : AreAscendingQuestions answers) where
       one = λ b among is'. let (less', same) = place_of b among is' in sym (same a) ∙ sym here;
     }
 
--- ---- finding a part
--- what a search finds is there
-pub found_part : (xs : List ℕ) (x : ℕ) (r : Result ℕ ℕ) → IsSearchInRange r (length xs) → IsBinarySearchResult (λ y. state_cmp y x) xs r → (b : Bool) → b ≡ is_ok r → IsTrue b → IsAmong x xs
-found_part xs x (Ok i) bound found b is h = subst (λ (z : ℕ). IsAmong z xs) (equal_is (get_or xs i 0) x (found 0)) (among_at xs i 0 bound)
-found_part xs x (Err i) bound found b is h = absurd (true≢false (sym h ∙ is))
+-- the same of a question
+pub found_question : (xs : List ℕ) (x : ℕ) (r : Result ℕ ℕ) → IsSearchInRange r (length xs) → IsBinarySearchResult (λ y. nat_cmp y x) xs r → (b : Bool) → b ≡ is_ok r → IsTrue b → IsAmong x xs
+found_question xs x (Ok i) bound found b is h = subst (λ (z : ℕ). IsAmong z xs) (nat_cmp-IsAntisymmetric (get_or xs i 0) x (found 0)) (among_at xs i 0 bound)
+found_question xs x (Err i) bound found b is h = absurd (true≢false (sym h ∙ is))

@@ -1,5 +1,5 @@
 -- Answers and rows where states that fit no row of some tables go.
-use Rattle.std.proofs.Common.{◌≡◌, ◌∙◌, ◌+◌, ◌<◌, ℕ, List, [], ◌∷◌, length, get_or, take, refl, sym, ap, subst, inl, inr, ◌↔◌}
+use Rattle.std.proofs.Common.{◌≡◌, ◌∙◌, ◌+◌, ◌<◌, ℕ, List, [], ◌∷◌, length, get_or, take, refl, sym, subst, inl, inr, ◌↔◌}
 use Rattle.std.specs.List.{AllByRecursion, AllZip}
 use Rattle.mcs_sets.specs.Orders.{StateBefore}
 use Rattle.mcs_sets.specs.Sets.{common}
@@ -8,7 +8,6 @@ use Rattle.mcs_base.proofs.Each.{all_among, all_from_among}
 use Rattle.mcs_table.specs.Fitting.{IsRowProjection, AreFittingStates}
 use Rattle.mcs_table.specs.Tables.{TableData, IsTable}
 use Rattle.mcs_table.proofs.FittingLemmas.{fitting_same, fitting_more, projection_step}
-use Rattle.mcs_rows.specs.Finding.{asked_in}
 use Rattle.mcs_rows.specs.Fitting.{HasSameParts, HasProjectedParts, HasFittingParts}
 use Rattle.mcs_rows.specs.declared.answer.Answer.{Answer}
 
@@ -42,13 +41,6 @@ module _ (set : ℕ) (tables : List TableData) (k : ℕ) (t : TableData) (less :
       },
       parts_more later bs cs zip.1 zip'.1,
     )
-
--- ---- what is asked is the same
-pub asked_same : (set : ℕ) (tables : List TableData) (answers kept : List Answer) → AllZip (HasFittingParts set tables) answers kept → asked_in kept ≡ asked_in answers
-asked_same set tables [] [] zip = refl
-asked_same set tables [] (b ∷ bs) zip = absurd zip
-asked_same set tables (a ∷ later) [] zip = absurd zip
-asked_same set tables (a ∷ later) (b ∷ bs) zip = ap (λ (x : ℕ). x ∷ asked_in bs) zip.0.active ∙ ap (λ (xs : List ℕ). a.active ∷ xs) (asked_same set tables later bs zip.1)
 
 -- each answer that is left comes of one, and each one has one that is left
 pub answer_before : (set : ℕ) (tables : List TableData) (answers kept : List Answer) → AllZip (HasFittingParts set tables) answers kept → (b : Answer) → IsAmong b kept → (a : Answer) × IsAmong a answers × HasFittingParts set tables a b

@@ -2,6 +2,7 @@ pub mod General
 pub mod LocalLemmas
 pub mod MarkLemmas
 pub mod MakingLemmas
+pub mod NearestLemmas
 pub mod FindingLemmas
 pub mod ChangedLemmas
 pub mod KnownLemmas

@@ -1,6 +1,6 @@
 -- The rows that the code makes are the local rows, and the parts that it gathers are what may be supplied.
 use Rattle.std.proofs.Common.{◌≡◌, ℕ, ◌+◌, ◌*◌, ◌/◌, ◌%◌, ◌<◌, ◌≤◌, Bool, true, false, not, ◌&&◌, cond, eqb, leb, ltb, true≢false, List, [], ◌∷◌, map, filter, ◌++◌, take, length, get_or, refl, sym, ap, ◌∙◌, subst, ◌↔◌, arith}
-use Rattle.std.proofs.lemmas.Bool.{leb-true, le-leb, and_parts, and_from, eq-eqb, eqb-true, false_from_ne_true}
+use Rattle.std.proofs.lemmas.Bool.{leb-true, le-leb, and_parts, and_from, eq-eqb, eqb-true}
 use Rattle.std.proofs.lemmas.Simd.{map-map}
 use Rattle.std.proofs.Math.Bool.{and-false}
 use Rattle.mcs_sets.proofs.SetLemmas.{within_where_common, common_where_within, same_set, has-minus, has-empty, has-common, has-union}
@@ -10,7 +10,7 @@ use Rattle.std.proofs.lemmas.List.{take_all, append-nil}
 use Rattle.std.specs.List.{AllByRecursion, AllZip, flat_map}
 use Rattle.mcs_sets.specs.Sets.{has, size, common, union, minus, members, Within}
 use Rattle.mcs_sets.specs.Orders.{StateBefore}
-use Rattle.mcs_sets.proofs.Lattice.{minus_within, common_within_right, size_within, size-none}
+use Rattle.mcs_sets.proofs.Lattice.{minus_within, common_within_right, size_within}
 use Rattle.mcs_base.specs.Antichains.{HasOneWithin, lies_within}
 use Rattle.mcs_base.specs.Listings.{IsAmong, IsAscending, IsListing}
 use Rattle.mcs_base.proofs.AntichainLemmas.{lies_within-is, one_within-none}
@@ -29,7 +29,7 @@ use Rattle.mcs_system.proofs.MarkLemmas.{has-marks_of}
 use Rattle.mcs_table.specs.declared.row.Row.{Row}
 use Rattle.mcs_table.specs.RowOrder.{RowBefore, same_row}
 use Rattle.mcs_table.specs.Tables.{TableData, Covers, IsTable, IsMinimalRow}
-use Rattle.mcs_table.proofs.CoverLemmas.{covers_append, listing_covers}
+use Rattle.mcs_table.proofs.CoverLemmas.{listing_covers}
 use Rattle.mcs_table.proofs.FittingLemmas.{fits_each_on}
 use Rattle.mcs_table.specs.Fitting.{AreFittingStates, FitsEach}
 use Rattle.mcs_rows.specs.Fitting.{HasFittingParts}
@@ -44,7 +44,7 @@ use Rattle.mcs_rows.specs.Local.{Answered, AreAnswered, IsRowOf, IsLocalTable, I
 use Rattle.mcs_rows.specs.Changed.{HasMarksOf, IsChangedAt}
 use Rattle.mcs_rows.specs.Finding.{AreAscendingQuestions}
 use Rattle.mcs_rows.specs.Answers.{answered_of}
-use Rattle.mcs_rows.specs.Making.{agrees, holds_some, row_with, is_in_reach, rows_with, rows_of, IsStateSettled, IsChangedRow}
+use Rattle.mcs_rows.specs.Making.{agrees, holds_some, row_with, is_in_reach, rows_with, rows_of, IsChangedRow}
 use Rattle.mcs_rows.specs.declared.answer.Answer.{Answer}
 use Rattle.mcs_rows.proofs.LocalLemmas.{IsMade, rows_are_made}
 use Rattle.mcs_rows.proofs.ChangedLemmas.{marks_inside, marks_tell, seen_inputs}
@@ -81,15 +81,6 @@ in_reach m i level sets state x = (
 pub rows_in_reach : (m : System) (i level : ℕ) (sets : List ℕ) (state : ℕ) (a : Answer) → size (marks_at m i state a.active) ≤ level → Within (marks_at m i state a.active) (allowed_marks m) → ¬ HasOneWithin sets (marks_at m i state a.active)
     → rows_with m i level sets state a ≡ map (row_with m i state (marks_at m i state a.active)) (filter (agrees m i state) a.parts.items)
 rows_in_reach m i level sets state a few within none = rw ((in_reach m i level sets state a.active).1 (few, within, none)) refl
-
-pub too_many : (m : System) (i level : ℕ) (sets : List ℕ) (state : ℕ) (a : Answer) → level < size (marks_at m i state a.active) → rows_with m i level sets state a ≡ []
-too_many m i level sets state a many = rw (false_from_ne_true (is_in_reach m i level sets state a.active) (λ e. (let (few, within, none) = (in_reach m i level sets state a.active).0 e in absurd (omega (arith, few, many))))) refl
-
-pub not_allowed : (m : System) (i level : ℕ) (sets : List ℕ) (state : ℕ) (a : Answer) → ¬ Within (marks_at m i state a.active) (allowed_marks m) → rows_with m i level sets state a ≡ []
-not_allowed m i level sets state a never = rw (false_from_ne_true (is_in_reach m i level sets state a.active) (λ e. (let (few, within, none) = (in_reach m i level sets state a.active).0 e in never within))) refl
-
-pub one_known : (m : System) (i level : ℕ) (sets : List ℕ) (state : ℕ) (a : Answer) → HasOneWithin sets (marks_at m i state a.active) → rows_with m i level sets state a ≡ []
-one_known m i level sets state a held = rw (false_from_ne_true (is_in_reach m i level sets state a.active) (λ e. (let (few, within, none) = (in_reach m i level sets state a.active).0 e in none held))) refl
 
 pub marks_counted : (m : System) (i state x applies removed forced : ℕ) → applies ≡ common (applicable m state) (rules_into m i) → Within x (rules_into m i) → removed ≡ minus applies x → forced ≡ minus x applies → size removed + size forced ≡ size (marks_at m i state x)
 marks_counted m i state x applies removed forced is of_rules removed_is forced_is =
@@ -374,47 +365,12 @@ no_marks m i s = ap (λ z. marks_of m z z) (same_set (minus a a) 0 (λ k. let e 
     at k true u = rw (has-empty (k / 2)) (and-false u)
     at k false u = rw (has-empty (k / 2)) (and-false u)
 
-pub settled_covers : (m : System) (i level : ℕ) (known : List ℕ) (s : ℕ) → ¬ HasOneWithin known 0 → (answers : List Answer) (a : Answer) → IsStateSettled m i s answers a → (rows : List Row) → rows ≡ map (row_with m i s 0) (filter (agrees m i s) a.parts.items) → Covers (λ r. IsAmong r rows) (λ r. IsAmong r (rows_of m i level known answers s))
-settled_covers m i level known s unknown answers a settled rows is = subst (λ (z : List Row). Covers (λ r. IsAmong r z) (λ r. IsAmong r (rows_of m i level known answers s))) (sym is) (record {
-  from = λ r h.
-      let (τ, there, e) = map_among (row_with m i s 0) r (filter (agrees m i s) a.parts.items) h in
-      let (part, test) = filter_among (agrees m i s) τ a.parts.items there in
-      let same : common τ (inputs_of m i) ≡ common s (variables_of m i) = grind (arith, nat_tests) in
-      let row = answer_with m level i known s a τ (subst (λ (z : ℕ). size z ≤ level) (sym none) (omega (arith, size-none))) (λ k h'. absurd (true≢false (sym (ap (λ (z : ℕ). has z k) (sym none) ∙ h') ∙ has-empty k))) (subst (λ (z : ℕ). ¬ HasOneWithin known z) (sym none) unknown) part same in
-      among_flat_map (rows_with m i level known s) a r answers settled.among (subst (λ (q : Row). IsAmong q (rows_with m i level known s a)) (ap (λ (z : ℕ). row_with m i s z τ) none ∙ sym e) row);
-  below = λ r h.
-      let (b, here, there) = flat_map_among (rows_with m i level known s) r answers h in
-      let (few, allowed, new, (τ, part, same, e)) = with_answer m level i known s b r there in
-      let agree : agrees m i s τ ≡ true = grind (arith, nat_tests) in (
-        row_with m i s 0 τ,
-        among_map (row_with m i s 0) τ (filter (agrees m i s) a.parts.items) (among_filter (agrees m i s) τ a.parts.items (settled.all b τ here part agree) agree),
-        ap (λ (q : Row). q.state) (sym e),
-        λ k h'. absurd (true≢false (sym h' ∙ has-empty k)),
-      );
-})
-  where
-    none : marks_at m i s a.active ≡ 0
-    none = ap (marks_at m i s) settled.active ∙ no_marks m i s
-
--- where no marks at all hold a known set, each row does
-pub none_covers : (m : System) (i level : ℕ) (known : List ℕ) (s : ℕ) (answers : List Answer) → HasOneWithin known 0 → (rows : List Row) → rows ≡ [] → Covers (λ r. IsAmong r rows) (λ r. IsAmong r (rows_of m i level known answers s))
-none_covers m i level known s answers held rows is = subst (λ (z : List Row). Covers (λ r. IsAmong r z) (λ r. IsAmong r (rows_of m i level known answers s))) (sym is) (record {
-  from = λ r h. absurd h;
-  below = λ r h.
-      let (b, here, there) = flat_map_among (rows_with m i level known s) r answers h in
-      let (few, allowed, none, one) = with_answer m level i known s b r there in
-      absurd (none (record { inner = held.inner; among = held.among; within = λ k h'. absurd (true≢false (sym (held.within k h') ∙ has-empty k)) }));
-})
-
 -- ---- each row is on the local variables
 state_on : (m : System) (i level : ℕ) (known : List ℕ) (s : ℕ) (answers : List Answer) (r : Row) → IsAmong r (rows_of m i level known answers s) → r.state.mask ≡ local_of m i
 state_on m i level known s answers r among =
     let (a, here, there) = flat_map_among (rows_with m i level known s) r answers among in
     let (few, allowed, none, (τ, part, same, e)) = with_answer m level i known s a r there in
     ap (λ (q : Row). q.state.mask) e
-
-pub rows_on : (m : System) (i level : ℕ) (known : List ℕ) (s : ℕ) (answers : List Answer) (scope : ℕ) (rows : List Row) → scope ≡ local_of m i → rows ≡ rows_of m i level known answers s → AllByRecursion (λ (r : Row). r.state.mask ≡ scope) rows
-rows_on m i level known s answers scope rows is rows_are = all_from_among (λ (r : Row). r.state.mask ≡ scope) rows (λ r among. state_on m i level known s answers r (subst (IsAmong r) rows_are among) ∙ sym is)
 
 pub all_on : (m : System) (i level : ℕ) (known : List ℕ) (answers : List Answer) (states : List ℕ) (scope : ℕ) (rows : List Row) → scope ≡ local_of m i → rows ≡ flat_map (rows_of m i level known answers) states → AllByRecursion (λ (r : Row). r.state.mask ≡ scope) rows
 all_on m i level known answers states scope rows is rows_are = all_from_among (λ (r : Row). r.state.mask ≡ scope) rows (λ r among.
@@ -436,23 +392,9 @@ changed_on m i pair answers states scope rows is are = all_from_among (λ (r : R
 pub answered_in_order : (m : System) (level i : ℕ) (answers : List Answer) → AreAnswered m level i (map answered_of answers) → AreAscendingQuestions answers
 answered_in_order m level i answers answered = subst (IsAscending (λ (a b : ℕ). a < b)) (map-map (λ (b : Answered). b.question) answered_of answers) answered.questions.ascending
 
--- what any of them may have
-pub parts_possible : (m : System) (level i : ℕ) (answers : List Answer) (possible : List ℕ) → AreAnswered m level i (map answered_of answers) → IsListing (MaySupply m level i) StateBefore possible → (a : Answer) (τ : ℕ) → IsAmong a answers → IsAmong τ a.parts.items → IsAmong τ possible
-parts_possible m level i answers possible answered listing a τ here part =
-    let (order, ordered, question) = asked_of m level i answers answered a here in
-    (listing.exactly τ).1 (order, ordered, (a.active, question, ((parts_of_answer m level i answers answered a here).exactly τ).0 part))
-
 -- ---- state after state
 pub rows_more : (m : System) (i level : ℕ) (known : List ℕ) (answers : List Answer) (states : List ℕ) (k s : ℕ) → k < length states → s ≡ get_or states k s
     → flat_map (rows_of m i level known answers) (take (k + 1) states) ≡ flat_map (rows_of m i level known answers) (take k states) ++ rows_of m i level known answers s
 rows_more m i level known answers states k s less here =
     let F = rows_of m i level known answers in
     ap (flat_map F) (take_read states k s less here) ∙ (flat_map-append F (take k states) (s ∷ []) ∙ ap (λ (rows : List Row). flat_map F (take k states) ++ rows) (append-nil (F s)))
-
-pub covers_more : (m : System) (i level : ℕ) (known : List ℕ) (answers : List Answer) (states : List ℕ) (k s : ℕ) → k < length states → s ≡ get_or states k s → (old some new : List Row) → Covers (λ r. IsAmong r old) (λ r. IsAmong r (flat_map (rows_of m i level known answers) (take k states))) → Covers (λ r. IsAmong r some) (λ r. IsAmong r (rows_of m i level known answers s)) → new ≡ old ++ some
-    → Covers (λ r. IsAmong r new) (λ r. IsAmong r (flat_map (rows_of m i level known answers) (take (k + 1) states)))
-covers_more m i level known answers states k s less here old some new so_far step is =
-    let F = rows_of m i level known answers in
-    let whole = rows_more m i level known answers states k s less here in
-    subst (λ (rows : List Row). Covers (λ r. IsAmong r rows) (λ r. IsAmong r (flat_map F (take (k + 1) states)))) (sym is)
-    (subst (λ (rows : List Row). Covers (λ r. IsAmong r (old ++ some)) (λ r. IsAmong r rows)) (sym whole) (covers_append old (flat_map F (take k states)) some (F s) so_far step))

@@ -5,3 +5,4 @@ pub mod Changed
 pub mod Finding
 pub mod Fitting
 pub mod Reach
+pub mod Nearest

@@ -1,14 +1,14 @@
 -- Rows of a context, as they are made of a state at its inputs and of an answer.
-use Rattle.std.specs.Prelude.{◌≡◌, ℕ, Bool, true, ◌&&◌, not, List, [], cond, map, filter, nat_eq, nat_le}
+use Rattle.std.specs.Prelude.{◌≡◌, ℕ, Bool, ◌&&◌, not, List, [], cond, map, filter, nat_eq, nat_le}
 use Rattle.std.specs.List.{flat_map, list_any}
 use Rattle.mcs_sets.specs.Sets.{common, union, size}
 use Rattle.mcs_base.specs.Antichains.{lies_within}
 use Rattle.mcs_base.specs.Listings.{IsAmong}
-use Rattle.mcs_system.specs.Imports.{marks_at, rules_into}
+use Rattle.mcs_system.specs.Imports.{marks_at}
 use Rattle.mcs_system.specs.Plain.{System}
 use Rattle.mcs_system.specs.Repairs.{allowed_marks}
 use Rattle.mcs_system.specs.Rows.{inputs_of, local_of}
-use Rattle.mcs_system.specs.Systems.{variables_of, applicable}
+use Rattle.mcs_system.specs.Systems.{variables_of}
 use Rattle.mcs_table.specs.declared.row.Row.{Row}
 use Rattle.mcs_rows.specs.Changed.{acting_into}
 use Rattle.mcs_rows.specs.declared.answer.Answer as code
@@ -36,12 +36,6 @@ rows_with m i level known state a = cond (is_in_reach m i level known state a.ac
 -- the rows of the state with all of the answers
 abbrev pub rows_of : System → ℕ → ℕ → List ℕ → List code.Answer → ℕ → List Row
 rows_of m i level known answers state = flat_map (rows_with m i level known state) answers
-
--- a is the answer to the rules that apply in the state, and has each part of the others that agrees with it: so no change is of use there
-pub record IsStateSettled (m : System) (i state : ℕ) (answers : List code.Answer) (a : code.Answer) : Type 0 where
-  pub among : IsAmong a answers
-  pub active : a.active ≡ common (applicable m state) (rules_into m i)
-  pub all : (b : code.Answer) (τ : ℕ) → IsAmong b answers → IsAmong τ b.parts.items → agrees m i state τ ≡ true → IsAmong τ a.parts.items
 
 -- a row of the state with the answer to the rules that the pair makes of those that apply
 pub record IsChangedRow (m : System) (i pair : ℕ) (answers : List code.Answer) (state : ℕ) (r : Row) : Type 0 where

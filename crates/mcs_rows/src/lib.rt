@@ -10,6 +10,7 @@ mod fitting;
 mod local;
 mod marks;
 mod minimal;
+mod nearest;
 mod states;
 mod supply;
 

@@ -1,14 +1,17 @@
 //! Rows of one state at the inputs of a context.
 
-ghost use Rattle.std.specs.Prelude.{◌≡◌, ◌<◌, ◌↔◌, ◌++◌, ℕ, map, filter, length, IfOk, IsTrue};
+ghost use Rattle.std.specs.Prelude.{◌≡◌, ◌<◌, ◌↔◌, ◌++◌, ℕ, map, filter, length, false, true};
+ghost use Rattle.std.specs.Prelude.{IfOk, IsTrue, MatchOption};
 ghost use Rattle.std.specs.List.{AllByRecursion, flat_map};
 ghost use Rattle.mcs_base.specs.Antichains.{HasOneWithin};
 ghost use Rattle.mcs_sets.specs.Sets.{common, Meets, Within};
-ghost use Rattle.mcs_system.specs.Imports.{rules_into};
+ghost use Rattle.mcs_system.specs.Imports.{marks_at, rules_into};
 ghost use Rattle.mcs_system.specs.Plain.{System};
+ghost use Rattle.mcs_system.specs.Repairs.{allowed_marks};
 ghost use Rattle.mcs_system.specs.Systems.{applicable};
-ghost use Rattle.mcs_rows.specs.Making.{agrees, row_with, rows_with};
-ghost use Rattle.mcs_rows.specs.Reach.{IsReach, IsOut, HasMarksFor, own_marks};
+ghost use Rattle.mcs_rows.specs.Making.{agrees, is_in_reach, row_with, rows_with};
+ghost use Rattle.mcs_rows.specs.Reach.{AreAloneKnown, ComesTo, IsReach, IsOut, HasMarksFor};
+ghost use Rattle.mcs_rows.specs.Reach.{own_marks};
 ghost use Rattle.mcs_rows.specs.declared.answer.Answer as declared;
 
 use crate::answer::Answer;
@@ -19,7 +22,7 @@ use mcs_table::{Row, holds_one};
 use std::alloc::Global;
 
 /// The row with these marks that says of the local variables which of them are true.
-fn row(local: Vars, values: Vars, marks: Marks) -> Row
+pub(crate) fn row(local: Vars, values: Vars, marks: Marks) -> Row
     ensures { result
         ≡ record { state = record { mask = local; values = common values local }; marks = marks } }
 {
@@ -127,7 +130,7 @@ pub(crate) fn reach_of<'a>(system: &System, level: u32, known: &'a [Marks]) -> R
 }
 
 /// Whether it is seen without its marks that no such row removes and forces just these rules.
-fn is_out(removed: Active, forced: Active, reach: &Reach) -> bool
+pub(crate) fn is_out(removed: Active, forced: Active, reach: &Reach) -> bool
     ensures { (m : System) (s : ℕ) → IsReach m reach.now → IsTrue result
         → HasMarksFor removed forced s → IsOut reach.now s }
 {
@@ -136,10 +139,31 @@ fn is_out(removed: Active, forced: Active, reach: &Reach) -> bool
 
 /// Whether the marks hold one of the known sets.
 pub(crate) fn hold_known(marks: Marks, reach: &Reach) -> bool
-    requires alone { (s : ℕ) → Meets s reach.now.alone → HasOneWithin reach.now.known.now s }
+    requires alone { AreAloneKnown reach.now }
     ensures { IsTrue result ↔ HasOneWithin reach.now.known.now marks }
 {
     marks.meets(reach.alone) || holds_one(marks, reach.known)
+}
+
+/// The marks that remove and force these rules, if they are few, each of them allowed, and hold no
+/// known set.
+pub(crate) fn reachable(removed: Active, forced: Active, reach: &Reach) -> Option<Marks>
+    requires alone { AreAloneKnown reach.now }
+    ensures { (m : System) (i state x : ℕ) → ComesTo m i state x removed forced
+        → reach.now.allowed ≡ allowed_marks m
+        → MatchOption result
+        (is_in_reach m i reach.now.level reach.now.known.now state x ≡ false)
+        (λ marks. (marks ≡ marks_at m i state x)
+        × (is_in_reach m i reach.now.level reach.now.known.now state x ≡ true)) }
+{
+    if removed.count() + forced.count() > reach.level {
+        return None;
+    }
+    let marks = marks_of(removed, forced);
+    if !marks.within(reach.allowed) || hold_known(marks, reach) {
+        return None;
+    }
+    Some(marks)
 }
 
 /// Adds the rows of context `i` of the state at its inputs with the answer, where few changes, each
@@ -163,19 +187,12 @@ fn add_answer(
 {
     let removed = applying.minus(answer.active);
     let forced = answer.active.minus(applying);
-    if removed.count() + forced.count() > reach.level {
-        return Ok(());
-    }
     if is_out(removed, forced, reach) {
         return Ok(());
     }
-    let marks = marks_of(removed, forced);
-    if !marks.within(reach.allowed) {
+    let Some(marks) = reachable(removed, forced, reach) else {
         return Ok(());
-    }
-    if hold_known(marks, reach) {
-        return Ok(());
-    }
+    };
     add_parts(rows, system, i, state, marks, &answer.parts)
 }
 

@@ -1,7 +1,6 @@
-use Rattle.std.proofs.Common.{◌<◌, ℕ, List, ◌∙◌, ap, sym, subst}
+use Rattle.std.proofs.Common.{ℕ, List, [], ◌∙◌, ap, sym, subst}
 use Rattle.std.specs.List.{AllByRecursion, AllZip, flat_map}
-use Rattle.mcs_base.specs.Listings.{IsAmong, IsAscending}
-use Rattle.mcs_base.proofs.Among.{among_flat_map}
+use Rattle.mcs_base.specs.Listings.{IsAmong}
 use Rattle.mcs_sets.specs.Sets.{union, Within}
 use Rattle.mcs_system.specs.Imports.{rules_into}
 use Rattle.mcs_system.specs.Plain.{System}
@@ -11,39 +10,35 @@ use Rattle.mcs_import.proofs.OrderLemmas.{import_order_exists}
 use Rattle.mcs_import.proofs.StateLemmas.{lists}
 use Rattle.mcs_table.specs.Fitting.{AreFittingStates}
 use Rattle.mcs_table.specs.Tables.{Covers}
-use Rattle.mcs_rows.specs.Finding.{asked_in}
 use Rattle.mcs_rows.specs.Fitting.{HasFittingParts}
 use Rattle.mcs_rows.specs.Making.{rows_of}
+use Rattle.mcs_rows.specs.Nearest.{AreSupported, AreOfRules}
 use Rattle.mcs_rows.specs.declared.answer.Answer.{Answer}
-use Rattle.mcs_rows.proofs.FittingLemmas.{asked_same, rules_same}
-use Rattle.mcs_rows.proofs.MakingLemmas.{questions_of_rules, answered_in_order, covering_on, made_fitting}
+use Rattle.mcs_rows.proofs.NearestLemmas.{made_of_answers, rules_supported}
+use Rattle.mcs_rows.proofs.FittingLemmas.{rules_same}
+use Rattle.mcs_rows.proofs.MakingLemmas.{questions_of_rules, covering_on, made_fitting}
 use Rattle.mcs_table.specs.declared.row.Row.{Row}
 use Rattle.mcs_rows.specs.Reach.{own_marks}
 use Rattle.mcs_rows.proofs.NearLemmas.{AreNear, all_same}
 use Rattle.mcs_rows.proofs.minimal.minimal_rows.Goals as goal
 
-pub rows_in-requires-clause-in_order : goal.rows_in-requires-clause-in_order
-rows_in-requires-clause-in_order c = subst (IsAscending (λ (a b : ℕ). a < b))
-    (sym (ap asked_in c.deref-3.ensures.value ∙ asked_same c.vars_of.result c.args.others.now c.args.answers.now c.in_ok-fitting.fitting.items c.in_ok-fitting.ensures))
-    (answered_in_order c.args.plan.now c.args.level c.args.i c.args.answers.now c.requires.answered)
-
 pub rows_in-requires-clause-of_rules : goal.rows_in-requires-clause-of_rules
 rows_in-requires-clause-of_rules c =
-    let fitting : AllByRecursion (λ (a : Answer). Within a.active (rules_into c.args.plan.now c.args.i)) c.in_ok-fitting.fitting.items =
-    rules_same c.vars_of.result c.args.others.now c.args.answers.now c.in_ok-fitting.fitting.items (λ (x : ℕ). Within x (rules_into c.args.plan.now c.args.i)) c.in_ok-fitting.ensures
-    (questions_of_rules c.args.plan.now c.args.level c.args.i c.args.answers.now c.requires.answered) in
-    rw (c.system-system.ensures, c.deref-3.ensures.value) fitting
-
-pub rows_in-requires-clause-possible : goal.rows_in-requires-clause-possible
-rows_in-requires-clause-possible c a τ here part =
-    let among : IsAmong a c.deref.result.now = subst (λ (xs : List Answer). IsAmong a xs) (c.deref-3.ensures.value ∙ sym c.deref.ensures.value) here in
-    subst (λ (xs : List ℕ). IsAmong τ xs) (sym c.deref-4.ensures.value)
-    ((c.in_ok-possible.ensures.parts.exactly τ).1 (among_flat_map (λ (b : Answer). b.parts.items) a τ c.deref.result.now among part))
+    let m = c.args.plan.now in
+    let i = c.args.i in
+    let some = c.in_ok-fitting.fitting.items in
+    let all = c.in_ok-supported.supported.items in
+    let fitting : AllByRecursion (λ (a : Answer). Within a.active (rules_into m i)) some =
+    rules_same c.vars_of.result c.args.others.now c.args.answers.now some (λ (x : ℕ). Within x (rules_into m i)) c.in_ok-fitting.ensures (questions_of_rules m c.args.level i c.args.answers.now c.requires.answered) in
+    let are : AreSupported some all = subst (λ (xs : List Answer). AreSupported xs all) c.deref.ensures.value c.in_ok-supported.ensures in
+    subst (λ (s : System). AllByRecursion (AreOfRules s i) c.deref-4.result.now) (sym c.system-system.ensures)
+    (subst (AllByRecursion (AreOfRules m i)) (sym c.deref-4.ensures.value) (rules_supported m i c.args.level [] some all are fitting))
 
 pub minimal_table-requires : goal.minimal_table-requires
 minimal_table-requires c =
-    covering_on c.system-system.result.now c.args.i c.args.level c.deref-5.result.now c.deref-3.result.now c.deref-2.result.now c.union.result c.in_ok-all.all.items
-    (c.union.ensures ∙ ap (λ v. union v c.inputs_of-2.result) c.vars_of-2.ensures ∙ ap (union (variables_of c.system-system.result.now c.args.i)) c.inputs_of-2.ensures) c.in_ok-all.ensures
+    covering_on c.args.plan.now c.args.i c.args.level c.in_ok-near.near.items c.in_ok-fitting.fitting.items c.in_ok-states-2.states.items c.union.result c.in_ok-all.all.items
+    (c.union.ensures ∙ ap (λ v. union v c.inputs_of-2.result) c.vars_of-2.ensures ∙ ap (union (variables_of c.system-system.result.now c.args.i)) c.inputs_of-2.ensures ∙ ap (λ (s : System). union (variables_of s c.args.i) (inputs_of s c.args.i)) c.system-system.ensures) (made_of_answers c.args.plan.now c.system-system.result.now c.args.i c.args.level c.reach_of-reach.result.level c.in_ok-near.near.items c.reach_of-reach.result.known.now c.in_ok-states-2.states.items c.deref-3.result.now c.in_ok-fitting.fitting.items c.in_ok-supported.supported.items c.deref-4.result.now c.in_ok-all.all.items
+    (subst (λ (xs : List Answer). AreSupported xs c.in_ok-supported.supported.items) c.deref.ensures.value c.in_ok-supported.ensures) c.system-system.ensures c.reach_of-reach.ensures.level (c.reach_of-reach.ensures.known ∙ c.deref-2.ensures.value) c.deref-3.ensures.value c.deref-4.ensures.value c.in_ok-all.ensures)
 
 pub returns : goal.returns
 returns c =
@@ -54,19 +49,15 @@ returns c =
     let states = c.in_ok-states.states.items in
     let fewer = c.in_ok-states-2.states.items in
     let some = c.in_ok-fitting.fitting.items in
+    let near = c.in_ok-near.near.items in
     let fit : AreFittingStates (inputs_of m i) c.args.others.now states fewer = subst (λ (z : ℕ). AreFittingStates z c.args.others.now states fewer) (c.inputs_of.ensures ∙ ap (λ (s : System). inputs_of s i) c.system-system.ensures) c.in_ok-states-2.ensures in
     let fits : AllZip (HasFittingParts (variables_of m i) c.args.others.now) c.args.answers.now some = subst (λ (z : ℕ). AllZip (HasFittingParts z c.args.others.now) c.args.answers.now some) (c.vars_of.ensures ∙ ap (λ (s : System). variables_of s i) c.system-system.ensures) c.in_ok-fitting.ensures in
-    let of_system : Covers (λ r. IsAmong r c.in_ok-all.all.items) (λ r. IsAmong r (flat_map (rows_of m i c.args.level c.deref-5.result.now c.deref-3.result.now) c.deref-2.result.now)) =
-    subst (λ (s : System). Covers (λ r. IsAmong r c.in_ok-all.all.items) (λ r. IsAmong r (flat_map (rows_of s i c.args.level c.deref-5.result.now c.deref-3.result.now) c.deref-2.result.now))) c.system-system.ensures c.in_ok-all.ensures in
-    let of_answers = subst (λ (xs : List Answer). Covers (λ r. IsAmong r c.in_ok-all.all.items) (λ r. IsAmong r (flat_map (rows_of m i c.args.level c.deref-5.result.now xs) c.deref-2.result.now))) c.deref-3.ensures.value of_system in
-    let near = c.in_ok-near.near.items in
-    let of_near = subst (λ (ks : List ℕ). Covers (λ r. IsAmong r c.in_ok-all.all.items) (λ r. IsAmong r (flat_map (rows_of m i c.args.level ks some) c.deref-2.result.now))) c.deref-5.ensures.value of_answers in
-    let of_states = subst (λ (xs : List ℕ). Covers (λ r. IsAmong r c.in_ok-all.all.items) (λ r. IsAmong r (flat_map (rows_of m i c.args.level near some) xs))) c.deref-2.ensures.value of_near in
     let are : AreNear (own_marks m i) c.args.known.now near = subst (λ (s : System). AreNear (own_marks s i) c.args.known.now near) c.system-system.ensures c.in_ok-near.ensures in
     let of_rules : AllByRecursion (λ (a : Answer). Within a.active (rules_into m i)) some =
     rules_same c.vars_of.result c.args.others.now c.args.answers.now some (λ (x : ℕ). Within x (rules_into m i)) c.in_ok-fitting.ensures (questions_of_rules m c.args.level i c.args.answers.now c.requires.answered) in
     let covers : Covers (λ r. IsAmong r c.in_ok-all.all.items) (λ r. IsAmong r (flat_map (rows_of m i c.args.level c.args.known.now some) fewer)) =
-    subst (λ (rows : List Row). Covers (λ r. IsAmong r c.in_ok-all.all.items) (λ r. IsAmong r rows)) (all_same m i c.args.level c.args.known.now near are some of_rules fewer) of_states in
+    subst (λ (rows : List Row). Covers (λ r. IsAmong r c.in_ok-all.all.items) (λ r. IsAmong r rows)) (all_same m i c.args.level c.args.known.now near are some of_rules fewer) (made_of_answers c.args.plan.now c.system-system.result.now c.args.i c.args.level c.reach_of-reach.result.level c.in_ok-near.near.items c.reach_of-reach.result.known.now c.in_ok-states-2.states.items c.deref-3.result.now c.in_ok-fitting.fitting.items c.in_ok-supported.supported.items c.deref-4.result.now c.in_ok-all.all.items
+    (subst (λ (xs : List Answer). AreSupported xs c.in_ok-supported.supported.items) c.deref.ensures.value c.in_ok-supported.ensures) c.system-system.ensures c.reach_of-reach.ensures.level (c.reach_of-reach.ensures.known ∙ c.deref-2.ensures.value) c.deref-3.ensures.value c.deref-4.ensures.value c.in_ok-all.ensures) in
     made_fitting m c.args.level i c.args.answers.now c.requires.answered order ordered (lists c.args.supplies.now) (c.requires.supplied order ordered) joined states of_joins of_grows
     c.args.known.now c.args.others.now fewer fit some fits c.minimal_table.result c.in_ok-all.all.items covers
     (c.minimal_table.ensures.scope ∙ c.union.ensures ∙ ap (λ v. union v c.inputs_of-2.result) c.vars_of-2.ensures ∙ ap (union (variables_of c.system-system.result.now i)) c.inputs_of-2.ensures ∙ ap (λ (s : System). union (variables_of s i) (inputs_of s i)) c.system-system.ensures)
