@@ -38,7 +38,9 @@ use Rattle.mcs_joint.proofs.Reducing.{reduced_covers}
 use Rattle.mcs_joint.proofs.Repairing.{minimal_choices, row_there}
 use Rattle.mcs_elimination.specs.CheapestRows.{HasCheapestMarks, IsBelow}
 use Rattle.mcs_elimination.specs.Eliminating.{AreReaching, CanEliminate, IsCostBound}
+use Rattle.mcs_elimination.specs.Lightest.{HasOneMarkEach}
 use Rattle.mcs_elimination.proofs.Exchanging.{below_less}
+use Rattle.mcs_elimination.proofs.OneMarkEach.{minimal_one_each}
 
 module _ (m : System) (valid : IsValid m) (k : ℕ) (dear : List ℕ) (tables : List TableData) (given : AreFittingTables m k dear tables) where
   all_tables : AllByRecursion IsTable given.all
@@ -88,15 +90,15 @@ module _ (m : System) (valid : IsValid m) (k : ℕ) (dear : List ℕ) (tables : 
     joint_is_diagnosis s joint = all_is_diagnosis most s (joint_all most s (covers.from s joint))
 
     module _ (level : ℕ) (below : Option ℕ) (high : level ≤ k) (bound : IsCostBound m level below) (reaching : AreReaching m below dear) where
-      -- what is below the bound has no more marks than the level has
-      few_enough : (s : ℕ) → Within s (allowed_marks m) → size s ≤ length m.bridges → IsBelow below (cost m s) → size s ≤ k
-      few_enough s allowed small is = at below bound is
+      -- what is below the bound and has no rule's both marks has no more marks than the level has
+      few_enough : (s : ℕ) → Within s (allowed_marks m) → HasOneMarkEach s → size s ≤ length m.bridges → IsBelow below (cost m s) → size s ≤ k
+      few_enough s allowed one small is = at below bound is
         where
           at : (o : Option ℕ) → IsCostBound m level o → IsBelow o (cost m s) → size s ≤ k
           at None all h = omega (arith, small, all, high)
           at (Some b) above h = elim (cases_lt level (size s)) [
             | inr few ↦ omega (arith, few, high)
-            | inl many ↦ absurd (let reached = above s allowed many in omega (arith, reached, h))
+            | inl many ↦ absurd (let reached = above s allowed one many in omega (arith, reached, h))
           ]
 
       -- and none of the sets that reach it lies within it
@@ -107,7 +109,7 @@ module _ (m : System) (valid : IsValid m) (k : ℕ) (dear : List ℕ) (tables : 
       cheapest_is_joint : (p : ℕ) → IsCheapest m p → IsBelow below (cost m p) → AreJointMarks most fewer p
       cheapest_is_joint p c is =
           let minimal = cheapest_minimal m p valid c in
-          let few = few_enough p c.one.allowed (minimal_is_small m p minimal) is in
+          let few = few_enough p c.one.allowed (minimal_one_each m p minimal) (minimal_is_small m p minimal) is in
           let (σ, x, choice, e, also_few) = ((minimal_choices m k p).1 (minimal, few)).one in
           let here : size (choice_marks m σ x) ≤ k = subst (λ n. size n ≤ k) e few in
           let small = choice_is_small m σ x choice.of_rules in

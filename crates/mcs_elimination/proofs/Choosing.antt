@@ -1,5 +1,5 @@
 -- The cheapest diagnoses below a bound, of a list of the minimal ones with few marks.
-use Rattle.std.proofs.Common.{◌≡◌, ℕ, ◌<◌, ◌≤◌, List, [], map, length, Option, Some, None, sym, subst, inl, inr, arith}
+use Rattle.std.proofs.Common.{◌≡◌, ℕ, ◌≤◌, List, [], map, Option, Some, None, sym, subst, inl, inr, arith}
 use Rattle.std.proofs.lemmas.Bool.{cases_lt}
 use Rattle.mcs_sets.specs.Orders.{PairBefore}
 use Rattle.mcs_sets.specs.Sets.{size, Within}
@@ -12,7 +12,7 @@ use Rattle.mcs_base.proofs.LeastLemmas.{at_least}
 use Rattle.mcs_base.proofs.ListingLemmas.{IsListing-nil, IsListing-same}
 use Rattle.mcs_system.specs.Faults.{IsValid}
 use Rattle.mcs_system.specs.Plain.{System}
-use Rattle.mcs_system.specs.Repairs.{all_marks, allowed_marks, IsDiagnosis}
+use Rattle.mcs_system.specs.Repairs.{all_marks, IsDiagnosis}
 use Rattle.mcs_system.proofs.MarkLemmas.{allowed_known}
 use Rattle.mcs_laws.proofs.Counting.{minimal_is_small}
 use Rattle.mcs_costs.specs.Costs.{cost, ArePairs, IsCheapest}
@@ -21,6 +21,7 @@ use Rattle.mcs_costs.proofs.ExistLemmas.{cheapest_exists}
 use Rattle.mcs_elimination.specs.CheapestRows.{IsBelow}
 use Rattle.mcs_elimination.specs.Eliminating.{IsCostBound}
 use Rattle.mcs_elimination.proofs.Exchanging.{below_less}
+use Rattle.mcs_elimination.proofs.OneMarkEach.{minimal_one_each}
 
 module _ (m : System) (level : ℕ) (pairs : List ℕ) (listed : IsListing (λ p. IsMinimal (IsDiagnosis m) p × (size p ≤ level)) PairBefore pairs) where
   pub are_pairs : ArePairs m pairs
@@ -41,7 +42,7 @@ module _ (m : System) (level : ℕ) (pairs : List ℕ) (listed : IsListing (λ p
         few None all h = omega (arith, minimal_is_small m p minimal, all)
         few (Some b) above h = elim (cases_lt level (size p)) [
           | inr no_more ↦ no_more
-          | inl many ↦ absurd (let reached = above p c.one.allowed many in omega (arith, reached, h))
+          | inl many ↦ absurd (let reached = above p c.one.allowed (minimal_one_each m p minimal) many in omega (arith, reached, h))
         ]
 
     -- where nothing is listed, there is none

@@ -6,5 +6,6 @@ pub mod Prices
 pub mod CheapestMarks
 pub mod Settling
 pub mod DearMarks
+pub mod OneMarkEach
 pub mod Above
 pub mod Choosing

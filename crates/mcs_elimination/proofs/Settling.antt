@@ -22,10 +22,10 @@ no_rules m level none =
     let no : length (weights m) ≡ 0 = ap length none in
     omega (arith, many, no)
 
--- what costs less has at most so many marks
+-- what costs less, and has no rule's both marks, has at most so many marks
 pub is_cost_bound : (m : System) (level : ℕ) (below : Option ℕ) → IsBoundAt m level below → IsCostBound m level below
 is_cost_bound m level None all = all
-is_cost_bound m level (Some bound) (low, (least, is_least, is)) = λ p within more. let reached = bound_reached m level least is_least p within more in omega (arith, reached, is)
+is_cost_bound m level (Some bound) (low, (least, is_least, is)) = λ p within one more. let reached = bound_reached m level least is_least p within one more in omega (arith, reached, is)
 
 -- ---- dear marks
 pub none_dear : (m : System) (level : ℕ) → AreDear m level []

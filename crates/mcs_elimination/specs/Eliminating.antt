@@ -13,7 +13,7 @@ use Rattle.mcs_joint.specs.Apart.{EachApart}
 use Rattle.mcs_elimination.specs.CheapestRows.{IsBelow}
 use Rattle.mcs_elimination.specs.Lightest.{IsBoundAt, IsReachedAbove}
 
--- No bound is given at the level of all rules alone; elsewhere each set of marks that a repair may have, of more than so many, reaches it, so that what costs less has at most so many marks.
+-- No bound is given at the level of all rules alone; elsewhere each set of more than so many marks that a repair may have, at most one of each rule, reaches it, so that a minimal diagnosis that costs less has at most so many marks.
 abbrev pub IsCostBound : System → ℕ → Option ℕ → Type 0
 IsCostBound m level None = length m.bridges ≤ level
 IsCostBound m level (Some bound) = IsReachedAbove m level bound

@@ -20,9 +20,10 @@ use mcs_table::{Table, forget, join};
 use std::alloc::Global;
 
 /// The cheapest diagnoses of the plan's system, in the order of pairs, if they cost less than the
-/// bound; otherwise none. Any allowed marks of which there are more than the level says reach the
-/// bound, if there is one, so what costs less has at most so many marks. Without a bound the level
-/// is at least the number of rules.
+/// bound; otherwise none. Any allowed marks, at most one of each rule, of which there are more than
+/// the level says reach the bound, if there is one. No minimal diagnosis has both marks of a rule,
+/// so one that costs less has at most so many marks. Without a bound the level is at least the
+/// number of rules.
 ///
 /// There is a table for each context, in some order, all of one level, which is this one or a
 /// higher one. Each has the minimal local rows. Rows that are compatible with no row of some table

@@ -11,9 +11,10 @@ use mcs_system::System;
 use std::alloc::Global;
 
 /// The allowed marks that alone reach the bound of the level, all of them, each as a set of its own.
-/// The bound is a cost that any allowed marks reach of which there are more than the level says. No
-/// diagnosis below it has one of the dear marks, so `cheapest_at` needs no row with one. There is no
-/// bound, and there are none, if the level is at least the number of rules.
+/// The bound is a cost that any allowed marks, at most one of each rule, reach of which there are
+/// more than the level says. No diagnosis below it has one of the dear marks, so `cheapest_at` needs
+/// no row with one. There is no bound, and there are none, if the level is at least the number of
+/// rules.
 pub fn dear_marks(alloc: Global, system: &System, level: u32) -> Result<Vec<Marks>, Memory>
     ensures { IfOk result (λ dear. AreDearMarks system.now level dear.items) }
 {

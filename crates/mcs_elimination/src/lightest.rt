@@ -1,15 +1,16 @@
-//! What more marks than so many cost at least.
+//! What more marks than so many cost at least, if no rule has both of its marks.
 
 ghost use Rattle.std.specs.Prelude.{◌≡◌, ◌≤◌, max};
+ghost use Rattle.mcs_system.specs.Seen.{bridge_of};
 ghost use Rattle.mcs_costs.specs.Costs.{IsLeastWeight};
-ghost use Rattle.mcs_elimination.specs.Lightest.{IsBoundAt, lacking, least_above, least_cost_above};
+ghost use Rattle.mcs_elimination.specs.Lightest.{IsBoundAt, lack_of, lacking, least_above};
+ghost use Rattle.mcs_elimination.specs.Lightest.{least_cost_above};
 
-use mcs_base::Marks;
-use mcs_costs::{cost, least_weight};
-use mcs_system::System;
+use mcs_costs::least_weight;
+use mcs_system::{Bridge, System};
 
-/// What more marks than so many cost at least, so that what costs less has at most so many; `None`
-/// if there are no more rules than so many.
+/// What more marks than so many cost at least, at most one of each rule, so that a minimal diagnosis
+/// that costs less has at most so many; `None` if there are no more rules than so many.
 pub(crate) fn bound_at(system: &System, level: u32) -> Option<u64>
     ensures { IsBoundAt system.now level result }
 {
@@ -22,8 +23,8 @@ pub(crate) fn bound_at(system: &System, level: u32) -> Option<u64>
     }
 }
 
-/// What more marks than so many cost at least, if they are marks that a repair may have: as much as
-/// the lightest of them. The least weight of a rule is passed.
+/// What more marks than so many cost at least, if they are marks that a repair may have, at most one
+/// of each rule: as much as the lightest of these rules. The least weight of a rule is passed.
 fn least_cost_above(system: &System, level: u32, least: u64) -> u64
     requires { IsLeastWeight system.now least }
     ensures { result ≡ least_cost_above system.now level least }
@@ -36,8 +37,8 @@ fn least_cost_above(system: &System, level: u32, least: u64) -> u64
     bound
 }
 
-/// The bound, or as many marks and one more of this weight, less what the marks that a repair may
-/// have lack of it, if this is greater.
+/// The bound, or as many marks and one more of this weight, less what the rules lack of it, if this
+/// is greater.
 fn raised(system: &System, level: u32, weight: u64, bound: u64) -> u64
     requires { weight ≤ 1000000 }
     ensures { result ≡ max bound (least_above system.now level weight) }
@@ -49,15 +50,25 @@ fn raised(system: &System, level: u32, weight: u64, bound: u64) -> u64
     bound.max(most.saturating_sub(lacking(system, weight)))
 }
 
-/// What the marks that a repair may have lack of this weight, all together.
+/// What the rules lack of this weight, all together. Each is counted once, since no minimal
+/// diagnosis has both of its marks.
 fn lacking(system: &System, weight: u64) -> u64
     requires { weight ≤ 1000000 }
     ensures { result ≡ lacking system.now weight }
 {
-    let _bridges = system.bridges();
     let mut sum = 0;
-    for mark in system.allowed().members() {
-        sum += weight.saturating_sub(cost(system, Marks::one(mark)));
+    for bridge in system.bridges() {
+        sum += lack_of(bridge, weight);
     }
     sum
+}
+
+/// What the rule lacks of this weight: nothing, if a repair may neither remove nor force it.
+fn lack_of(bridge: &Bridge, weight: u64) -> u64
+    ensures { result ≡ lack_of weight (bridge_of bridge.now) }
+{
+    if bridge.keep && bridge.closed {
+        return 0;
+    }
+    weight.saturating_sub(bridge.weight as u64)
 }

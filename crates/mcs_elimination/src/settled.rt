@@ -22,9 +22,9 @@ use mcs_table::Table;
 use std::alloc::Global;
 
 /// The cheapest diagnoses of the plan's system, all of them, in the order of pairs, if they cost
-/// less than the bound of the level: a cost that any allowed marks reach of which there are more
-/// than the level says. If the level is at least the number of rules, there is no bound, and they
-/// are always told.
+/// less than the bound of the level: a cost that any allowed marks, at most one of each rule, reach
+/// of which there are more than the level says. If the level is at least the number of rules, there
+/// is no bound, and they are always told.
 ///
 /// `None` if no diagnosis costs less than the bound. Then none costs less than one mark more than
 /// so many would at the least weight of a rule.

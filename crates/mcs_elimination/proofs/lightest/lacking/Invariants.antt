@@ -1,11 +1,8 @@
-use Rattle.std.proofs.Common.{◌≡◌, ◌+◌, ◌-◌, ◌*◌, ◌<◌, length}
-use Rattle.std.specs.List.{AllByRecursion, sum_by}
-use Rattle.mcs_costs.specs.Costs.{mark_weight}
-use Rattle.mcs_elimination.specs.Lightest.{lacking}
+use Rattle.std.proofs.Common.{◌≡◌, map, take}
+use Rattle.std.specs.List.{sum_by}
+use Rattle.mcs_system.specs.Seen.{bridge_of}
+use Rattle.mcs_elimination.specs.Lightest.{lack_of}
 use Rattle.mcs_elimination.proofs.lightest.lacking.Given as goal
 
-abbrev pub invariant-loop-mark : goal.invariant-loop-mark
-invariant-loop-mark l = record {
-  counted : l.sum + sum_by (λ k. l.weight - mark_weight l.system k) l.mark-iterator ≡ lacking l.system l.weight;
-  known : AllByRecursion (λ k. k < 2 * length l.system.bridges) l.mark-iterator;
-}
+abbrev pub invariant-loop-bridge : goal.invariant-loop-bridge
+invariant-loop-bridge l = l.sum ≡ sum_by (lack_of l.weight) (map bridge_of (take l.bridge-index l.bridge-items))
