@@ -1,5 +1,6 @@
 pub mod CountLemmas
 pub mod DraftLemmas
+pub mod EditLemmas
 pub mod EditSpans
 pub mod EditTokens
 pub mod FoundLemmas

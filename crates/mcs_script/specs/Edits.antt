@@ -9,6 +9,7 @@ use Rattle.mcs_base.specs.Listings.{IsAmong}
 use Rattle.mcs_system.specs.Plain as plain
 use Rattle.mcs_system.specs.Plain.{Name, System}
 use Rattle.mcs_system.specs.Edits.{with_rule, without_rule}
+use Rattle.mcs_system.specs.Faults.{IsValid}
 use Rattle.mcs_grammar.specs.Written.{IsNameWord, WrittenBridge, IsWrittenBridge}
 use Rattle.mcs_grammar.specs.Entries.{Entry, entry, bridge_entries}
 use Rattle.mcs_grammar.specs.Saying.{SaysBridge}
@@ -43,6 +44,11 @@ system_after m (e ∷ es) = system_after (edited m e) es
 abbrev pub IsThere : System → Edit → Type 0
 IsThere m (Dropped n) = IsAmong n (rule_names m)
 IsThere m e = Unit {0}
+
+-- each edit makes a system of the one before it, and a rule that is dropped is there
+abbrev pub AreAllowed : System → List Edit → Type 0
+AreAllowed m [] = Unit {0}
+AreAllowed m (e ∷ es) = IsThere m e × IsValid (edited m e) × AreAllowed (edited m e) es
 
 -- ---- as they are written
 pub data WrittenEdit : Type 0 where

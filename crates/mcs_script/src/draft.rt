@@ -15,23 +15,13 @@ ghost use Rattle.std.specs.List.{flat_map};
 use crate::edit::Edit;
 use crate::fits::{fits, has_rule};
 use crate::found::find_reads_of;
+use crate::rules::{copied_rules, drop_rule, with_valid_rules};
 use crate::share::{Share, find_more, reads_of, share_of};
 use mcs_base::Memory;
 use mcs_system::{Bridge, BuildFault, Limit, Name, Read, System};
 use std::alloc::Global;
 use std::marker::Model;
 use std::mem;
-
-/// Copies of the rules.
-fn copied_rules(alloc: Global, rules: &[Bridge]) -> Result<Vec<Bridge>, Memory>
-    ensures { IfOk result (λ copies. map bridge_of copies.items ≡ map bridge_of rules.now) }
-{
-    let mut copies = Vec::new(alloc);
-    for rule in rules {
-        copies.push(rule.copy(alloc)?)?;
-    }
-    Ok(copies)
-}
 
 /// What each context has by the rules.
 fn shares_of(alloc: Global, bare: &System, rules: &[Bridge]) -> Result<Vec<Share>, Memory>
@@ -137,19 +127,6 @@ fn test(alloc: Global, bare: &System, rules: &[Bridge], known: bool) -> Result<(
     Ok(())
 }
 
-/// The system with these rules in place of its own.
-fn with_valid_rules(alloc: Global, bare: &System, rules: Vec<Bridge>) -> Result<System, Memory>
-    requires { IsValid (drafted bare.now rules.items) }
-    ensures { IfOk result (λ s. s ≡ drafted bare.now rules.items) }
-{
-    let bare = bare.copy(alloc)?;
-    match bare.with_rules(alloc, rules) {
-        Ok(system) => Ok(system),
-        Err(BuildFault::Memory) => Err(Memory),
-        Err(BuildFault::Fault { .. }) => unreachable!(),
-    }
-}
-
 /// A system that is edited. It shares the contexts of the system that it was made from. What an edit
 /// takes does not depend on the size of the contexts, and hardly on the number of rules.
 pub struct Draft {
@@ -253,7 +230,7 @@ impl Draft {
             reads,
             shares,
         } = self;
-        rules.retain(|rule| !name.is(&rule.name));
+        drop_rule(&mut rules, name);
         Draft {
             bare,
             rules,

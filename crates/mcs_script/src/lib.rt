@@ -8,11 +8,12 @@ mod fits;
 mod found;
 mod laws;
 mod reading;
+mod rules;
 mod script;
 mod share;
 
 pub use draft::Draft;
-pub use edit::{Edit, edited};
+pub use edit::{Edit, edited, system_after};
 pub use laws::{
     dropped_rules_leave_systems, rules_are_unambiguous, rules_have_one_fault,
     scripts_are_unambiguous, scripts_have_one_fault, spelled_rules_have_no_fault,

@@ -1,6 +1,6 @@
 use Rattle.mcs_system.proofs.BuildLemmas.{not_told}
 use Rattle.mcs_script.specs.Drafts.{drafted}
-use Rattle.mcs_script.proofs.draft.with_valid_rules.Goals as goal
+use Rattle.mcs_script.proofs.rules.with_valid_rules.Goals as goal
 
 pub unreachable-requires : goal.unreachable-requires
 unreachable-requires c =
