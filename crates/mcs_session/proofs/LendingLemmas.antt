@@ -9,7 +9,6 @@ use Rattle.mcs_base.proofs.Each.{all_from_among}
 use Rattle.mcs_base.proofs.Lists.{map_slice_get, slice_get-map_some, slice_get_below, slice_get_push_at}
 use Rattle.mcs_system.specs.Plain.{Context, System}
 use Rattle.mcs_states.specs.Oracles.{OracleState}
-use Rattle.mcs_script.specs.Edits.{edited, Edit, Added, Dropped, Listed}
 use Rattle.mcs_session.specs.Asked.{all_keys, keys_in}
 use Rattle.mcs_session.specs.Inside.{no_keys, AreHome, AreOpen, IsHomeOracle, IsSession, IsUnasked}
 use Rattle.mcs_session.specs.Keys.{Key}
@@ -112,15 +111,9 @@ not_lent m oracles oracles' asked asked' lent s is same kept = record {
 }
 
 -- ---- editing
-same_contexts : (m : System) (e : Edit) → (edited m e).contexts ≡ m.contexts
-same_contexts m (Added b) = refl
-same_contexts m (Dropped n) = refl
-same_contexts m Listed = refl
-
-pub edited_session : (m n : System) (e : Edit) (oracles : List OracleState) (asked : List (Vec Asked)) (lent : Bool) → IsSession m oracles asked lent → lent ≡ false → n ≡ edited m e → IsSession n oracles asked lent
-edited_session m n e oracles asked lent s is next =
-    let same : n.contexts ≡ m.contexts = ap (λ (k : System). k.contexts) next ∙ same_contexts m e in record {
-      many = s.many ∙ ap length (sym same);
-      home = λ home. subst (λ (cs : List Context). AreHome cs (all_keys asked) oracles) (sym same) (s.home home);
-      open_where_lent = λ away. absurd (let no : false ≡ true = sym is ∙ away in cc);
-    }
+pub edited_session : (m n : System) (oracles : List OracleState) (asked : List (Vec Asked)) (lent : Bool) → IsSession m oracles asked lent → lent ≡ false → n.contexts ≡ m.contexts → IsSession n oracles asked lent
+edited_session m n oracles asked lent s is same = record {
+  many = s.many ∙ ap length (sym same);
+  home = λ home. subst (λ (cs : List Context). AreHome cs (all_keys asked) oracles) (sym same) (s.home home);
+  open_where_lent = λ away. absurd (let no : false ≡ true = sym is ∙ away in cc);
+}

@@ -5,7 +5,7 @@ ghost use Rattle.std.specs.Prelude.{true};
 ghost use Rattle.std.specs.Arc.{arc_value};
 ghost use Rattle.std.specs.List.{AllByRecursion};
 ghost use Rattle.mcs_system.specs.Built.{IsFaultOf};
-ghost use Rattle.mcs_script.specs.Edits.{edited, IsThere};
+ghost use Rattle.mcs_script.specs.Edits.{edited, system_after, AreAllowed, IsThere};
 ghost use Rattle.mcs_script.specs.Seen.{edit_of};
 ghost use Rattle.mcs_session.specs.Asked.{all_keys};
 ghost use Rattle.mcs_session.specs.Inside.{AreHome, AreOpen, AreReturned, AreSettled, IsUnasked};
@@ -18,7 +18,7 @@ use crate::asked::{Asked, close, open};
 use crate::asker::Asker;
 use crate::oracle::KeptOracle;
 use mcs_base::Memory;
-use mcs_script::{Edit, edited};
+use mcs_script::{Edit, edited, system_after};
 use mcs_system::{BuildFault, System};
 use std::alloc::Global;
 use std::marker::Model;
@@ -176,6 +176,24 @@ impl<A: Asker> Session<A> {
         ensures unchanged { OnErr result (self.new ≡ self.old) }
     {
         let next = edited(alloc, self.system.copy(alloc)?, edit)?;
+        self.system = Arc::new(alloc, next)?;
+        Ok(())
+    }
+
+    /// Edits the system by each of these, one after the other, and makes one system in all. Each has
+    /// to be allowed: a rule that is dropped is there, and the edited system has no fault. No oracles
+    /// may be lent. If memory runs out, the session is as before.
+    pub fn edit_all(&mut self, alloc: Global, edits: &[Edit]) -> Result<(), Memory>
+        requires allowed { AreAllowed self.old.system (map edit_of edits.now) }
+        requires home { self.old.lent ≡ false }
+        ensures ok { OnOk result (self.new ≡ session_of
+            (system_after self.old.system (map edit_of edits.now)) self.old.journals false) }
+        ensures unchanged { OnErr result (self.new ≡ self.old) }
+    {
+        if edits.is_empty() {
+            return Ok(());
+        }
+        let next = system_after(alloc, &self.system, edits)?;
         self.system = Arc::new(alloc, next)?;
         Ok(())
     }

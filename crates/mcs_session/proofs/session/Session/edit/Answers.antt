@@ -4,6 +4,7 @@ use Rattle.std.specs.Arc.{arc_value}
 use Rattle.mcs_system.specs.Plain.{System}
 use Rattle.mcs_script.specs.Edits.{edited, Edit}
 use Rattle.mcs_script.specs.Seen.{edit_of}
+use Rattle.mcs_script.proofs.ScriptLemmas.{edited_contexts}
 use Rattle.mcs_session.specs.Asked.{all_keys}
 use Rattle.mcs_session.specs.Sessions.{SessionState, session_of}
 use Rattle.mcs_session.proofs.LendingLemmas.{edited_session}
@@ -12,8 +13,10 @@ use Rattle.mcs_session.proofs.session.Session.edit.Goals as goal
 pub invariant_of-self : goal.invariant_of-self
 invariant_of-self g c =
     let e : Edit = edit_of c.args.edit.now in
-    edited_session (arc_value c.self.inside.system) (arc_value c.in_ok-self-inside.field-0) e c.self.inside.oracles.items c.self.inside.asked.items c.self.inside.lent c.self.invariant
-    (ap (λ (s : SessionState). s.lent) c.self.view_is ∙ c.requires.home) (c.in_ok-self-inside.ensures.ok ∙ c.in_ok-next.ensures.ok.0 ∙ ap (λ (m : System). edited m e) (c.in_ok-copy.ensures ∙ c.deref.ensures))
+    let next : arc_value c.in_ok-self-inside.field-0 ≡ edited (arc_value c.self.inside.system) e
+    = c.in_ok-self-inside.ensures.ok ∙ c.in_ok-next.ensures.ok.0 ∙ ap (λ (m : System). edited m e) (c.in_ok-copy.ensures ∙ c.deref.ensures) in
+    edited_session (arc_value c.self.inside.system) (arc_value c.in_ok-self-inside.field-0) c.self.inside.oracles.items c.self.inside.asked.items c.self.inside.lent c.self.invariant
+    (ap (λ (s : SessionState). s.lent) c.self.view_is ∙ c.requires.home) (ap (λ (m : System). m.contexts) next ∙ edited_contexts (arc_value c.self.inside.system) e)
 
 pub returns-clause-ok : goal.returns-clause-ok
 returns-clause-ok g c =
