@@ -1,6 +1,8 @@
 pub mod KeyLemmas
 pub mod SessionTexts
 pub mod BudgetLemmas
+pub mod WorkedSystems
+pub mod WorkedKeys
 pub mod WorkedSession
 pub mod CountLemmas
 pub mod SolvingLemmas

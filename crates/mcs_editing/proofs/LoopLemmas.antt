@@ -1,7 +1,7 @@
 -- A session goes on from edit to edit, and it stops in its text.
-use Rattle.std.proofs.Common.{◌≡◌, ℕ, zero, suc, ◌+◌, ◌<◌, ◌≤◌, List, [], ◌∷◌, ◌++◌, map, length, drop, get_or, Some, slice_get, Option, Result, Ok, Err, true, false, true≢false, refl, sym, ap, ◌∙◌, subst, inl, inr, ◌⊎◌, append_assoc, length-drop, add-one, arith}
+use Rattle.std.proofs.Common.{◌≡◌, ℕ, zero, suc, ◌+◌, ◌-◌, ◌<◌, ◌≤◌, Bool, List, [], ◌∷◌, ◌++◌, map, length, take, drop, get_or, Some, slice_get, slice_range, Option, Result, Ok, Err, true, false, true≢false, refl, sym, ap, ◌∙◌, subst, inl, inr, ◌⊎◌, append_assoc, length-drop, add-one, arith}
 use Rattle.std.proofs.lemmas.Bool.{cases_eq}
-use Rattle.std.proofs.lemmas.List.{length-map}
+use Rattle.std.proofs.lemmas.List.{get_or-drop, length-map}
 use Rattle.std.proofs.lemmas.Option.{slice_get_within, same_Some}
 use Rattle.std.proofs.lemmas.List.Concat.{length-flat_map}
 use Rattle.std.proofs.lemmas.List.Sums.{sum_by-cons}
@@ -10,7 +10,7 @@ use Rattle.std.specs.Result.{IsErrAnd}
 use Rattle.mcs_base.specs.Listings.{IsInventory}
 use Rattle.mcs_base.proofs.Bags.{inventory_same}
 use Rattle.mcs_base.proofs.Lists.{next_dropped, place_cases}
-use Rattle.mcs_base.proofs.Mapped.{map-drop_more}
+use Rattle.mcs_base.proofs.Mapped.{map-drop_more, map-take_read}
 use Rattle.mcs_ports.specs.Causes.{Rose}
 use Rattle.mcs_ports.specs.Pieces.{Device, appended}
 use Rattle.mcs_text.specs.Writes.{Writes, WritesFront}
@@ -29,15 +29,16 @@ use Rattle.mcs_listing.specs.declared.ending.Stop.{Stop}
 use Rattle.mcs_listing.specs.declared.ending.Stop.TheVariants as stops
 use Rattle.mcs_session.specs.Keys.{Key}
 use Rattle.mcs_session.specs.Sessions.{SessionState, session_of}
-use Rattle.mcs_script.specs.Edits.{Edit, Added, Dropped, Listed, edited}
+use Rattle.mcs_script.specs.Edits.{Edit, Added, Dropped, Listed, AreAllowed, edited}
 use Rattle.mcs_script.specs.Seen.{edit_of}
 use Rattle.mcs_script.specs.declared.edit.Edit as code_edit
-use Rattle.mcs_script.proofs.ScriptLemmas.{edited_contexts}
+use Rattle.mcs_script.proofs.EditLemmas.{allowed_more}
+use Rattle.mcs_script.proofs.ScriptLemmas.{after_more, edited_contexts}
 use Rattle.mcs_report.specs.Sessions.{list_line, session_end_line}
-use Rattle.mcs_editing.specs.Listed.{listed_systems, AreAllowed, IsKeyOfFirst}
+use Rattle.mcs_editing.specs.Listed.{listed_systems, IsKeyOfFirst}
 use Rattle.mcs_editing.specs.Texts.{AreListed, IsEndLine, IsSessionText, IsSessionStage, begun, ended}
 use Rattle.mcs_editing.specs.Sessions.{SufficesForEach, IsSessionBefore, IsSessionWithin, ListsSystems, StopsSession}
-use Rattle.mcs_editing.specs.Course.{HasListedNext, IsBegunPart, IsPartStage, IsUnderWay, StopsNext, is_listed, total_of}
+use Rattle.mcs_editing.specs.Course.{HasListedNext, IsBegunPart, IsPartStage, IsUnderWay, IsWaiting, StopsNext, after_all, is_listed, total_of}
 use Rattle.mcs_editing.proofs.KeyLemmas.{first_keys}
 use Rattle.mcs_editing.proofs.CountLemmas.{joined_all}
 
@@ -207,6 +208,27 @@ module _ (budget : ℕ) (systems : List System) (s : SessionState) (lists answer
     end_cut unwritten.Fault faults from now is up w = (let rose = w.due in omega (arith, up, rose), end_front now.written (subst (λ (t : Option (List ℕ)). WritesFront (session_end_line lists answers) t now.written) is w.front))
     end_cut unwritten.Memory faults from now is up w = end_front now.written (subst (λ (t : Option (List ℕ)). WritesFront (session_end_line lists answers) t now.written) is w.front)
 
+-- ---- edits that wait
+after_none : (s : SessionState) → s.lent ≡ false → s ≡ after_all s []
+after_none s home = ap (λ (lent : Bool). session_of s.system s.journals lent) home
+
+module _ (budget : ℕ) (systems : List System) (s : SessionState) (lists answers : ℕ) (before mid : Option (List ℕ)) where
+  pub none_waits : (left : List Edit) → IsUnderWay budget systems left s lists answers before mid → IsWaiting budget systems [] left s lists answers before mid
+  none_waits left u = record {
+    home = u.ready.home;
+    waiting_allowed = tt;
+    under_way = subst (λ (t : SessionState). IsUnderWay budget systems left t lists answers before mid) (after_none s u.ready.home) u;
+  }
+
+  -- one edit more waits
+  pub one_waits : (waiting : List Edit) (e : Edit) (left : List Edit) → is_listed e ≡ false → IsWaiting budget systems waiting (e ∷ left) s lists answers before mid → IsWaiting budget systems (waiting ++ e ∷ []) left s lists answers before mid
+  one_waits waiting e left change w = record {
+    home = w.home;
+    waiting_allowed = allowed_more s.system waiting e w.waiting_allowed w.under_way.allowed.0 w.under_way.allowed.1;
+    under_way = subst (λ (m : System). IsUnderWay budget systems left (session_of m s.journals false) lists answers before mid) (sym (after_more s.system waiting e))
+        (after_edit budget systems (after_all s waiting) lists answers before mid e left change w.under_way);
+  }
+
 -- ---- the beginning
 none_of : {A B : Type 0} (xs : List A) (i : ℕ) (ys : List B) → slice_get (map (λ (x : A). []) xs) i ≡ Some ys → ys ≡ []
 none_of [] i ys is = absurd (cc)
@@ -245,14 +267,46 @@ none_left [] (suc i) past = refl
 none_left (e ∷ es) zero past = absurd (omega (arith, past))
 none_left (e ∷ es) (suc i) past = none_left es i (omega (arith, past))
 
--- an edit is next
-module _ (budget : ℕ) (systems : List System) (s : SessionState) (lists answers : ℕ) (before mid : Option (List ℕ)) (edits : List code_edit.Edit) (i : ℕ) (e : code_edit.Edit) (less : i < length edits) (at : e ≡ get_or edits i e)
-    (u : IsUnderWay budget systems (map edit_of (drop i edits)) s lists answers before mid) where
-  pub edit_next : IsUnderWay budget systems (edit_of e ∷ map edit_of (drop (i + 1) edits)) s lists answers before mid
-  edit_next = subst (λ (es : List Edit). IsUnderWay budget systems es s lists answers before mid) (map-drop_more edit_of edits i e less at) u
+-- the edits of a script from one on, before another one
+abbrev pub edits_in : List code_edit.Edit → ℕ → ℕ → List Edit
+edits_in edits from to = map edit_of (slice_range edits from to)
 
-  pub listing_next : is_listed (edit_of e) ≡ true → IsUnderWay budget systems (Listed ∷ map edit_of (drop (i + 1) edits)) s lists answers before mid
-  listing_next is = subst (λ (d : Edit). IsUnderWay budget systems (d ∷ map edit_of (drop (i + 1) edits)) s lists answers before mid) (is_listing (edit_of e) is) edit_next
+abbrev pub edits_from : List code_edit.Edit → ℕ → List Edit
+edits_from edits from = map edit_of (drop from edits)
+
+pub no_edits : (edits : List code_edit.Edit) (from to : ℕ) → to ≤ from → edits_in edits from to ≡ []
+no_edits edits from to none = ap (λ (n : ℕ). map edit_of (take n (drop from edits))) (let zero_is : to - from ≡ 0 = omega (arith, none) in zero_is)
+
+one_more : (edits : List code_edit.Edit) (from i : ℕ) (e : code_edit.Edit) → from ≤ i → i < length edits → e ≡ get_or edits i e → edits_in edits from (i + 1) ≡ edits_in edits from i ++ edit_of e ∷ []
+one_more edits from i e past less at =
+    let long = length-drop from edits in
+    let next : i + 1 - from ≡ (i - from) + 1 = omega (arith, past) in
+    let same : from + (i - from) ≡ i = omega (arith, past) in
+    ap (λ (n : ℕ). map edit_of (take n (drop from edits))) next
+    ∙ map-take_read edit_of (drop from edits) (i - from) e (omega (arith, long, past, less)) (at ∙ sym (get_or-drop from edits (i - from) e ∙ ap (λ (n : ℕ). get_or edits n e) same))
+
+-- those of a script wait from one on
+abbrev pub WaitsAt : ℕ → List System → List code_edit.Edit → ℕ → ℕ → SessionState → ℕ → ℕ → Option (List ℕ) → Option (List ℕ) → Type 0
+WaitsAt budget systems edits from i s lists answers before mid = IsWaiting budget systems (edits_in edits from i) (edits_from edits i) s lists answers before mid
+
+-- an edit is next
+module _ (budget : ℕ) (systems : List System) (edits : List code_edit.Edit) (from i : ℕ) (s : SessionState) (lists answers : ℕ) (before mid : Option (List ℕ)) (w : WaitsAt budget systems edits from i s lists answers before mid)
+    (e : code_edit.Edit) (less : i < length edits) (at : e ≡ get_or edits i e) where
+  edit_next : IsUnderWay budget systems (edit_of e ∷ edits_from edits (i + 1)) (after_all s (edits_in edits from i)) lists answers before mid
+  edit_next = subst (λ (es : List Edit). IsUnderWay budget systems es (after_all s (edits_in edits from i)) lists answers before mid) (map-drop_more edit_of edits i e less at) w.under_way
+
+  -- it asks for a listing, for which those that waited were made
+  pub at_listing : (t : SessionState) → t ≡ after_all s (edits_in edits from i) → is_listed (edit_of e) ≡ true → IsUnderWay budget systems (Listed ∷ edits_from edits (i + 1)) t lists answers before mid
+  at_listing t made is = subst (λ (d : Edit). IsUnderWay budget systems (d ∷ edits_from edits (i + 1)) t lists answers before mid) (is_listing (edit_of e) is)
+      (subst (λ (k : SessionState). IsUnderWay budget systems (edit_of e ∷ edits_from edits (i + 1)) k lists answers before mid) (sym made) edit_next)
+
+  pub waits_on : from ≤ i → is_listed (edit_of e) ≡ false → WaitsAt budget systems edits from (i + 1) s lists answers before mid
+  waits_on past change = subst (λ (es : List Edit). IsWaiting budget systems es (edits_from edits (i + 1)) s lists answers before mid) (sym (one_more edits from i e past less at))
+      (one_waits budget systems s lists answers before mid (edits_in edits from i) (edit_of e) (edits_from edits (i + 1)) change (record { home = w.home; waiting_allowed = w.waiting_allowed; under_way = edit_next }))
+
+-- after a listing none waits
+pub waits_for_none : (budget : ℕ) (systems : List System) (edits : List code_edit.Edit) (i : ℕ) (s : SessionState) (lists answers : ℕ) (before mid : Option (List ℕ)) → IsUnderWay budget systems (edits_from edits i) s lists answers before mid → WaitsAt budget systems edits i i s lists answers before mid
+waits_for_none budget systems edits i s lists answers before mid u = subst (λ (es : List Edit). IsWaiting budget systems es (edits_from edits i) s lists answers before mid) (sym (no_edits edits i i (omega arith))) (none_waits budget systems s lists answers before mid (edits_from edits i) u)
 
 module _ (budget : ℕ) (systems : List System) (before mid : Device) (faults : mid.faults ≡ before.faults) (notes : mid.notes ≡ before.notes) (s : SessionState) (lists answers : ℕ) where
   -- want of memory between two listings

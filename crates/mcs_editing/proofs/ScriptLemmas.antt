@@ -1,10 +1,9 @@
 -- The edits that a script spells can be listed.
 use Rattle.std.proofs.Common.{ℕ, List, [], ◌∷◌, arith}
 use Rattle.mcs_system.specs.Plain.{System}
-use Rattle.mcs_script.specs.Edits.{Edit, edited}
+use Rattle.mcs_script.specs.Edits.{Edit, AreAllowed, edited}
 use Rattle.mcs_script.specs.Scripts.{SpellsEdits}
 use Rattle.mcs_script.proofs.ScriptLemmas.{edits_take_bytes}
-use Rattle.mcs_editing.specs.Listed.{AreAllowed}
 use Rattle.mcs_editing.specs.Laws.{ScriptsCanBeListed}
 
 edits_allowed : (m : System) (bytes : List ℕ) (at end : ℕ) (es : List Edit) → SpellsEdits m bytes at es end → AreAllowed m es

@@ -14,6 +14,7 @@ use Rattle.mcs_editing.specs.Listed.{IsKeyOfListing, IsKeyOfFirst, IsNewKeyAt, I
 use Rattle.mcs_editing.specs.Texts.{IsAnswersLine, IsSessionText}
 use Rattle.mcs_editing.specs.Worked.{SystemsAreListed, LinesAreSpelled, SessionIsPrinted}
 use Rattle.mcs_editing.proofs.KeyLemmas.{no_keys, more_keys}
+use Rattle.mcs_editing.proofs.WorkedKeys.{worked_keys}
 
 pub systems_listed : SystemsAreListed
 systems_listed = record { three = refl; none = refl }
@@ -185,7 +186,7 @@ in_lines t u a b c d e f g a' b' c' d' e' f' g' ea eb ec ed ee ef eg =
 
 pub session_printed : SessionIsPrinted
 unfolding list_line answers_line session_end_line digit
-session_printed w t u t_is u_is =
+session_printed t u t_is u_is =
     subst (λ (x : List ℕ). IsSessionText (without_rule ∷ with_rule ∷ without_rule ∷ []) x)
     (joined t u (list_line without_rule 1) (answers_line 2 0) (list_line with_rule 2) (answers_line 2 1) (list_line without_rule 3) (answers_line 0 2) (session_end_line 3 4)
     ∙ in_lines t u _ _ _ _ _ _ _ (codes "list 1: 0 rules\n") (codes "answers: 2 new, 0 kept\n") (codes "list 2: 1 rules\n") (codes "answers: 2 new, 1 kept\n") (codes "list 3: 0 rules\n") (codes "answers: 0 new, 2 kept\n") (codes "end of session: 3 lists, 4 answers\n")
@@ -193,4 +194,4 @@ session_printed w t u t_is u_is =
     (list_spelled 3 0 (omega arith) (omega arith)) (answers_spelled 0 2 (omega arith) (omega arith)) (end_spelled 3 4 (omega arith) (omega arith)))
     (three_text (the_key 0 [] []) (the_key 1 [] []) (the_key 0 [] (Atom (codes "a") ∷ [])) (the_key 1 (Atom (codes "p") ∷ []) [])
     other_contexts (other_beliefs 0 (Atom (codes "a")) 0) (other_beliefs 0 (Atom (codes "a")) 1) other_kinds (other_heads 1 (Atom (codes "p")) 0) (other_heads 1 (Atom (codes "p")) 1)
-    without_rule with_rule w.without_it w.with_it t u t_is u_is)
+    without_rule with_rule worked_keys.without_it worked_keys.with_it t u t_is u_is)

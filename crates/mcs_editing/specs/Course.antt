@@ -1,4 +1,4 @@
--- How far a session has come, and what a listing leaves.
+-- How far a session has come, what a listing leaves, and which edits wait.
 use Rattle.std.specs.Prelude.{◌≡◌, ℕ, suc, ◌+◌, ◌<◌, ◌≤◌, ◌⊎◌, Bool, true, false, List, ◌++◌, drop, length, Some, slice_get, Option}
 use Rattle.std.specs.List.{sum_by}
 use Rattle.mcs_base.specs.Listings.{IsInventory}
@@ -13,10 +13,10 @@ use Rattle.mcs_listing.specs.Listings.{Suffices, IsListingText, IsListedBefore, 
 use Rattle.mcs_listing.specs.declared.ending.Stop.{Stop}
 use Rattle.mcs_listing.specs.declared.ending.Stop.TheVariants as stops
 use Rattle.mcs_session.specs.Keys.{Key}
-use Rattle.mcs_session.specs.Sessions.{SessionState}
-use Rattle.mcs_script.specs.Edits.{Edit, Added, Dropped, Listed}
+use Rattle.mcs_session.specs.Sessions.{SessionState, session_of}
+use Rattle.mcs_script.specs.Edits.{Edit, Added, Dropped, Listed, AreAllowed, system_after}
 use Rattle.mcs_report.specs.Sessions.{list_line}
-use Rattle.mcs_editing.specs.Listed.{listed_systems, AreAllowed, IsKeyOfFirst}
+use Rattle.mcs_editing.specs.Listed.{listed_systems, IsKeyOfFirst}
 use Rattle.mcs_editing.specs.Texts.{IsListed, AreListed}
 use Rattle.mcs_editing.specs.Sessions.{SufficesForFirst}
 
@@ -98,3 +98,13 @@ pub record IsUnderWay (budget : ℕ) (systems : List System) (left : List Edit) 
   pub listed : AreListed systems lists text
   pub within : SufficesForFirst budget systems lists
   pub written : now ≡ appended before text
+
+-- the session after these edits
+abbrev pub after_all : SessionState → List Edit → SessionState
+after_all s edits = session_of (system_after s.system edits) s.journals false
+
+-- These edits wait for the next listing, and then others are left: the session is under way as it is after those that wait, which are allowed.
+pub record IsWaiting (budget : ℕ) (systems : List System) (waiting left : List Edit) (s : SessionState) (lists answers : ℕ) (before now : Option (List ℕ)) : Type 0 where
+  pub home : s.lent ≡ false
+  pub waiting_allowed : AreAllowed s.system waiting
+  pub under_way : IsUnderWay budget systems left (after_all s waiting) lists answers before now

@@ -2,10 +2,9 @@
 use Rattle.std.specs.Prelude.{◌≡◌, ℕ, ◌<◌, List, [], ◌∷◌, length, Some, slice_get}
 use Rattle.mcs_system.specs.Plain.{System}
 use Rattle.mcs_system.specs.Levels.{IsQuestionAt}
-use Rattle.mcs_system.specs.Faults.{IsValid}
 use Rattle.mcs_work.specs.Tasks.{IsLastRepairLevel}
 use Rattle.mcs_session.specs.Keys.{Key, key_of}
-use Rattle.mcs_script.specs.Edits.{Edit, Added, Dropped, Listed, edited, IsThere}
+use Rattle.mcs_script.specs.Edits.{Edit, Added, Dropped, Listed, edited}
 
 -- ---- edits
 -- for each listing that is asked for, in order, the system as it is then
@@ -14,11 +13,6 @@ listed_systems m [] = []
 listed_systems m (Added b ∷ es) = listed_systems (edited m (Added b)) es
 listed_systems m (Dropped n ∷ es) = listed_systems (edited m (Dropped n)) es
 listed_systems m (Listed ∷ es) = m ∷ listed_systems m es
-
--- each edit makes a system of the one before it, and a rule that is dropped is there
-abbrev pub AreAllowed : System → List Edit → Type 0
-AreAllowed m [] = Unit {0}
-AreAllowed m (e ∷ es) = IsThere m e × IsValid (edited m e) × AreAllowed (edited m e) es
 
 -- ---- keys
 -- The key is that of a question which the listing of the system takes: of level 0 where the system is consistent, and of the level that is the number of its rules where it is not.

@@ -7,8 +7,7 @@ use Rattle.mcs_work.specs.declared.task.Task.TheVariants.{Solve}
 use Rattle.mcs_listing.specs.Listings.{Suffices, IsShort, IsListedBefore, Prints, PrintsFront}
 use Rattle.mcs_listing.specs.declared.ending.Stop.{Stop}
 use Rattle.mcs_listing.specs.declared.ending.Stop.TheVariants as stops
-use Rattle.mcs_script.specs.Edits.{Edit}
-use Rattle.mcs_editing.specs.Listed.{AreAllowed}
+use Rattle.mcs_script.specs.Edits.{Edit, AreAllowed}
 use Rattle.mcs_editing.specs.Texts.{HasBegunNext, IsSessionText, IsSessionStage}
 
 -- ---- what can be listed

@@ -26,11 +26,11 @@ pub record LinesAreSpelled : Type 0 where
   pub ends : session_end_line 3 4 ≡ codes "end of session: 3 lists, 4 answers\n"
 
 -- ---- the keys
--- without the rule each context is asked once, with no heads and no beliefs
+-- Without the rule the system is consistent, so only level 0 is evaluated: each context is asked once, with no heads and no beliefs.
 abbrev pub keys_without : List Key
 keys_without = the_key 0 [] [] ∷ the_key 1 [] [] ∷ []
 
--- with the rule c1 has a belief, and c2 is asked without and with the head
+-- With the rule it is not, so level 1 is evaluated too: c1 has a belief, and c2 is asked without and with the head.
 abbrev pub keys_with : List Key
 keys_with = the_key 0 [] (Atom (codes "a") ∷ []) ∷ the_key 1 [] [] ∷ the_key 1 (Atom (codes "p") ∷ []) [] ∷ []
 
@@ -48,5 +48,5 @@ worked_text listing_without listing_with =
     ++ codes "end of session: 3 lists, 4 answers\n"))))))))
 
 abbrev pub SessionIsPrinted : Type 0
-SessionIsPrinted = AreWorkedKeys → (listing_without listing_with : List ℕ) → IsTaskText Solve without_rule listing_without → IsTaskText Solve with_rule listing_with
+SessionIsPrinted = (listing_without listing_with : List ℕ) → IsTaskText Solve without_rule listing_without → IsTaskText Solve with_rule listing_with
     → IsSessionText (listed_systems without_rule three_listings) (worked_text listing_without listing_with)

@@ -1,14 +1,11 @@
 //! A session: edit by edit, and listing by listing.
 
-ghost use Rattle.std.specs.Prelude.{◌≡◌, ◌+◌, ◌<◌, ◌≤◌, ◌^◌, [], IfErr, IfOk, OnErr, OnOk};
+ghost use Rattle.std.specs.Prelude.{◌≡◌, ◌+◌, ◌<◌, ◌≤◌, ◌^◌, [], IfErr, IfOk};
 ghost use Rattle.std.specs.Prelude.{Some, false, length, map, slice_get, List};
 ghost use Rattle.std.specs.List.{AllByRecursion};
 ghost use Rattle.mcs_ports.specs.Causes.{Rose};
-ghost use Rattle.mcs_system.specs.Faults.{IsValid};
 ghost use Rattle.mcs_system.specs.Plain as plain;
-ghost use Rattle.mcs_script.specs.Edits.{edited, IsThere};
 ghost use Rattle.mcs_script.specs.Seen.{edit_of};
-ghost use Rattle.mcs_session.specs.Sessions.{session_of};
 ghost use Rattle.mcs_listing.specs.Listings.{UsesSink};
 ghost use Rattle.mcs_editing.specs.Course.{HasListedNext, IsReady, StopsNext, is_listed};
 ghost use Rattle.mcs_editing.specs.Listed.{listed_systems};
@@ -16,12 +13,11 @@ ghost use Rattle.mcs_editing.specs.Sessions.{CanList, ListsSystems};
 
 use crate::lines::{print_answers_line, print_end_line, print_list_line};
 use crate::solving::solve;
-use mcs_base::Memory;
 use mcs_listing::Stop;
 use mcs_ports::{Gate, Sink};
 use mcs_script::Edit;
 use mcs_session::{Answers, Asker, Session};
-use mcs_system::{BuildFault, System};
+use mcs_system::System;
 use std::alloc::Global;
 
 /// Whether a listing is asked for.
@@ -29,22 +25,6 @@ fn asks_for_listing(edit: &Edit) -> bool
     ensures { result ≡ is_listed (edit_of edit.now) }
 {
     matches!(edit, Edit::List)
-}
-
-/// Edits the system of the session. The edit has to be allowed: a rule that is dropped is there, and
-/// the edited system has no fault.
-fn edit_system<A: Asker>(alloc: Global, session: &mut Session<A>, edit: &Edit) -> Result<(), Memory>
-    requires home { session.old.lent ≡ false }
-    requires allowed { IsThere session.old.system (edit_of edit.now)
-        × IsValid (edited session.old.system (edit_of edit.now)) }
-    ensures ok { OnOk result (session.new
-        ≡ session_of (edited session.old.system (edit_of edit.now)) session.old.journals false) }
-{
-    match session.edit(alloc, edit) {
-        Ok(()) => Ok(()),
-        Err(BuildFault::Memory) => Err(Memory),
-        Err(BuildFault::Fault { .. }) => unreachable!(),
-    }
 }
 
 /// Prints the listing of the system of the session, before which there are `many`, with its lines.
@@ -103,13 +83,15 @@ pub fn list_script<A: Asker, K: Sink, G: Gate>(
     let mut session = Session::new(alloc, system, askers)?;
     let mut lists = 0;
     let mut answers = 0;
-    for edit in edits {
+    // The first edit after the last listing.
+    let mut start = 0;
+    for (place, edit) in edits.iter().enumerate() {
         if asks_for_listing(edit) {
+            session.edit_all(alloc, &edits[start..place])?;
             let found = list_next(alloc, &mut session, lists, budget, sink, gate)?;
             lists += 1;
             answers += found.new;
-        } else {
-            edit_system(alloc, &mut session, edit)?;
+            start = place + 1;
         }
     }
     print_end_line(alloc, lists, answers, sink)?;

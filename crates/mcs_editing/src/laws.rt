@@ -6,7 +6,8 @@ ghost use Rattle.mcs_editing.specs.Laws.{SessionStagesAreFronts};
 ghost use Rattle.mcs_editing.specs.Laws.{SessionTextsAreOne, SessionTextsExist};
 ghost use Rattle.mcs_editing.specs.Laws.{TextsBeforeAreOne, TextsBeforeAreShort};
 ghost use Rattle.mcs_editing.specs.Laws.{TextsBeforeAreStages};
-ghost use Rattle.mcs_editing.specs.Worked.{LinesAreSpelled, SessionIsPrinted, SystemsAreListed};
+ghost use Rattle.mcs_editing.specs.Worked.{AreWorkedKeys, LinesAreSpelled};
+ghost use Rattle.mcs_editing.specs.Worked.{SessionIsPrinted, SystemsAreListed};
 
 /// A session has at most one text, and each stage of it is a prefix of it.
 pub fn session_texts_are_unambiguous()
@@ -30,9 +31,10 @@ pub fn texts_before_are_unambiguous()
 {}
 
 /// A worked session: a rule is added and dropped, and the system is listed before, between and
-/// after.
+/// after. Its systems, the keys of its listings, its lines, and its text around the listings.
 pub fn worked_session()
     ensures systems { SystemsAreListed }
+    ensures keys { AreWorkedKeys }
     ensures lines { LinesAreSpelled }
     ensures text { SessionIsPrinted }
 {}
