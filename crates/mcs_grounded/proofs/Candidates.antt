@@ -1,7 +1,7 @@
 -- The search among the belief states within bounds: there is one where each context has one, and what the bounds settle.
-use Rattle.std.proofs.Common.{◌≡◌, ℕ, ◌+◌, ◌<◌, zero, suc, Bool, true, false, not, eqb, ltb, cond, List, [], ◌∷◌, length, map, get_or, Some, ◌⊎◌, inl, inr, ◌↔◌, arith, refl, sym, ap, ◌∙◌, subst, true≢false, slice_get, slice_set, IsTrue}
+use Rattle.std.proofs.Common.{◌≡◌, ℕ, ◌+◌, ◌<◌, zero, suc, Bool, true, false, not, eqb, ltb, cond, List, [], ◌∷◌, length, get_or, Some, ◌⊎◌, inl, inr, ◌↔◌, arith, refl, sym, ap, ◌∙◌, subst, true≢false, slice_get, slice_set, IsTrue}
 use Rattle.std.proofs.lemmas.Bool.{and_parts, and_from, eq-eqb, eqb-true, ltb-true, ne_eqb, cases_eq, cases_lt}
-use Rattle.std.proofs.lemmas.List.{length-map, get_or-set_same, get_or-set_other}
+use Rattle.std.proofs.lemmas.List.{get_or-set_same, get_or-set_other}
 use Rattle.std.proofs.lemmas.Option.{slice_get_within, get_or_from_slice_get}
 use Rattle.mcs_sets.specs.Sets.{has, common, Within}
 use Rattle.mcs_sets.proofs.SetLemmas.{has-common, has-such_that}
@@ -14,6 +14,7 @@ use Rattle.mcs_system.specs.Atoms.{atoms_of}
 use Rattle.mcs_system.specs.Logic.{is_in, true_names, BeliefSet, Believes, Accepts, with_heads}
 use Rattle.mcs_system.specs.Systems.{variables, variables_of, all_variables, all_rules, applicable, AcceptsWith, Applies, BelievesIn, IsProjection, IsProjectedEquilibrium, IsVariable}
 use Rattle.mcs_system.proofs.MarkLemmas.{applicable_within}
+use Rattle.mcs_system.proofs.ValidLemmas.{few_contexts}
 use Rattle.mcs_system.proofs.VariableLemmas.{variable_in_range, has-variables_of}
 use Rattle.mcs_laws.proofs.Projections.{parts_of, acting_at-is}
 use Rattle.mcs_reduct.specs.Plain.{IsPlain}
@@ -25,7 +26,7 @@ use Rattle.mcs_grounded.specs.Views.{HasOfCone, IsConeView, AreViewsOf}
 use Rattle.mcs_grounded.specs.Searches.{IsKnown, IsBounded, IsCandidate, HasCandidate, HaveCandidates, AreBoundsOf, AreFirstBounds, NoneIsOpen, IsToldAt, differences, NoneIsGrounded, CanSearch, IsOfState}
 use Rattle.mcs_grounded.specs.declared.bounds.Bounds.{Bounds}
 use Rattle.mcs_grounded.specs.declared.cone.Cone.{Cone}
-use Rattle.mcs_grounded.specs.declared.derivation.Derivation.{Derivation}
+use Rattle.mcs_grounded.specs.declared.basis.Derivation.{Derivation}
 use Rattle.mcs_reduct.proofs.Reduced.{equilibrium_of_reduct}
 use Rattle.mcs_reduct.proofs.Shown.{acting_all, acts_is}
 use Rattle.mcs_reduct.proofs.Heads.{heads_same}
@@ -86,54 +87,54 @@ module _ (m : System) (σ : ℕ) (cones : List ℕ) where
       )
 
   -- ---- what candidates are to the bounds
-  above_possible : (bounds : Bounds) (s : List BeliefSet) → IsCandidate m σ cones bounds s → AreAbove m cones bounds.possible.items s
+  above_possible : (bounds : Bounds) (s : List BeliefSet) → IsCandidate m σ cones bounds s → AreAbove m cones bounds.possible s
   above_possible bounds s candidate i b n own on inside = (candidate.bounded i b own).possible n on inside
 
-  below_certain : (bounds : Bounds) (s : List BeliefSet) (x : ℕ) → IsCandidate m σ cones bounds s → AreBelow m σ x bounds.certain.items s
+  below_certain : (bounds : Bounds) (s : List BeliefSet) (x : ℕ) → IsCandidate m σ cones bounds s → AreBelow m σ x bounds.certain s
   below_certain bounds s x candidate i b n own not inside = (candidate.bounded i b own).certain n inside
 
-  below_possible : (bounds : Bounds) (s : List BeliefSet) (x : ℕ) → NoneIsOpen m σ bounds x → IsCandidate m σ cones bounds s → AreBelow m σ x bounds.possible.items s
+  below_possible : (bounds : Bounds) (s : List BeliefSet) (x : ℕ) → NoneIsOpen m σ bounds x → IsCandidate m σ cones bounds s → AreBelow m σ x bounds.possible s
   below_possible bounds s x none candidate i b n own not inside = (candidate.bounded i b own).certain n
       (subst (λ (places : ℕ). is_in n (true_names 0 (atoms_of m i) places) ≡ true) (sym (none i (omega (arith, slice_get_within s i b own, candidate.shown.balanced.one_each)) not)) inside)
 
   module _ (plain : IsPlain m) (have : HaveCones m cones) (bounds : Bounds) where
     -- all is derived by what is possible
-    pub settled_yes : IsProjectedEquilibrium m (all_rules m) 0 σ → HaveCandidates m σ cones bounds → (x : ℕ) → IsDerived m σ cones bounds.possible.items x → x ≡ applicable m σ → IsGroundedState m σ
+    pub settled_yes : IsProjectedEquilibrium m (all_rules m) 0 σ → HaveCandidates m σ cones bounds → (x : ℕ) → IsDerived m σ cones bounds.possible x → x ≡ applicable m σ → IsGroundedState m σ
     settled_yes p candidates x derived all =
         let (s, candidate) = candidate_state bounds (parts_of m (all_rules m) 0 σ p).0 candidates in
-        record { state = s; grounded = grounded_where_all m plain σ cones bounds.possible.items have x derived all s candidate.shown (above_possible bounds s candidate); projection = candidate.shown.projection }
+        record { state = s; grounded = grounded_where_all m plain σ cones bounds.possible have x derived all s candidate.shown (above_possible bounds s candidate); projection = candidate.shown.projection }
 
     -- less is, and nothing is open
-    pub settled_known : (x : ℕ) → IsDerived m σ cones bounds.possible.items x → ¬ (x ≡ applicable m σ) → NoneIsOpen m σ bounds x → NoneIsGrounded m σ cones bounds
-    settled_known x derived less none s candidate = ungrounded_where_less m plain σ cones bounds.possible.items x derived less s candidate.shown (below_possible bounds s x none candidate)
+    pub settled_known : (x : ℕ) → IsDerived m σ cones bounds.possible x → ¬ (x ≡ applicable m σ) → NoneIsOpen m σ bounds x → NoneIsGrounded m σ cones bounds
+    settled_known x derived less none s candidate = ungrounded_where_less m plain σ cones bounds.possible x derived less s candidate.shown (below_possible bounds s x none candidate)
 
     -- less is by what is certain
-    pub settled_no : (x : ℕ) → IsDerived m σ cones bounds.certain.items x → ¬ (x ≡ applicable m σ) → NoneIsGrounded m σ cones bounds
-    settled_no x derived less s candidate = ungrounded_where_less m plain σ cones bounds.certain.items x derived less s candidate.shown (below_certain bounds s x candidate)
+    pub settled_no : (x : ℕ) → IsDerived m σ cones bounds.certain x → ¬ (x ≡ applicable m σ) → NoneIsGrounded m σ cones bounds
+    settled_no x derived less s candidate = ungrounded_where_less m plain σ cones bounds.certain x derived less s candidate.shown (below_certain bounds s x candidate)
 
   -- ---- one context is told
   module _ (bounds told : Bounds) (i places : ℕ) (is : IsToldAt bounds i places told) (bounds_of : AreBoundsOf m bounds) (less : i < length m.contexts) (program : IsProgramContext m i) where
     pub told_bounds : AreBoundsOf m told
     told_bounds = record {
-      certain = ap length is.certain ∙ length-slice_set bounds.certain.items i places ∙ bounds_of.certain;
-      possible = ap length is.possible ∙ length-slice_set bounds.possible.items i places ∙ bounds_of.possible;
+      certain = omega (arith, ap length is.certain, length-slice_set bounds.certain i places, bounds_of.certain);
+      possible = omega (arith, ap length is.possible, length-slice_set bounds.possible i places, bounds_of.possible);
       of_programs = λ j open_yet. elim (cases_eq i j) [
         | inl same ↦ subst (IsProgramContext m) same program
         | inr other ↦ bounds_of.of_programs j (λ known. open_yet (certain_beside j other ∙ known ∙ sym (possible_beside j other)))
       ];
     }
       where
-        certain_beside : (j : ℕ) → ¬ (i ≡ j) → get_or told.certain.items j 0 ≡ get_or bounds.certain.items j 0
-        certain_beside j other = ap (λ (xs : List ℕ). get_or xs j 0) is.certain ∙ get_or-set_other bounds.certain.items i j places 0 (λ e. other (sym e))
+        certain_beside : (j : ℕ) → ¬ (i ≡ j) → get_or told.certain j 0 ≡ get_or bounds.certain j 0
+        certain_beside j other = ap (λ (xs : List ℕ). get_or xs j 0) is.certain ∙ get_or-set_other bounds.certain i j places 0 (λ e. other (sym e))
 
-        possible_beside : (j : ℕ) → ¬ (i ≡ j) → get_or told.possible.items j 0 ≡ get_or bounds.possible.items j 0
-        possible_beside j other = ap (λ (xs : List ℕ). get_or xs j 0) is.possible ∙ get_or-set_other bounds.possible.items i j places 0 (λ e. other (sym e))
+        possible_beside : (j : ℕ) → ¬ (i ≡ j) → get_or told.possible j 0 ≡ get_or bounds.possible j 0
+        possible_beside j other = ap (λ (xs : List ℕ). get_or xs j 0) is.possible ∙ get_or-set_other bounds.possible i j places 0 (λ e. other (sym e))
 
-    certain_here : get_or told.certain.items i 0 ≡ places
-    certain_here = ap (λ (xs : List ℕ). get_or xs i 0) is.certain ∙ get_or-set_same bounds.certain.items i places 0 (omega (arith, less, bounds_of.certain))
+    certain_here : get_or told.certain i 0 ≡ places
+    certain_here = ap (λ (xs : List ℕ). get_or xs i 0) is.certain ∙ get_or-set_same bounds.certain i places 0 (omega (arith, less, bounds_of.certain))
 
-    possible_here : get_or told.possible.items i 0 ≡ places
-    possible_here = ap (λ (xs : List ℕ). get_or xs i 0) is.possible ∙ get_or-set_same bounds.possible.items i places 0 (omega (arith, less, bounds_of.possible))
+    possible_here : get_or told.possible i 0 ≡ places
+    possible_here = ap (λ (xs : List ℕ). get_or xs i 0) is.possible ∙ get_or-set_same bounds.possible i places 0 (omega (arith, less, bounds_of.possible))
 
     -- a belief set of the context with just these atoms of the cone is within the new bounds
     bounded_here : (b : BeliefSet) → ((n : Name) → is_in n (true_names 0 (atoms_of m i) places) ≡ true → is_in n (atoms_at m cones i) ≡ true) → HasOfCone m i (get_or cones i 0) places b → IsBounded m cones told i b
@@ -145,8 +146,8 @@ module _ (m : System) (σ : ℕ) (cones : List ℕ) where
     -- those of other contexts are where they were
     bounded_beside : (j : ℕ) (b : BeliefSet) → ¬ (i ≡ j) → IsBounded m cones bounds j b → IsBounded m cones told j b
     bounded_beside j b other old = record {
-      certain = λ n inside. old.certain n (subst (λ (x : ℕ). is_in n (true_names 0 (atoms_of m j) x) ≡ true) (ap (λ (xs : List ℕ). get_or xs j 0) is.certain ∙ get_or-set_other bounds.certain.items i j places 0 (λ e. other (sym e))) inside);
-      possible = λ n on inside. subst (λ (x : ℕ). is_in n (true_names 0 (atoms_of m j) x) ≡ true) (sym (ap (λ (xs : List ℕ). get_or xs j 0) is.possible ∙ get_or-set_other bounds.possible.items i j places 0 (λ e. other (sym e)))) (old.possible n on inside);
+      certain = λ n inside. old.certain n (subst (λ (x : ℕ). is_in n (true_names 0 (atoms_of m j) x) ≡ true) (ap (λ (xs : List ℕ). get_or xs j 0) is.certain ∙ get_or-set_other bounds.certain i j places 0 (λ e. other (sym e))) inside);
+      possible = λ n on inside. subst (λ (x : ℕ). is_in n (true_names 0 (atoms_of m j) x) ≡ true) (sym (ap (λ (xs : List ℕ). get_or xs j 0) is.possible ∙ get_or-set_other bounds.possible i j places 0 (λ e. other (sym e)))) (old.possible n on inside);
     }
 
     pub told_candidates : IsConeView m σ i (get_or cones i 0) places → HaveCandidates m σ cones bounds → HaveCandidates m σ cones told
@@ -167,10 +168,10 @@ module _ (m : System) (σ : ℕ) (cones : List ℕ) where
     }
 
     -- and there is one open context less
-    pub fewer_open : ¬ IsKnown bounds i → differences told.certain.items told.possible.items < differences bounds.certain.items bounds.possible.items
-    fewer_open open_yet = subst (λ (xs : List ℕ). differences xs told.possible.items < differences bounds.certain.items bounds.possible.items) (sym is.certain)
-        (subst (λ (ys : List ℕ). differences (slice_set bounds.certain.items i places) ys < differences bounds.certain.items bounds.possible.items) (sym is.possible)
-        (go bounds.certain.items bounds.possible.items i (omega (arith, less, bounds_of.certain)) (omega (arith, less, bounds_of.possible)) open_yet))
+    pub fewer_open : ¬ IsKnown bounds i → differences told.certain told.possible < differences bounds.certain bounds.possible
+    fewer_open open_yet = subst (λ (xs : List ℕ). differences xs told.possible < differences bounds.certain bounds.possible) (sym is.certain)
+        (subst (λ (ys : List ℕ). differences (slice_set bounds.certain i places) ys < differences bounds.certain bounds.possible) (sym is.possible)
+        (go bounds.certain bounds.possible i (omega (arith, less, bounds_of.certain)) (omega (arith, less, bounds_of.possible)) open_yet))
       where
         first : (x y d : ℕ) → ¬ (x ≡ y) → cond (eqb places places) d (d + 1) < cond (eqb x y) d (d + 1)
         first x y d other = at (eqb places places) (eq-eqb places places refl) (eqb x y) (ne_eqb x y other)
@@ -221,17 +222,17 @@ module _ (m : System) (σ : ℕ) (cones : List ℕ) where
       never s (still_candidate bounds told i places is bounds_of less program s candidate (all.each places among).within (λ d own'. (let same : b ≡ d = (let e : Some b ≡ Some d = sym own ∙ own' in cc) in subst (λ (x : BeliefSet). HasOfCone m i (get_or cones i 0) places x) same atoms))) grounded
 
 -- ---- the first bounds
-none_certain : (cones : List Cone) (i : ℕ) → let z : ℕ = 0 in get_or (map (λ (c : Cone). z) cones) i z ≡ z
-none_certain [] i = refl
-none_certain (c ∷ cones) zero = refl
-none_certain (c ∷ cones) (suc i) = none_certain cones i
+pub none_beyond : (cones : List Cone) (i : ℕ) → ¬ (i < length cones) → get_or (cones_of cones) i 0 ≡ 0
+none_beyond [] i beyond = refl
+none_beyond (c ∷ cones) zero beyond = absurd (beyond (omega arith))
+none_beyond (c ∷ cones) (suc i) beyond = none_beyond cones i (λ less. beyond (omega (arith, less)))
 
 module _ (m : System) (all : List Cone) (bounds : Bounds) (first : AreFirstBounds all bounds) where
   -- each belief set is within them
   first_bounded : (i : ℕ) (b : BeliefSet) → IsBounded m (cones_of all) bounds i b
   first_bounded i b = record {
-    certain = λ n inside. absurd (true≢false (sym inside ∙ ap (λ (x : ℕ). is_in n (true_names 0 (atoms_of m i) x)) (ap (λ (xs : List ℕ). get_or xs i 0) first.certain ∙ none_certain all i) ∙ none_at n 0 (atoms_of m i)));
-    possible = λ n on inside. subst (λ (xs : List ℕ). is_in n (atoms_at m xs i) ≡ true) (sym first.possible) on;
+    certain = λ n inside. absurd (true≢false (sym inside ∙ ap (λ (x : ℕ). is_in n (true_names 0 (atoms_of m i) x)) (first.certain i) ∙ none_at n 0 (atoms_of m i)));
+    possible = λ n on inside. subst (λ (x : ℕ). is_in n (true_names 0 (atoms_of m i) x) ≡ true) (sym (first.possible i)) on;
   }
 
   -- so each equilibrium with this projection is a candidate
@@ -255,24 +256,19 @@ module _ (m : System) (all : List Cone) (bounds : Bounds) (first : AreFirstBound
     | inr none ↦ absurd (open_yet (here ∙ sym (there ∙ none)))
   ]
     where
-      here : get_or bounds.certain.items i 0 ≡ 0
-      here = ap (λ (xs : List ℕ). get_or xs i 0) first.certain ∙ none_certain all i
+      here : get_or bounds.certain i 0 ≡ 0
+      here = first.certain i
 
-      there : get_or bounds.possible.items i 0 ≡ c.places
-      there = ap (λ (xs : List ℕ). get_or xs i 0) first.possible ∙ get_or_from_slice_get (cones_of all) i c.places 0 (slice_get-map_some (λ (c : Cone). c.places) all i c own)
+      there : get_or bounds.possible i 0 ≡ c.places
+      there = first.possible i ∙ get_or_from_slice_get (cones_of all) i c.places 0 (slice_get-map_some (λ (c : Cone). c.places) all i c own)
 
   beyond_known : (i : ℕ) → ¬ (i < length all) → IsKnown bounds i
-  beyond_known i beyond = ap (λ (xs : List ℕ). get_or xs i 0) first.certain ∙ none_certain all i ∙ sym (ap (λ (xs : List ℕ). get_or xs i 0) first.possible ∙ none_beyond all i beyond)
-    where
-      none_beyond : (cones : List Cone) (i : ℕ) → ¬ (i < length cones) → get_or (cones_of cones) i 0 ≡ 0
-      none_beyond [] i beyond = refl
-      none_beyond (c ∷ cones) zero beyond = absurd (beyond (omega arith))
-      none_beyond (c ∷ cones) (suc i) beyond = none_beyond cones i (λ less. beyond (omega (arith, less)))
+  beyond_known i beyond = first.certain i ∙ sym (first.possible i ∙ none_beyond all i beyond)
 
   first_bounds_of : AreConesOf m all → AreBoundsOf m bounds
   first_bounds_of are = record {
-    certain = ap length first.certain ∙ length-map all (λ (c : Cone). 0) ∙ are.one_each;
-    possible = ap length first.possible ∙ length-map all (λ (c : Cone). c.places) ∙ are.one_each;
+    certain = omega (arith, few_contexts m are.valid, first.long);
+    possible = omega (arith, few_contexts m are.valid, first.as_long);
     of_programs = λ i open_yet. elim (cases_lt i (length all)) [
       | inl less ↦ (let (c, own) = slice_get_below all i less in cone_known are i c own open_yet)
       | inr beyond ↦ absurd (open_yet (beyond_known i (λ less. absurd (omega (arith, less, beyond)))))

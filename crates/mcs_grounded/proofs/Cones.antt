@@ -1,20 +1,23 @@
 -- The cone of a program as it is made: it is in range, has what is read, and what this depends on; and what it tells.
-use Rattle.std.proofs.Common.{◌≡◌, ℕ, ◌+◌, ◌<◌, zero, suc, Bool, true, false, cond, ltb, eqb, List, [], ◌∷◌, length, Some, inl, inr, arith, refl, sym, ap, ◌∙◌, true≢false, slice_get, filter, ◌&&◌, subst}
+use Rattle.std.proofs.Common.{◌≡◌, ℕ, ◌+◌, ◌<◌, zero, suc, Bool, true, false, cond, ltb, eqb, List, [], ◌∷◌, get_or, length, Some, inl, inr, arith, refl, sym, ap, ◌∙◌, true≢false, slice_get, filter, ◌&&◌, subst}
 use Rattle.std.proofs.lemmas.Bool.{and_parts, and_from, or_cases, lt-ltb, ltb-true, eqb-true, eq-eqb, false_from_ne_true}
 use Rattle.std.proofs.lemmas.Option.{same_Some}
 use Rattle.std.specs.List.{AllByRecursion, AllZip, list_any}
-use Rattle.mcs_sets.specs.Sets.{has, single, union, such_that, Within}
+use Rattle.mcs_sets.specs.Sets.{has, single, union, members, such_that, Within}
 use Rattle.mcs_sets.proofs.SetLemmas.{has-empty, has-single, has-such_that}
 use Rattle.mcs_sets.proofs.Lattice.{has-single_itself, in_union, within_union_left, within_union_right}
 use Rattle.mcs_base.specs.Listings.{IsAmong}
 use Rattle.mcs_base.proofs.Among.{zip_among, among_zip, filter_among}
 use Rattle.mcs_base.proofs.Each.{all_among, all_from_among}
 use Rattle.mcs_base.proofs.AntichainLemmas.{lies_within-is}
-use Rattle.mcs_system.specs.Plain.{Name, Formula, Atom, ProgramRule, Program, Read, Bridge, System}
+use Rattle.mcs_base.proofs.ListingLemmas.{members_listing}
+use Rattle.mcs_system.specs.Plain.{Name, Formula, ProgramRule, Program, Bridge, System}
 use Rattle.mcs_system.specs.Atoms.{atoms_of}
 use Rattle.mcs_system.specs.Faults.{has_twins}
 use Rattle.mcs_system.specs.Logic.{same_name, is_in, true_names}
-use Rattle.mcs_system.specs.Systems.{heads_from, variables, heads_into}
+use Rattle.mcs_system.specs.Systems.{heads_from, variables_of, heads_into}
+use Rattle.mcs_system.proofs.ContextSets.{variable_there}
+use Rattle.mcs_system.proofs.VariableLemmas.{has-variables_of}
 use Rattle.mcs_system.proofs.NameLemmas.{is_in-among}
 use Rattle.mcs_system.proofs.Sameness.{same_name-is}
 use Rattle.mcs_evidence.specs.Pushing.{AreNamesOf}
@@ -22,12 +25,12 @@ use Rattle.mcs_evidence.proofs.Models.{all_in_each, any_in_some, true_names-know
 use Rattle.mcs_program.specs.Placing.{IsPlaceOf, ArePlaces}
 use Rattle.mcs_program.proofs.PlaceLemmas.{meet_test, place_at}
 use Rattle.mcs_grounded.specs.Derivations.{rules_for, IsBodyWithin, Derives}
-use Rattle.mcs_grounded.specs.Parts.{IsNormalRule, AreDependent, IsDependent, ArePlacesWith, ArePlacesIn, AreNumbersAt, IsHeadPlace, IsReadPlace, AreHeadsInto, AreReadsOf, IsConeOf, IsLeastModel}
+use Rattle.mcs_grounded.specs.Parts.{IsNormalRule, AreDependent, IsDependent, IsConeOf, IsLeastModel, AreReadsPlaced, numbers_at, places_at}
 use Rattle.mcs_grounded.specs.declared.placed.NormalRule.{NormalRule}
 use Rattle.mcs_grounded.specs.declared.cone.Cone.{Cone}
 use Rattle.mcs_reduct.proofs.Programs.{answer_of, head_in}
 use Rattle.mcs_grounded.proofs.Loops.{rules_at_all}
-use Rattle.mcs_grounded.proofs.Places.{AreOfHeads, least_at, tells_at}
+use Rattle.mcs_grounded.proofs.AtPlaces.{AreOfHeads, AreAtomsRead, least_at, lies_is, places_from, places_to, read_place, tells_at}
 
 -- ---- a name's place
 -- no name is at the places of the empty set
@@ -98,42 +101,43 @@ module _ (names : List Name) (apart : has_twins names ≡ false) where
           all_in_each (true_names 0 names cone) these (sym (are.all cone) ∙ (lies_within-is p cone).1 within) n ((is_in-among n these).1 among))
 
 -- ---- the cone
-module _ (m : System) (i : ℕ) (rules : List ProgramRule) (apart : has_twins (atoms_of m i) ≡ false) where
-  pub cone_made : (c : Cone) (all : List NormalRule) (start : ℕ) → AreHeadsInto m i c.heads.items → AreReadsOf m i c.reads.items → AllZip (IsNormalRule (atoms_of m i)) rules all → ArePlacesIn c.reads.items start
-      → IsDependent all start c.places → c.rules.items ≡ filter (λ (n : NormalRule). has c.places n.head) all → IsConeOf m i rules c
-  cone_made c all start heads reads placed starts depend chosen = record {
-    in_range = λ k member. low k (depend.least (such_that (length (atoms_of m i)) (λ k. true)) (within_all (atoms_of m i) apart start start_low) (bodies_within_all (atoms_of m i) apart rules all placed) k member);
+module _ (m : System) (i : ℕ) (rules : List ProgramRule) (apart : has_twins (atoms_of m i) ≡ false) (reads : List ℕ) (placed_reads : AreReadsPlaced m reads) (atoms : AreAtomsRead m i) where
+  pub cone_made : (c : Cone) (all : List NormalRule) → AllZip (IsNormalRule (atoms_of m i)) rules all
+      → IsDependent all (places_at reads 0 (members (variables_of m i))) c.places → c.rules.items ≡ filter (λ (n : NormalRule). has c.places n.head) all → IsConeOf m i rules c
+  cone_made c all placed depend chosen = record {
+    in_range = λ k member. low k (depend.least (such_that (length (atoms_of m i)) (λ k. true)) (within_all (atoms_of m i) apart (places_at reads 0 (members (variables_of m i))) start_low) (bodies_within_all (atoms_of m i) apart rules all placed) k member);
     cone = record {
       read = λ v r n var own is_atom. (
-          let (p, among, number) = reads.each v r var own in
-          let is = all_among (IsReadPlace m i) c.reads.items p reads.own among in
-          let same : is.read ≡ r = same_Some is.read r (sym is.is_its ∙ ap (slice_get (variables m)) number ∙ var) in
-          let one : is.atom ≡ n = (let e : Atom is.atom ≡ Atom n = sym is.is_atom ∙ ap (λ (q : Read). q.belief) same ∙ is_atom in cc) in
-          ap (λ (x : Name). is_in x (true_names 0 (atoms_of m i) c.places)) (sym one) ∙ is.place.tells c.places ∙ depend.more p.place ((starts p.place).1 (p, among, refl)));
+          let here = read_place m i reads placed_reads atoms v r n var own is_atom in
+          let inside : IsAmong v (members (variables_of m i)) = ((members_listing (variables_of m i)).exactly v).1 (has-variables_of m i v r var ∙ eq-eqb r.context i own) in
+          sym (lies_is (atoms_of m i) n (get_or reads v 0) here c.places)
+          ∙ (lies_within-is (get_or reads v 0) c.places).1 (λ k h. depend.more k (places_from reads (members (variables_of m i)) 0 k (inr (v, inside, h)))));
       bodies = bodies_within (atoms_of m i) apart rules all c.places placed depend.dependent;
     };
     placed = subst (λ (ns : List NormalRule). AllZip (IsNormalRule (atoms_of m i)) (rules_for (true_names 0 (atoms_of m i) c.places) rules) ns) (sym chosen) (rules_at_all (atoms_of m i) c.places rules all placed);
-    heads = heads;
-    reads = reads;
   }
     where
       low : (k : ℕ) → has (such_that (length (atoms_of m i)) (λ k. true)) k ≡ true → k < length (atoms_of m i)
       low k member = ltb-true k (length (atoms_of m i)) (and_parts (ltb k (length (atoms_of m i))) true (sym (has-such_that (length (atoms_of m i)) (λ k. true) k) ∙ member)).0
 
-      start_low : (k : ℕ) → has start k ≡ true → k < length (atoms_of m i)
-      start_low k member =
-          let (p, among, place) = (starts k).0 member in
-          let is = all_among (IsReadPlace m i) c.reads.items p reads.own among in
-          omega (arith, is.place.below, place)
+      start_low : (k : ℕ) → has (places_at reads 0 (members (variables_of m i))) k ≡ true → k < length (atoms_of m i)
+      start_low k member = elim (places_to reads (members (variables_of m i)) 0 k member) [
+        | inl none ↦ absurd (true≢false (sym none ∙ has-empty k))
+        | inr of_read ↦ (
+            let (v, among, h) = of_read in
+            let (r, var, own) = variable_there m i v (((members_listing (variables_of m i)).exactly v).0 among) in
+            let (n, atom) = atoms v r var own in
+            places_in_range (atoms_of m i) apart (n ∷ []) (get_or reads v 0) (read_place m i reads placed_reads atoms v r n var own atom) k h)
+      ]
 
   -- what it tells with the heads of x: the places of these are those of the heads into the context
-  pub cone_derives : (c : Cone) → IsConeOf m i rules c → (against x start at τ : ℕ) → AreOfHeads (atoms_of m i) (heads_into m i x) start → IsLeastModel c.rules.items against start at → AreNumbersAt c.reads.items at τ
-      → Derives m i (true_names 0 (atoms_of m i) c.places) (true_names 0 (atoms_of m i) against) (Program rules) x τ
-  cone_derives c is against x start at τ heads least numbers = (
+  pub cone_derives : (c : Cone) → IsConeOf m i rules c → (against x start at : ℕ) → AreOfHeads (atoms_of m i) (heads_into m i x) start → IsLeastModel c.rules.items against start at
+      → Derives m i (true_names 0 (atoms_of m i) c.places) (true_names 0 (atoms_of m i) against) (Program rules) x (numbers_at reads at 0 (members (variables_of m i)))
+  cone_derives c is against x start at heads least = (
     true_names 0 (atoms_of m i) at,
     answer_of (true_names 0 (atoms_of m i) against) (rules_for (true_names 0 (atoms_of m i) c.places) rules) (heads_into m i x) (true_names 0 (atoms_of m i) at)
         (least_at (atoms_of m i) apart (rules_for (true_names 0 (atoms_of m i) c.places) rules) c.rules.items is.placed against (heads_into m i x) start at heads least),
-    tells_at m i c.reads.items at τ (λ p among. all_among (IsReadPlace m i) c.reads.items p is.reads.own among) is.reads.each numbers,
+    tells_at m i reads placed_reads atoms at,
   )
 
 -- ---- the places of heads
@@ -161,7 +165,7 @@ pub record IsHeadOf (bs : List Bridge) (k i x : ℕ) (f : Formula) : Type 0 wher
   pub member : has x (k + place) ≡ true
   pub head_is : f ≡ rule.head
 
-head_from : (k : ℕ) (bs : List Bridge) (i x : ℕ) (f : Formula) → IsAmong f (heads_from k bs i x) → IsHeadOf bs k i x f
+pub head_from : (k : ℕ) (bs : List Bridge) (i x : ℕ) (f : Formula) → IsAmong f (heads_from k bs i x) → IsHeadOf bs k i x f
 head_from k [] i x f among = absurd among
 head_from k (d ∷ bs) i x f among = at (has x k && eqb d.target i) refl among (λ rest. head_from (k + 1) bs i x f rest)
   where
@@ -173,24 +177,3 @@ head_from k (d ∷ bs) i x f among = at (has x k && eqb d.target i) refl among (
         record { place = 0; rule = d; is_its = refl; own = eqb-true d.target i own; member = ap (has x) (let z : k + 0 ≡ k = omega arith in z) ∙ inside; head_is = same }
     at true e (inr rest) later = moved (later rest)
     at false e rest later = moved (later rest)
-
-pub heads_placed : (m : System) (i : ℕ) (rules : List ProgramRule) (c : Cone) → IsConeOf m i rules c → (x start : ℕ) → ArePlacesWith c.heads.items x start → AreOfHeads (atoms_of m i) (heads_into m i x) start
-heads_placed m i rules c is x start places = record { each = each; all = all }
-  where
-    each : (k : ℕ) → has start k ≡ true → (n : Name) × IsAmong (Atom n) (heads_into m i x) × IsPlaceOf (atoms_of m i) n k
-    each k member =
-        let (p, among, here, inside) = (places k).0 member in
-        let h = all_among (IsHeadPlace m i) c.heads.items p is.heads.own among in (
-          h.atom,
-          subst (λ (f : Formula). IsAmong f (heads_into m i x)) h.is_atom (head_among_from 0 m.bridges i x p.number h.rule h.is_its h.own (ap (has x) (let z : 0 + p.number ≡ p.number = omega arith in z) ∙ inside)),
-          subst (IsPlaceOf (atoms_of m i) h.atom) here h.place,
-        )
-
-    all : (n : Name) → IsAmong (Atom n) (heads_into m i x) → (k : ℕ) × (has start k ≡ true) × IsPlaceOf (atoms_of m i) n k
-    all n among =
-        let r = head_from 0 m.bridges i x (Atom n) among in
-        let (p, here, number) = is.heads.each r.place r.rule r.is_its r.own in
-        let h = all_among (IsHeadPlace m i) c.heads.items p is.heads.own here in
-        let one : h.rule ≡ r.rule = same_Some h.rule r.rule (sym h.is_its ∙ ap (slice_get m.bridges) number ∙ r.is_its) in
-        let name : h.atom ≡ n = (let e : Atom h.atom ≡ Atom n = sym h.is_atom ∙ ap (λ (b : Bridge). b.head) one ∙ sym r.head_is in cc) in
-        (p.place, (places p.place).1 (p, here, refl, ap (has x) (number ∙ (let z : r.place ≡ 0 + r.place = omega arith in z)) ∙ r.member), subst (λ (y : Name). IsPlaceOf (atoms_of m i) y p.place) name h.place)

@@ -1,29 +1,31 @@
 -- What contexts derive, by the kind of their knowledge base; and what was found of classical ones.
-use Rattle.std.proofs.Common.{◌≡◌, ℕ, ◌<◌, false, List, [], Some, None, slice_get, slice_set, refl, sym, ap, ◌∙◌, subst, inl, inr, true≢false}
-use Rattle.std.specs.Prelude.{Option, IfSome}
+use Rattle.std.proofs.Common.{◌≡◌, ℕ, ◌<◌, false, List, [], Some, Vec, Global, slice_get, slice_set, refl, sym, ap, ◌∙◌, subst, inl, inr, true≢false}
+use Rattle.std.specs.Prelude.{Option}
 use Rattle.std.proofs.lemmas.Bool.{cases_eq}
 use Rattle.std.proofs.lemmas.Cmp.{ranked}
-use Rattle.std.proofs.lemmas.Option.{same_Some, get_or_from_slice_get}
-use Rattle.std.specs.BTreeMap.{BTreeMap, get, is_at, IsEmpty}
+use Rattle.std.proofs.lemmas.Option.{same_Some}
+use Rattle.std.specs.BTreeMap.{BTreeMap, get, is_at, IsEmpty, IsUnchanged}
 use Rattle.std.specs.Map.{lookup}
 use Rattle.std.specs.Ordering.{MatchOrdering, is_eq, nat_cmp}
 use Rattle.std.specs.declared.cmp.Ordering.{Ordering}
 use Rattle.std.specs.declared.cmp.Ordering.TheVariants.{Less, Equal, Greater}
 use Rattle.mcs_sets.specs.Sets.{common}
-use Rattle.mcs_base.proofs.Lists.{slice_get-map_some}
 use Rattle.mcs_base.proofs.Written.{slice_get-slice_set, length-slice_set}
-use Rattle.mcs_system.specs.Plain.{Formula, Item, ProgramRule, Kb, Classical, DefaultTheory, Program, Context, System}
+use Rattle.mcs_system.specs.Plain.{Formula, Item, ProgramRule, Kb, DefaultTheory, Program, Context, System}
 use Rattle.mcs_system.specs.Atoms.{atoms_of}
 use Rattle.mcs_system.specs.Imports.{rules_into}
 use Rattle.mcs_system.specs.Logic.{Accepts, with_heads, true_names}
+use Rattle.mcs_system.specs.Seen.{kb_of}
 use Rattle.mcs_system.specs.Systems.{IsAcceptedPart}
+use Rattle.mcs_system.specs.declared.knowledge.Kb as code_kb
+use Rattle.mcs_system.specs.declared.knowledge.Kb.TheVariants as code
+use Rattle.mcs_system.specs.declared.knowledge.ProgRule.{ProgRule}
 use Rattle.mcs_laws.proofs.Classical.{classical_part}
 use Rattle.mcs_laws.proofs.Questions.{heads-own}
 use Rattle.mcs_reduct.specs.Plain.{is_plain, IsPlain}
-use Rattle.mcs_grounded.specs.Derivations.{Derives, atoms_at}
-use Rattle.mcs_grounded.specs.Parts.{IsProgramAt, IsClassicalAt, IsConeOf, IsConeFor, AreConesOf, cones_of, IsSolverOf, AreToldOf, IsFoundOf, AreAllFound}
+use Rattle.mcs_grounded.specs.Derivations.{Derives}
+use Rattle.mcs_grounded.specs.Parts.{IsProgramAt, IsClassicalAt, IsConeOf, IsConeFor, IsFoundOf, AreAllFound, AreToldOf}
 use Rattle.mcs_grounded.specs.declared.cone.Cone.{Cone}
-use Rattle.mcs_grounded.specs.declared.found.Found.{Found}
 use Rattle.mcs_grounded.specs.declared.found.Solver.{Solver}
 
 -- ---- by kind
@@ -33,14 +35,12 @@ classical_derives m i x τ cone names fs (c, is, kb) part d there =
     let same : c ≡ d = same_Some c d (sym is ∙ there) in
     subst (λ (k : Kb). Derives m i (true_names 0 (atoms_of m i) cone) (true_names 0 (atoms_of m i) names) k x τ) (sym kb ∙ ap (λ (e : Context). e.kb) same) ((classical_part m i x τ c fs is kb).0 part)
 
-pub program_derives : (m : System) (i x τ against : ℕ) (cones : List Cone) (cone : Cone) (rules : List ProgramRule) → AreConesOf m cones → slice_get cones i ≡ Some cone → IsProgramAt m i rules
-    → (IsConeOf m i rules cone → Derives m i (true_names 0 (atoms_of m i) cone.places) (true_names 0 (atoms_of m i) against) (Program rules) x τ)
-    → (d : Context) → slice_get m.contexts i ≡ Some d → Derives m i (atoms_at m (cones_of cones) i) (true_names 0 (atoms_of m i) against) d.kb x τ
-program_derives m i x τ against cones cone rules are own (c, is, kb) derives d there =
+pub program_derives : (m : System) (i x τ against cone : ℕ) (rules : List ProgramRule) → IsProgramAt m i rules
+    → Derives m i (true_names 0 (atoms_of m i) cone) (true_names 0 (atoms_of m i) against) (Program rules) x τ
+    → (d : Context) → slice_get m.contexts i ≡ Some d → Derives m i (true_names 0 (atoms_of m i) cone) (true_names 0 (atoms_of m i) against) d.kb x τ
+program_derives m i x τ against cone rules (c, is, kb) derives d there =
     let same : c ≡ d = same_Some c d (sym is ∙ there) in
-    subst (λ (k : Kb). Derives m i (atoms_at m (cones_of cones) i) (true_names 0 (atoms_of m i) against) k x τ) (sym kb ∙ ap (λ (e : Context). e.kb) same)
-    (subst (λ (z : ℕ). Derives m i (true_names 0 (atoms_of m i) z) (true_names 0 (atoms_of m i) against) (Program rules) x τ) (sym (get_or_from_slice_get (cones_of cones) i cone.places 0 (slice_get-map_some (λ (c : Cone). c.places) cones i cone own)))
-    (derives ((are.own i cone own).of_program rules (c, is, kb))))
+    subst (λ (k : Kb). Derives m i (true_names 0 (atoms_of m i) cone) (true_names 0 (atoms_of m i) against) k x τ) (sym kb ∙ ap (λ (e : Context). e.kb) same) derives
 
 pub cone_for : (m : System) (i : ℕ) (rules : List ProgramRule) (cone : Cone) → IsProgramAt m i rules → IsConeOf m i rules cone → IsConeFor m i cone
 cone_for m i rules cone (c, is, kb) of_these = record {
@@ -51,13 +51,16 @@ cone_for m i rules cone (c, is, kb) of_these = record {
   or_none = inl (rules, (c, is, kb));
 }
 
-pub no_cone : (m : System) (i : ℕ) (fs : List Formula) (cone : Cone) (c : Context) → slice_get m.contexts i ≡ Some c → c.kb ≡ Classical fs → cone.places ≡ 0 → IsConeFor m i cone
-no_cone m i fs cone c is kb none = record {
-  of_program = λ others (d, there, kb'). (
-      let same : c ≡ d = same_Some c d (sym is ∙ there) in
-      let e : Classical fs ≡ Program others = sym kb ∙ ap (λ (e : Context). e.kb) same ∙ kb' in absurd (cc));
+pub no_cone : (m : System) (i : ℕ) (cone : Cone) (c : Context) → slice_get m.contexts i ≡ Some c → ((rules : List ProgramRule) → ¬ (c.kb ≡ Program rules)) → cone.places ≡ 0 → IsConeFor m i cone
+no_cone m i cone c is other none = record {
+  of_program = λ rules (d, there, kb'). absurd (other rules (ap (λ (e : Context). e.kb) (same_Some c d (sym is ∙ there)) ∙ kb'));
   or_none = inr none;
 }
+
+pub no_program : (k : code_kb.Kb) → ((rs : Vec ProgRule Global) → ¬ (k ≡ code.Program rs)) → (rules : List ProgramRule) → ¬ (kb_of k ≡ Program rules)
+no_program (code.Classical fs) other rules is = cc
+no_program (code.DefaultTheory items) other rules is = cc
+no_program (code.Program rs) other rules is = other rs refl
 
 pub no_default : (m : System) (i : ℕ) (c : Context) (items : List Item) → IsPlain m → slice_get m.contexts i ≡ Some c → c.kb ≡ DefaultTheory items → ⊥
 no_default m i c items plain is kb = true≢false (sym (plain i c is) ∙ ap is_plain kb)
@@ -79,11 +82,11 @@ apart_at x y differ = at (nat_cmp x y) (ranked x y _ refl)
     at Equal h = absurd (differ h)
     at Greater h = refl
 
-pub none_found_of : (m : System) (i : ℕ) (found : Found) → IsEmpty found.told → found.solver ≡ None → IsFoundOf m i found
-none_found_of m i found empty none = record {
-  told = λ x τ is. (let e : lookup (is_at (nat_cmp x)) [] ≡ Some τ = subst (λ (es : List (ℕ × ℕ)). lookup (is_at (nat_cmp x)) es ≡ Some τ) empty is in cc);
-  solver = subst (λ (o : Option Solver). IfSome o (IsSolverOf m i)) (sym none) tt;
-}
+pub none_told : (m : System) (i : ℕ) (told : BTreeMap ℕ ℕ) → IsEmpty told → AreToldOf m i told
+none_told m i told empty x τ is = let e : lookup (is_at (nat_cmp x)) [] ≡ Some τ = subst (λ (es : List (ℕ × ℕ)). lookup (is_at (nat_cmp x)) es ≡ Some τ) empty is in cc
+
+pub told_still : (m : System) (i : ℕ) (old new : BTreeMap ℕ ℕ) → IsUnchanged old new → AreToldOf m i old → AreToldOf m i new
+told_still m i old new same are x τ is = are x τ (subst (λ (es : List (ℕ × ℕ)). lookup (is_at (nat_cmp x)) es ≡ Some τ) same is)
 
 pub told_more : (m : System) (i x τ : ℕ) (old new : BTreeMap ℕ ℕ) → get nat_cmp new x ≡ Some τ → ((y : ℕ) → is_at (nat_cmp x) y ≡ false → get nat_cmp new y ≡ get nat_cmp old y) → IsAcceptedPart m i x τ → AreToldOf m i old → AreToldOf m i new
 told_more m i x τ old new now others part are y υ is = elim (cases_eq x y) [
@@ -92,11 +95,11 @@ told_more m i x τ old new now others part are y υ is = elim (cases_eq x y) [
 ]
 
 -- of one context more was found
-pub all_found_set : (m : System) (all : List Found) (i : ℕ) (found : Found) → AreAllFound m all → IsFoundOf m i found → AreAllFound m (slice_set all i found)
-all_found_set m all i found are of_i = record {
-  one_each = length-slice_set all i found ∙ are.one_each;
-  own = λ j f is. elim (slice_get-slice_set all i j found f is) [
-    | inl (same, now) ↦ subst (IsFoundOf m j) (sym now) (subst (λ (k : ℕ). IsFoundOf m k found) (sym same) of_i)
-    | inr (other, before) ↦ are.own j f before
+pub all_found_set : (m : System) (all : List (Option Solver)) (i : ℕ) (solver : Option Solver) → AreAllFound m all → IsFoundOf m i solver → AreAllFound m (slice_set all i solver)
+all_found_set m all i solver are of_i = record {
+  one_each = length-slice_set all i solver ∙ are.one_each;
+  own = λ j s is. elim (slice_get-slice_set all i j solver s is) [
+    | inl (same, now) ↦ subst (IsFoundOf m j) (sym now) (subst (λ (k : ℕ). IsFoundOf m k solver) (sym same) of_i)
+    | inr (other, before) ↦ are.own j s before
   ];
 }

@@ -1,7 +1,7 @@
 pub mod Least
 pub mod Derived
 pub mod Loops
-pub mod Places
+pub mod AtPlaces
 pub mod Cones
 pub mod Gathering
 pub mod Derivers

@@ -1,20 +1,19 @@
 -- One step of each loop over rules, numbers and places.
-use Rattle.std.proofs.Common.{◌≡◌, ℕ, ◌+◌, ◌-◌, ◌<◌, ◌≤◌, zero, suc, Bool, true, false, not, ◌||◌, cond, filter, List, [], ◌∷◌, ◌++◌, length, take, drop, append-nil, get_or, slice_get, Some, inl, inr, arith, refl, sym, ap, ◌∙◌, subst, true≢false}
-use Rattle.std.proofs.lemmas.List.{take_more, take_all, drop_all}
+use Rattle.std.proofs.Common.{◌≡◌, ℕ, ◌+◌, ◌-◌, ◌<◌, ◌≤◌, zero, suc, Bool, true, false, not, ◌||◌, cond, filter, List, [], ◌∷◌, ◌++◌, length, take, drop, append-nil, get_or, slice_get, slice_set, Some, inl, inr, arith, refl, sym, ap, ◌∙◌, subst, true≢false}
+use Rattle.std.proofs.lemmas.Bool.{cases_lt}
+use Rattle.std.proofs.lemmas.List.{take_more, take_all, drop_all, get_or-set_same, get_or-set_other}
 use Rattle.std.proofs.lemmas.Option.{same_Some}
 use Rattle.std.specs.List.{AllZip, list_any}
 use Rattle.mcs_sets.specs.Sets.{has, minus, single, size, union, Within}
-use Rattle.mcs_sets.proofs.SetLemmas.{has-empty}
 use Rattle.mcs_sets.proofs.Lattice.{in_minus, in_union, in_with, minus-minus, minus-union_back, nothing_missing, none_from_size, size-union_apart, within_union_left, within_union_right}
 use Rattle.mcs_base.specs.Listings.{IsAmong}
-use Rattle.mcs_base.proofs.Among.{among_at, among_left, among_right, among_either}
+use Rattle.mcs_base.proofs.Among.{among_at}
 use Rattle.mcs_base.proofs.Each.{all_among, all_push}
 use Rattle.mcs_system.specs.Plain.{Name, ProgramRule}
 use Rattle.mcs_system.specs.Logic.{is_in, true_names}
 use Rattle.mcs_grounded.specs.Derivations.{rules_for}
-use Rattle.mcs_grounded.specs.Parts.{IsNormalRule, DoesFire, AreClosedUnder, HaveHeadsOf, IsLeastModel, AreDependent, HaveBodiesOf, IsDependent, AreNumbersAt, ArePlacesWith, ArePlacesIn}
+use Rattle.mcs_grounded.specs.Parts.{IsNormalRule, DoesFire, AreClosedUnder, HaveHeadsOf, IsLeastModel, AreDependent, HaveBodiesOf, IsDependent}
 use Rattle.mcs_grounded.specs.declared.placed.NormalRule.{NormalRule}
-use Rattle.mcs_grounded.specs.declared.placed.Placed.{Placed}
 
 -- what holds of the members before, and of them with the next one
 pub next_of : {A : Type 0} (P : List A → Type 0) (xs : List A) (k : ℕ) (x : A) → k < length xs → x ≡ get_or xs k x → P (take k xs ++ x ∷ []) → P (take (k + 1) xs)
@@ -158,72 +157,6 @@ pub gathered_last : (rules : List NormalRule) (start places more : ℕ) → IsGa
 gathered_last rules start places more up bodies same =
     record { more = up.more; dependent = bodies.dependent (subst (λ (x : ℕ). Within x places) (sym same) (within_itself places)); least = up.least }
 
--- ---- numbers and places
-pub no_numbers : (places : ℕ) → AreNumbersAt [] places 0
-no_numbers places v = (λ h. absurd (true≢false (sym h ∙ has-empty v)), λ (p, among, same, h). absurd among)
-
-module _ (all : List Placed) (places numbers : ℕ) (p : Placed) (are : AreNumbersAt all places numbers) where
-  pub more_numbers : has places p.place ≡ true → AreNumbersAt (all ++ p ∷ []) places (union numbers (single p.number))
-  more_numbers here v = (
-    λ h. elim ((in_with numbers p.number v).0 h) [
-      | inl old ↦ (let (q, among, same, inside) = (are v).0 old in (q, among_left q all (p ∷ []) among, same, inside))
-      | inr same ↦ (p, among_right p all (p ∷ []) (inl refl), sym same, here)
-    ],
-    λ (q, among, same, inside). (in_with numbers p.number v).1 (elim (among_either q all (p ∷ []) among) [
-      | inl old ↦ inl ((are v).1 (q, old, same, inside))
-      | inr last ↦ elim last [ inl is ↦ inr (sym same ∙ ap (λ (x : Placed). x.number) is) | inr none ↦ absurd none ]
-    ]),
-  )
-
-  pub same_numbers : has places p.place ≡ false → AreNumbersAt (all ++ p ∷ []) places numbers
-  same_numbers beside v = (
-    λ h. (let (q, among, same, inside) = (are v).0 h in (q, among_left q all (p ∷ []) among, same, inside)),
-    λ (q, among, same, inside). elim (among_either q all (p ∷ []) among) [
-      | inl old ↦ (are v).1 (q, old, same, inside)
-      | inr last ↦ elim last [ inl is ↦ absurd (true≢false (sym inside ∙ ap (λ (x : Placed). has places x.place) is ∙ beside)) | inr none ↦ absurd none ]
-    ],
-  )
-
-pub no_places_with : (numbers : ℕ) → ArePlacesWith [] numbers 0
-no_places_with numbers k = (λ h. absurd (true≢false (sym h ∙ has-empty k)), λ (p, among, same, h). absurd among)
-
-module _ (all : List Placed) (numbers places : ℕ) (p : Placed) (are : ArePlacesWith all numbers places) where
-  pub more_places_with : has numbers p.number ≡ true → ArePlacesWith (all ++ p ∷ []) numbers (union places (single p.place))
-  more_places_with here k = (
-    λ h. elim ((in_with places p.place k).0 h) [
-      | inl old ↦ (let (q, among, same, inside) = (are k).0 old in (q, among_left q all (p ∷ []) among, same, inside))
-      | inr same ↦ (p, among_right p all (p ∷ []) (inl refl), sym same, here)
-    ],
-    λ (q, among, same, inside). (in_with places p.place k).1 (elim (among_either q all (p ∷ []) among) [
-      | inl old ↦ inl ((are k).1 (q, old, same, inside))
-      | inr last ↦ elim last [ inl is ↦ inr (sym same ∙ ap (λ (x : Placed). x.place) is) | inr none ↦ absurd none ]
-    ]),
-  )
-
-  pub same_places_with : has numbers p.number ≡ false → ArePlacesWith (all ++ p ∷ []) numbers places
-  same_places_with beside k = (
-    λ h. (let (q, among, same, inside) = (are k).0 h in (q, among_left q all (p ∷ []) among, same, inside)),
-    λ (q, among, same, inside). elim (among_either q all (p ∷ []) among) [
-      | inl old ↦ (are k).1 (q, old, same, inside)
-      | inr last ↦ elim last [ inl is ↦ absurd (true≢false (sym inside ∙ ap (λ (x : Placed). has numbers x.number) is ∙ beside)) | inr none ↦ absurd none ]
-    ],
-  )
-
-pub no_places_in : ArePlacesIn [] 0
-no_places_in k = (λ h. absurd (true≢false (sym h ∙ has-empty k)), λ (p, among, same). absurd among)
-
-pub more_places_in : (all : List Placed) (places : ℕ) (p : Placed) → ArePlacesIn all places → ArePlacesIn (all ++ p ∷ []) (union places (single p.place))
-more_places_in all places p are k = (
-  λ h. elim ((in_with places p.place k).0 h) [
-    | inl old ↦ (let (q, among, same) = (are k).0 old in (q, among_left q all (p ∷ []) among, same))
-    | inr same ↦ (p, among_right p all (p ∷ []) (inl refl), sym same)
-  ],
-  λ (q, among, same). (in_with places p.place k).1 (elim (among_either q all (p ∷ []) among) [
-    | inl old ↦ inl ((are k).1 (q, old, same))
-    | inr last ↦ elim last [ inl is ↦ inr (sym same ∙ ap (λ (x : Placed). x.place) is) | inr none ↦ absurd none ]
-  ]),
-)
-
 -- ---- the rules whose heads are at places
 module _ (names : List Name) (places : ℕ) where
   -- where its one head is among the places, and only there, the rule is one of them
@@ -263,3 +196,10 @@ each_pushed P [] x n long own last zero y is = subst (P 0) (same_Some x y is) (s
 each_pushed P [] x n long own last (suc i) y is = cc
 each_pushed P (z ∷ xs) x n long own last zero y is = own 0 y is
 each_pushed P (z ∷ xs) x n long own last (suc i) y is = each_pushed (λ (k : ℕ). P (suc k)) xs x (length xs) refl (λ j w at. own (suc j) w at) (subst (λ (k : ℕ). P k x) (sym long) last) i y is
+
+-- ---- one member written of what stands for each number
+pub put_each : (P : ℕ → ℕ → Type 0) (xs : List ℕ) (n x : ℕ) → n < length xs → ((k : ℕ) → k < n → P k (get_or xs k 0)) → P n x → (k : ℕ) → k < n + 1 → P k (get_or (slice_set xs n x) k 0)
+put_each P xs n x less before own k below = elim (cases_lt k n) [
+  | inl earlier ↦ subst (P k) (sym (get_or-set_other xs n k x 0 (λ same. absurd (omega (arith, earlier, same))))) (before k earlier)
+  | inr last ↦ (let same : n ≡ k = omega (arith, below, last) in subst (λ (j : ℕ). P j (get_or (slice_set xs n x) j 0)) same (subst (P n) (sym (get_or-set_same xs n x 0 less)) own))
+]

@@ -1,6 +1,7 @@
 -- Solvers of classical contexts: what is made of their formulas, and what is asked with heads.
 use Rattle.std.proofs.Common.{◌≡◌, ℕ, List, ◌++◌, refl, sym, ap, ◌∙◌, subst}
 use Rattle.std.proofs.lemmas.Option.{same_Some}
+use Rattle.std.specs.BTreeMap.{IsEmpty}
 use Rattle.mcs_system.specs.Plain.{Name, Formula, Kb, Classical, Context, System}
 use Rattle.mcs_system.specs.Atoms.{atoms_of}
 use Rattle.mcs_system.specs.Logic.{Theory, with_heads}
@@ -16,8 +17,9 @@ use Rattle.mcs_classical.proofs.ConsequenceLemmas.{same_found}
 use Rattle.mcs_laws.proofs.Views.{parts_are_views}
 use Rattle.mcs_asking.specs.Kinds.{IsOverKb}
 use Rattle.mcs_asking.proofs.CoverLemmas.{own_over}
-use Rattle.mcs_grounded.specs.Parts.{IsClassicalAt, IsSolverOf}
+use Rattle.mcs_grounded.specs.Parts.{IsClassicalAt, IsSolverOf, AreToldOf}
 use Rattle.mcs_grounded.specs.declared.found.Solver.{Solver}
+use Rattle.mcs_grounded.proofs.Derivers.{none_told}
 
 module _ (m : System) (i : ℕ) (fs : List Formula) (classical : IsClassicalAt m i fs) where
   pub formulas_over : AreOver (atoms_of m i) fs
@@ -31,11 +33,12 @@ module _ (m : System) (i : ℕ) (fs : List Formula) (classical : IsClassicalAt m
 
   -- the clauses of the formulas, and nothing found
   pub solver_made : (s : Solver) (names : List Name) → names ≡ atoms_of m i → s.clauses ≡ clause_list names fs
-      → ((gs : List Formula) (heads : List Assumption) (goals : List Formula) → AreConsequences gs heads goals s.found) → IsSolverOf m i s
-  solver_made s names own list none = record {
+      → ((gs : List Formula) (heads : List Assumption) (goals : List Formula) → AreConsequences gs heads goals s.found) → IsEmpty s.told → IsSolverOf m i s
+  solver_made s names own list none empty = record {
     meant = λ gs there. subst (λ (hs : List Formula). AreMeantBy (atoms_of m i) hs s.clauses) (same_formulas gs there)
         (list_meant (atoms_of m i) fs s.clauses formulas_over (subst (λ (ns : List Name). s.clauses ≡ clause_list ns fs) own list));
     right = λ gs there heads are. none gs heads (beliefs_at m (variables_of m i));
+    told = none_told m i s.told empty;
   }
 
   -- ---- what it is asked with, told otherwise
@@ -46,11 +49,12 @@ module _ (m : System) (i : ℕ) (fs : List Formula) (classical : IsClassicalAt m
     pub found_right : (s : Solver) → IsSolverOf m i s → AreConsequences fs heads beliefs s.found
     found_right s of = subst (λ (bs : List Formula). AreConsequences fs heads bs s.found) (sym asked) (of.right fs classical heads are)
 
-    pub solver_still : (s t : Solver) → IsSolverOf m i s → t.clauses ≡ s.clauses → AreConsequences fs heads beliefs t.found → IsSolverOf m i t
-    solver_still s t of kept right = record {
+    pub solver_still : (s t : Solver) → IsSolverOf m i s → t.clauses ≡ s.clauses → t.told ≡ s.told → AreConsequences fs heads beliefs t.found → IsSolverOf m i t
+    solver_still s t of kept told right = record {
       meant = λ gs there. subst (AreMeantBy (atoms_of m i) gs) (sym kept) (of.meant gs there);
       right = λ gs there others are'. subst (λ (hs : List Formula). AreConsequences hs others (beliefs_at m (variables_of m i)) t.found) (same_formulas gs there)
           (same_found fs (beliefs_at m (variables_of m i)) heads others t.found (λ set. are'.of_rules set ∙ sym (are.of_rules set)) (subst (λ (bs : List Formula). AreConsequences fs heads bs t.found) asked right));
+      told = subst (AreToldOf m i) (sym told) of.told;
     }
 
     pub part_shown : (x view : ℕ) → Shows (Theory (with_assumed fs heads x)) beliefs view → IsAcceptedPart m i x (at_places (variables_of m i) view)

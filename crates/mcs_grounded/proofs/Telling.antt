@@ -1,5 +1,5 @@
 -- What contexts tell, one after the other.
-use Rattle.std.proofs.Common.{◌≡◌, ℕ, ◌+◌, ◌<◌, true, not, ltb, List, ◌++◌, length, inl, inr, arith, sym, ◌∙◌, subst, true≢false, slice_get}
+use Rattle.std.proofs.Common.{◌≡◌, ℕ, ◌+◌, ◌<◌, true, not, ltb, List, ◌++◌, length, inl, inr, arith, sym, ap, ◌∙◌, subst, true≢false, slice_get}
 use Rattle.std.proofs.lemmas.Bool.{and_parts, and_from, ltb-true, eqb-true, eq-eqb, cases_lt}
 use Rattle.mcs_sets.specs.Sets.{has, common, union, Within}
 use Rattle.mcs_sets.proofs.SetLemmas.{has-empty, has-such_that, has-common}
@@ -7,9 +7,15 @@ use Rattle.mcs_sets.proofs.Lattice.{in_common, in_union, within_antisymmetric, w
 use Rattle.mcs_base.proofs.Lists.{slice_get_below}
 use Rattle.mcs_system.specs.Plain.{Name, Kb, Classical, DefaultTheory, Program, Read, System}
 use Rattle.mcs_system.specs.Logic.{BeliefSet, Theory, Atoms}
-use Rattle.mcs_system.specs.Systems.{variables, variables_of, is_of_context, heads_into, IsVariable}
+use Rattle.mcs_system.specs.Imports.{rules_into}
+use Rattle.mcs_system.specs.Systems.{variables, variables_of, is_of_context, applicable, heads_into, IsVariable}
 use Rattle.mcs_system.proofs.VariableLemmas.{has-variables_of}
 use Rattle.mcs_grounded.specs.Derivations.{Tells, Derives, atoms_at, IsTold, AreTold}
+use Rattle.mcs_grounded.specs.declared.basis.Derivation.{Derivation}
+
+-- ---- the rules into a context that apply in the state
+pub own_is : (d : Derivation) (i own into : ℕ) → own ≡ common d.goal into → into ≡ rules_into d.system.now i → own ≡ common (applicable d.system.now d.state) (rules_into d.system.now i)
+own_is d i own into of_goal of_context = of_goal ∙ ap (λ (x : ℕ). common x into) d.right ∙ ap (common (applicable d.system.now d.state)) of_context
 
 module _ (m : System) where
   -- ---- the variables of a context

@@ -1,5 +1,5 @@
 -- The views of a program's cone: what its answer sets have of the atoms of the cone.
-use Rattle.std.proofs.Common.{Bor, ◌≡◌, ℕ, ◌<◌, true, false, List, map, get_or, length, Some, sym, ap, ◌∙◌, subst, slice_get, ◌++◌, [], ◌∷◌, inl, inr, IsTrue}
+use Rattle.std.proofs.Common.{Bor, ◌≡◌, ℕ, ◌<◌, true, false, ◌↔◌, List, map, get_or, length, Some, sym, ap, ◌∙◌, subst, slice_get, ◌++◌, [], ◌∷◌, inl, inr, IsTrue}
 use Rattle.std.proofs.lemmas.Option.{same_Some, get_or_from_slice_get, slice_get-get_or}
 use Rattle.std.specs.Cmp.{both_ways}
 use Rattle.std.specs.List.{AllByRecursion}
@@ -9,14 +9,14 @@ use Rattle.mcs_sets.specs.Orders.{StateBefore}
 use Rattle.mcs_base.specs.Listings.{IsAmong, IsListing}
 use Rattle.mcs_base.proofs.Among.{among_left, among_right, among_either, among_get, get_among, among_map, map_among}
 use Rattle.mcs_base.proofs.Deciding.{places_where, has-places_where}
-use Rattle.mcs_base.proofs.Each.{all_among, all_from_among}
+use Rattle.mcs_base.proofs.Each.{all_from_among}
 use Rattle.mcs_base.proofs.ListingLemmas.{members_listing}
 use Rattle.mcs_base.proofs.Lists.{slice_get-map_some}
 use Rattle.mcs_system.specs.Plain.{Name, Atom, Kb, Program, ProgramRule, Context, Read, System}
 use Rattle.mcs_system.specs.Atoms.{atoms_of}
 use Rattle.mcs_system.specs.Faults.{has_twins}
 use Rattle.mcs_system.specs.Logic.{is_in, true_names, BeliefSet, Theory, Atoms, Believes, Accepts, with_heads}
-use Rattle.mcs_system.specs.Systems.{variables, variables_of, applicable, heads_into, AcceptsWith, IsVariable}
+use Rattle.mcs_system.specs.Systems.{variables_of, applicable, heads_into, AcceptsWith, IsVariable}
 use Rattle.mcs_system.specs.Views.{Shows, IsAcceptedView, at_places}
 use Rattle.mcs_laws.proofs.Views.{has-at_places}
 use Rattle.mcs_system.proofs.NameLemmas.{is_in-among}
@@ -25,11 +25,12 @@ use Rattle.mcs_evidence.proofs.Models.{true_names-known}
 use Rattle.mcs_program.proofs.PlaceLemmas.{place_at}
 use Rattle.mcs_reduct.proofs.Beliefs.{decided}
 use Rattle.mcs_grounded.specs.Derivations.{Tells}
-use Rattle.mcs_grounded.specs.Parts.{AreNumbersAt, IsReadPlace, IsProgramAt, IsConeOf}
-use Rattle.mcs_grounded.specs.Views.{name_at, names_there, IsPartAt, IsAnswerAt, AreConeSets, AreShown, HasOfCone, IsConeView, AreViewsOf}
+use Rattle.mcs_grounded.specs.Parts.{AreReadsPlaced, IsProgramAt, IsConeOf, numbers_at}
+use Rattle.mcs_grounded.specs.Views.{name_at, names_there, IsPartAt, IsAnswerAt, AreConeSets, AreShown, shown_at, HasOfCone, IsConeView, AreViewsOf}
 use Rattle.mcs_grounded.specs.declared.cone.Cone.{Cone}
-use Rattle.mcs_grounded.specs.declared.placed.Placed.{Placed}
+use Rattle.mcs_grounded.specs.declared.basis.Derivation.{Derivation}
 use Rattle.mcs_grounded.proofs.Cones.{name_there}
+use Rattle.mcs_grounded.proofs.AtPlaces.{AreAtomsRead, tells_at}
 
 -- ---- the view of the names at places, and the places themselves
 -- where it shows a set of atoms, the members at its places are those whose names are among these
@@ -90,7 +91,7 @@ names_known names places range = all_from_among (λ n. IsTrue (is_in n names)) (
     let less = range k (((members_listing places).exactly k).0 inside) in
     subst (λ (x : Name). is_in x names ≡ true) (sym same) ((is_in-among (name_at names k) names).1 (among_get (name_at names k) names k (slice_get-get_or names k [] less))))
 
-module _ (m : System) (i : ℕ) (rules : List ProgramRule) (apart : has_twins (atoms_of m i) ≡ false) (cone : Cone) (is : IsConeOf m i rules cone) where
+module _ (m : System) (i : ℕ) (rules : List ProgramRule) (apart : has_twins (atoms_of m i) ≡ false) (cone : Cone) (is : IsConeOf m i rules cone) (reads : List ℕ) (placed : AreReadsPlaced m reads) (atoms : AreAtomsRead m i) where
   -- ---- one set of atoms and its places
   module _ (a : List Name) (set : ℕ) (part : IsPartAt (atoms_of m i) cone.places a set) where
     -- the name at the place of a name is that name
@@ -111,32 +112,32 @@ module _ (m : System) (i : ℕ) (rules : List ProgramRule) (apart : has_twins (a
           λ inside. ap (λ (y : Name). is_in y a) (sym same) ∙ ((part k).0 (sym (place.tells set) ∙ inside)).1,
         )
 
-    -- a variable of the context stands with a place of the set exactly where it is believed
-    module _ (v : ℕ) where
-      believed_at_place : (p : Placed) × IsAmong p cone.reads.items × (p.number ≡ v) × (has set p.place ≡ true) → (r : Read) × IsVariable m v r × (r.context ≡ i) × Believes (Atoms a) r.belief
-      believed_at_place (p, among, same, member) =
-          let r = all_among (IsReadPlace m i) cone.reads.items p is.reads.own among in
-          let here : name_at (atoms_of m i) p.place ≡ r.atom = at_place r.atom p.place (name_there (atoms_of m i) r.atom p.place r.place) in
-          (r.read, ap (slice_get (variables m)) (sym same) ∙ r.is_its, r.own, subst (Believes (Atoms a)) (sym r.is_atom) (ap (λ (y : Name). is_in y a) (sym here) ∙ ((part p.place).0 member).1))
+    -- what is believed of the variables of the context is shown at these places
+    module _ (v : ℕ) (r : Read) (var : IsVariable m v r) (own : r.context ≡ i) where
+      believed_in : Believes (Atoms (true_names 0 (atoms_of m i) set)) r.belief → Believes (Atoms a) r.belief
+      believed_in h =
+          let (n, atom) = atoms v r var own in
+          subst (Believes (Atoms a)) (sym atom) ((of_cone_is n (is.cone.read v r n var own atom)).1 (subst (Believes (Atoms (true_names 0 (atoms_of m i) set))) atom h))
 
-      place_of_believed : (r : Read) × IsVariable m v r × (r.context ≡ i) × Believes (Atoms a) r.belief → (p : Placed) × IsAmong p cone.reads.items × (p.number ≡ v) × (has set p.place ≡ true)
-      place_of_believed (r, var, own, believed) =
-          let (p, among, same) = is.reads.each v r var own in
-          let q = all_among (IsReadPlace m i) cone.reads.items p is.reads.own among in
-          let one : q.read ≡ r = same_Some q.read r (sym q.is_its ∙ ap (slice_get (variables m)) same ∙ var) in
-          let in_a : is_in q.atom a ≡ true = subst (Believes (Atoms a)) (sym (ap (λ (x : Read). x.belief) one) ∙ q.is_atom) believed in
-          let on : is_in q.atom (true_names 0 (atoms_of m i) cone.places) ≡ true = is.cone.read p.number q.read q.atom q.is_its q.own q.is_atom in
-          let here : name_at (atoms_of m i) p.place ≡ q.atom = at_place q.atom p.place (name_there (atoms_of m i) q.atom p.place q.place) in
-          (p, among, same, (part p.place).1 (sym (q.place.tells cone.places) ∙ on, ap (λ (y : Name). is_in y a) here ∙ in_a))
+      shown_of : Believes (Atoms a) r.belief → Believes (Atoms (true_names 0 (atoms_of m i) set)) r.belief
+      shown_of h =
+          let (n, atom) = atoms v r var own in
+          subst (Believes (Atoms (true_names 0 (atoms_of m i) set))) (sym atom) ((of_cone_is n (is.cone.read v r n var own atom)).0 (subst (Believes (Atoms a)) atom h))
 
-    tells_from : (τ : ℕ) → AreNumbersAt cone.reads.items set τ → Tells m i (Atoms a) τ
-    tells_from τ shown v = (λ member. believed_at_place v ((shown v).0 member), λ h. (shown v).1 (place_of_believed v h))
+    tells_set : Tells m i (Atoms a) (numbers_at reads set 0 (members (variables_of m i)))
+    tells_set v = (
+      λ member. (let (r, var, own, h) = (tells_at m i reads placed atoms set v).0 member in (r, var, own, believed_in v r var own h)),
+      λ (r, var, own, h). (tells_at m i reads placed atoms set v).1 (r, var, own, shown_of v r var own h),
+    )
 
-    numbers_from : (τ : ℕ) → Tells m i (Atoms a) τ → AreNumbersAt cone.reads.items set τ
-    numbers_from τ tells v = (λ member. place_of_believed v ((tells v).0 member), λ h. (tells v).1 (believed_at_place v h))
+    tells_from : (τ : ℕ) → numbers_at reads set 0 (members (variables_of m i)) ≡ τ → Tells m i (Atoms a) τ
+    tells_from τ same = subst (Tells m i (Atoms a)) same tells_set
+
+    numbers_from : (τ : ℕ) → Tells m i (Atoms a) τ → numbers_at reads set 0 (members (variables_of m i)) ≡ τ
+    numbers_from τ tells = same_set (numbers_at reads set 0 (members (variables_of m i))) τ (λ v. both_ways _ _ (λ h. (tells v).1 ((tells_set v).0 h)) (λ h. (tells_set v).1 ((tells v).0 h)))
 
   -- ---- all of them
-  module _ (σ : ℕ) (there : IsProgramAt m i rules) (sets found : List ℕ) (all : AreConeSets m σ i rules cone.places sets) (shown : AreShown cone (common σ (variables_of m i)) sets found) where
+  module _ (σ : ℕ) (there : IsProgramAt m i rules) (sets found : List ℕ) (all : AreConeSets m σ i rules cone.places sets) (shown : (set : ℕ) → IsAmong set found ↔ (IsAmong set sets × (numbers_at reads set 0 (members (variables_of m i)) ≡ common σ (variables_of m i)))) where
     accepts_with : (b : BeliefSet) → Accepts (with_heads (Program rules) (heads_into m i (applicable m σ))) b → AcceptsWith m i (applicable m σ) b
     accepts_with b accepts = let (c, own, kb) = there in (c, own, subst (λ (k : Kb). Accepts (with_heads k (heads_into m i (applicable m σ))) b) (sym kb) accepts)
 
@@ -170,20 +171,16 @@ module _ (m : System) (i : ℕ) (rules : List ProgramRule) (apart : has_twins (a
     pub are_views : AreViewsOf m σ i cone.places found
     are_views = record { each = each_view; all = all_views }
 
--- ---- those of the sets that show these variables, one after the other
--- what numbers stand with places is one set
-one_set : (all : List Placed) (places v w : ℕ) → AreNumbersAt all places v → AreNumbersAt all places w → v ≡ w
-one_set all places v w of_v of_w = same_set v w (λ k. both_ways (has v k) (has w k) (λ h. (of_w k).1 ((of_v k).0 h)) (λ h. (of_v k).1 ((of_w k).0 h)))
+-- ---- those of the sets that show the state's part, one after the other
+pub shown_none : (d : Derivation) (i : ℕ) → AreShown d i [] []
+shown_none d i set = (λ among. absurd among, λ both. absurd both.0)
 
-pub shown_none : (c : Cone) (variables : ℕ) → AreShown c variables [] []
-shown_none c variables set = (λ among. absurd among, λ both. absurd both.0)
-
-module _ (c : Cone) (variables : ℕ) (sets found : List ℕ) (set : ℕ) (shown : AreShown c variables sets found) (own : ℕ) (numbers : AreNumbersAt c.reads.items set own) where
-  pub shown_more : own ≡ variables → AreShown c variables (sets ++ set ∷ []) (found ++ set ∷ [])
+module _ (d : Derivation) (i : ℕ) (sets found : List ℕ) (set : ℕ) (shown : AreShown d i sets found) where
+  pub shown_more : shown_at d i set ≡ common d.state (variables_of d.system.now i) → AreShown d i (sets ++ set ∷ []) (found ++ set ∷ [])
   shown_more same x = (
     λ among. elim (among_either x found (set ∷ []) among) [
       | inl old ↦ (let (of_sets, of_x) = (shown x).0 old in (among_left x sets (set ∷ []) of_sets, of_x))
-      | inr last ↦ elim last [ inl is ↦ (among_right x sets (set ∷ []) (inl is), subst (λ (y : ℕ). AreNumbersAt c.reads.items y variables) (sym is) (subst (AreNumbersAt c.reads.items set) same numbers)) | inr none ↦ absurd none ]
+      | inr last ↦ elim last [ inl is ↦ (among_right x sets (set ∷ []) (inl is), ap (shown_at d i) is ∙ same) | inr none ↦ absurd none ]
     ],
     λ (among, of_x). elim (among_either x sets (set ∷ []) among) [
       | inl old ↦ among_left x found (set ∷ []) ((shown x).1 (old, of_x))
@@ -191,14 +188,11 @@ module _ (c : Cone) (variables : ℕ) (sets found : List ℕ) (set : ℕ) (shown
     ],
   )
 
-  pub shown_beside : ¬ (own ≡ variables) → AreShown c variables (sets ++ set ∷ []) found
+  pub shown_beside : ¬ (shown_at d i set ≡ common d.state (variables_of d.system.now i)) → AreShown d i (sets ++ set ∷ []) found
   shown_beside other x = (
     λ among. (let (of_sets, of_x) = (shown x).0 among in (among_left x sets (set ∷ []) of_sets, of_x)),
     λ (among, of_x). elim (among_either x sets (set ∷ []) among) [
       | inl old ↦ (shown x).1 (old, of_x)
-      | inr last ↦ elim last [
-        | inl is ↦ absurd (other (one_set c.reads.items set own variables numbers (subst (λ (y : ℕ). AreNumbersAt c.reads.items y variables) is of_x)))
-        | inr none ↦ absurd none
-      ]
+      | inr last ↦ elim last [ inl is ↦ absurd (other (ap (shown_at d i) (sym is) ∙ of_x)) | inr none ↦ absurd none ]
     ],
   )

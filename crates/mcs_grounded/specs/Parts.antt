@@ -1,10 +1,9 @@
 -- What is kept of each context, so that its derivations take no reading of formulas and names.
-use Rattle.std.specs.Prelude.{◌≡◌, ℕ, ◌≤◌, false, IsTrue, ◌↔◌, List, [], ◌∷◌, map, length, Some, slice_get, ◌⊎◌, IfSome}
+use Rattle.std.specs.Prelude.{◌≡◌, ℕ, ◌≤◌, cond, false, IsTrue, List, [], ◌∷◌, map, get_or, length, Some, slice_get, ◌⊎◌, Option, IfSome}
 use Rattle.std.specs.List.{AllByRecursion, AllZip}
 use Rattle.std.specs.BTreeMap.{BTreeMap, get}
 use Rattle.std.specs.Ordering.{nat_cmp}
-use Rattle.mcs_sets.specs.Sets.{has, union, Within}
-use Rattle.mcs_base.specs.Listings.{IsAmong}
+use Rattle.mcs_sets.specs.Sets.{has, single, union, Within}
 use Rattle.mcs_system.specs.Plain.{Name, Formula, Atom, ProgramRule, Classical, Program, Context, Read, Bridge, System}
 use Rattle.mcs_system.specs.Atoms.{atoms_of}
 use Rattle.mcs_system.specs.Faults.{IsValid, has_twins}
@@ -16,14 +15,13 @@ use Rattle.mcs_classical.specs.Assumptions.{AreHeads}
 use Rattle.mcs_classical.specs.Consequences.{AreConsequences}
 use Rattle.mcs_classical.specs.declared.assumptions.Assumption.{Assumption}
 use Rattle.mcs_evidence.specs.Programs.{IsInRange}
-use Rattle.mcs_program.specs.Placing.{IsPlaceOf, ArePlaces}
+use Rattle.mcs_program.specs.Placing.{do_meet, IsPlaceOf, ArePlaces}
 use Rattle.mcs_reduct.specs.Plain.{IsPlain}
 use Rattle.mcs_grounded.specs.Derivations.{rules_for, IsCone}
 use Rattle.mcs_grounded.specs.declared.placed.NormalRule.{NormalRule}
-use Rattle.mcs_grounded.specs.declared.placed.Placed.{Placed}
+use Rattle.mcs_grounded.specs.declared.places.Places.{Places}
 use Rattle.mcs_grounded.specs.declared.cone.Cone.{Cone}
-use Rattle.mcs_grounded.specs.declared.derivation.Derivation.{Derivation}
-use Rattle.mcs_grounded.specs.declared.found.Found.{Found}
+use Rattle.mcs_grounded.specs.declared.basis.Derivation.{Derivation}
 use Rattle.mcs_grounded.specs.declared.found.Solver.{Solver}
 
 -- ---- rules by the places of their atoms
@@ -76,7 +74,7 @@ pub record HaveBodiesOf (all rules : List NormalRule) (places more : ℕ) : Type
   pub dependent : Within more places → AreDependent rules places
   pub least : (others : ℕ) → Within places others → AreDependent all others → Within more others
 
--- ---- numbers and places
+-- ---- contexts
 -- context i has the program of these rules
 abbrev pub IsProgramAt : System → ℕ → List ProgramRule → Type 0
 IsProgramAt m i rules = (c : Context) × (slice_get m.contexts i ≡ Some c) × (c.kb ≡ Program rules)
@@ -88,54 +86,39 @@ IsProgramContext m i = (rules : List ProgramRule) × IsProgramAt m i rules
 abbrev pub IsClassicalAt : System → ℕ → List Formula → Type 0
 IsClassicalAt m i formulas = (c : Context) × (slice_get m.contexts i ≡ Some c) × (c.kb ≡ Classical formulas)
 
--- the numbers that stand with one of the places
-abbrev pub AreNumbersAt : List Placed → ℕ → ℕ → Type 0
-AreNumbersAt all places numbers = (v : ℕ) → IsTrue (has numbers v) ↔ ((p : Placed) × IsAmong p all × (p.number ≡ v) × IsTrue (has places p.place))
+-- ---- places of atoms
+-- if the formula is an atom, this is its place among the names
+abbrev pub IsPlaced : List Name → Formula → ℕ → Type 0
+IsPlaced names f places = (n : Name) → f ≡ Atom n → ArePlaces names (n ∷ []) places
 
--- the places that stand with one of the numbers
-abbrev pub ArePlacesWith : List Placed → ℕ → ℕ → Type 0
-ArePlacesWith all numbers places = (k : ℕ) → IsTrue (has places k) ↔ ((p : Placed) × IsAmong p all × (p.place ≡ k) × IsTrue (has numbers p.number))
+-- the places of the heads of rules, and of the beliefs of variables, each by its number
+abbrev pub AreHeadsPlaced : System → List ℕ → Type 0
+AreHeadsPlaced m heads = (k : ℕ) (b : Bridge) → slice_get m.bridges k ≡ Some b → IsPlaced (atoms_of m b.target) b.head (get_or heads k 0)
 
--- all the places
-abbrev pub ArePlacesIn : List Placed → ℕ → Type 0
-ArePlacesIn all places = (k : ℕ) → IsTrue (has places k) ↔ ((p : Placed) × IsAmong p all × (p.place ≡ k))
+abbrev pub AreReadsPlaced : System → List ℕ → Type 0
+AreReadsPlaced m reads = (v : ℕ) (r : Read) → IsVariable m v r → IsPlaced (atoms_of m r.context) r.belief (get_or reads v 0)
 
--- the number is that of a rule into context i, and its head, which is an atom, has the place
-pub record IsHeadPlace (m : System) (i : ℕ) (p : Placed) : Type 0 where
-  pub rule : Bridge
-  pub atom : Name
-  pub is_its : slice_get m.bridges p.number ≡ Some rule
-  pub own : rule.target ≡ i
-  pub is_atom : rule.head ≡ Atom atom
-  pub place : IsPlaceOf (atoms_of m i) atom p.place
+pub record ArePlaced (m : System) (p : Places) : Type 0 where
+  pub valid : IsValid m
+  pub heads : AreHeadsPlaced m p.heads
+  pub reads : AreReadsPlaced m p.reads
 
--- each rule into context i is there
-pub record AreHeadsInto (m : System) (i : ℕ) (all : List Placed) : Type 0 where
-  pub own : AllByRecursion (IsHeadPlace m i) all
-  pub each : (k : ℕ) (b : Bridge) → slice_get m.bridges k ≡ Some b → b.target ≡ i → (p : Placed) × IsAmong p all × (p.number ≡ k)
+-- with the places, those in the sets that have these numbers
+abbrev pub places_at : List ℕ → ℕ → List ℕ → ℕ
+places_at sets places [] = places
+places_at sets places (k ∷ ks) = places_at sets (union places (get_or sets k 0)) ks
 
--- the number is that of a variable of context i, and its belief, which is an atom, has the place
-pub record IsReadPlace (m : System) (i : ℕ) (p : Placed) : Type 0 where
-  pub read : Read
-  pub atom : Name
-  pub is_its : IsVariable m p.number read
-  pub own : read.context ≡ i
-  pub is_atom : read.belief ≡ Atom atom
-  pub place : IsPlaceOf (atoms_of m i) atom p.place
-
--- each variable of context i is there
-pub record AreReadsOf (m : System) (i : ℕ) (all : List Placed) : Type 0 where
-  pub own : AllByRecursion (IsReadPlace m i) all
-  pub each : (v : ℕ) (r : Read) → IsVariable m v r → r.context ≡ i → (p : Placed) × IsAmong p all × (p.number ≡ v)
+-- with the chosen numbers, those of these whose sets meet the places
+abbrev pub numbers_at : List ℕ → ℕ → ℕ → List ℕ → ℕ
+numbers_at sets places chosen [] = chosen
+numbers_at sets places chosen (k ∷ ks) = numbers_at sets places (cond (do_meet (get_or sets k 0) places) (union chosen (single k)) chosen) ks
 
 -- ---- cones
--- of a program: the cone, its rules, and the places of the heads into it and of its variables
+-- of a program: the cone and its rules
 pub record IsConeOf (m : System) (i : ℕ) (rules : List ProgramRule) (c : Cone) : Type 0 where
   pub in_range : IsInRange (atoms_of m i) c.places
   pub cone : IsCone m i rules (true_names 0 (atoms_of m i) c.places)
   pub placed : AllZip (IsNormalRule (atoms_of m i)) (rules_for (true_names 0 (atoms_of m i) c.places) rules) c.rules.items
-  pub heads : AreHeadsInto m i c.heads.items
-  pub reads : AreReadsOf m i c.reads.items
 
 -- so it is if the context has a program, and otherwise there are no places
 pub record IsConeFor (m : System) (i : ℕ) (c : Cone) : Type 0 where
@@ -153,10 +136,15 @@ abbrev pub cones_of : List Cone → List ℕ
 cones_of all = map (λ (c : Cone). c.places) all
 
 -- ---- classical contexts
--- the clauses mean the formulas of context i, and what was found to follow is right of these and of the heads of rules into it
+-- what is kept for a set of rules is what context i tells with their heads
+abbrev pub AreToldOf : System → ℕ → BTreeMap ℕ ℕ → Type 0
+AreToldOf m i told = (x τ : ℕ) → get nat_cmp told x ≡ Some τ → IsAcceptedPart m i x τ
+
+-- the clauses mean the formulas of context i, what was found to follow is right of these and of the heads of rules into it, and what it was found to tell is right too
 pub record IsSolverOf (m : System) (i : ℕ) (s : Solver) : Type 0 where
   pub meant : (formulas : List Formula) → IsClassicalAt m i formulas → AreMeantBy (atoms_of m i) formulas s.clauses
   pub right : (formulas : List Formula) → IsClassicalAt m i formulas → (heads : List Assumption) → AreHeads m i heads → AreConsequences formulas heads (beliefs_at m (variables_of m i)) s.found
+  pub told : AreToldOf m i s.told
 
 -- the context is classical, and the solver is its own
 pub record CanSolve (m : System) (i : ℕ) (s : Solver) : Type 0 where
@@ -165,32 +153,28 @@ pub record CanSolve (m : System) (i : ℕ) (s : Solver) : Type 0 where
   pub own : IsSolverOf m i s
 
 -- ---- what was found
--- what is kept for a set of rules is what context i tells with their heads
-abbrev pub AreToldOf : System → ℕ → BTreeMap ℕ ℕ → Type 0
-AreToldOf m i told = (x τ : ℕ) → get nat_cmp told x ≡ Some τ → IsAcceptedPart m i x τ
-
--- so it is of all that was found of context i, and the solver, if there is one, is its own
-pub record IsFoundOf (m : System) (i : ℕ) (found : Found) : Type 0 where
-  pub told : AreToldOf m i found.told
-  pub solver : IfSome found.solver (IsSolverOf m i)
+-- the solver of context i, if there is one, is its own
+abbrev pub IsFoundOf : System → ℕ → Option Solver → Type 0
+IsFoundOf m i solver = IfSome solver (IsSolverOf m i)
 
 -- context i is classical, with these formulas, and this was found of it
-pub record CanTell (m : System) (i : ℕ) (formulas : List Formula) (found : Found) : Type 0 where
+pub record CanTell (m : System) (i : ℕ) (formulas : List Formula) (solver : Option Solver) : Type 0 where
   pub classical : IsClassicalAt m i formulas
-  pub known : IsFoundOf m i found
+  pub known : IsFoundOf m i solver
 
 -- so it is for each context
-pub record AreAllFound (m : System) (all : List Found) : Type 0 where
+pub record AreAllFound (m : System) (all : List (Option Solver)) : Type 0 where
   pub one_each : length all ≡ length m.contexts
-  pub own : (i : ℕ) (found : Found) → slice_get all i ≡ Some found → IsFoundOf m i found
+  pub own : (i : ℕ) (solver : Option Solver) → slice_get all i ≡ Some solver → IsFoundOf m i solver
 
 -- ---- derivations
--- the system is plain, and the cones are its own
+-- the system is plain, and the places and the cones are its own
 pub record IsSetUp (d : Derivation) : Type 0 where
   pub plain : IsPlain d.system.now
+  pub places : ArePlaced d.system.now d.places.now
   pub cones : AreConesOf d.system.now d.cones.now
 
 -- so was what was found
-pub record IsDerivation (d : Derivation) (known : List Found) : Type 0 where
+pub record IsDerivation (d : Derivation) (known : List (Option Solver)) : Type 0 where
   pub set_up : IsSetUp d
   pub found : AreAllFound d.system.now known

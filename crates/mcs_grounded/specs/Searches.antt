@@ -1,5 +1,5 @@
 -- The search for a grounded belief state among those with one projection.
-use Rattle.std.specs.Prelude.{◌≡◌, ℕ, ◌+◌, ◌<◌, nat_eq, cond, Bool, true, false, IsTrue, List, [], ◌∷◌, length, map, get_or, slice_set, Some, slice_get}
+use Rattle.std.specs.Prelude.{◌≡◌, ℕ, ◌+◌, ◌<◌, ◌≤◌, nat_eq, cond, Bool, true, false, IsTrue, List, [], ◌∷◌, length, get_or, slice_set, Some, slice_get}
 use Rattle.mcs_sets.specs.Sets.{common}
 use Rattle.mcs_system.specs.Plain.{Name, System}
 use Rattle.mcs_system.specs.Logic.{is_in, BeliefSet}
@@ -11,18 +11,16 @@ use Rattle.mcs_grounded.specs.Derivations.{atoms_at, Tells, IsWhole}
 use Rattle.mcs_grounded.specs.Parts.{cones_of, IsProgramContext}
 use Rattle.mcs_grounded.specs.declared.bounds.Bounds.{Bounds}
 use Rattle.mcs_grounded.specs.declared.cone.Cone.{Cone}
-use Rattle.mcs_grounded.specs.declared.derivation.Derivation.{Derivation}
-use Rattle.mcs_grounded.specs.declared.search.Settled.{Settled}
-use Rattle.mcs_grounded.specs.declared.search.Settled.TheVariants.{Grounded, Ungrounded, Open}
+use Rattle.mcs_grounded.specs.declared.basis.Derivation.{Derivation}
 
 -- of the atoms of context i no other ones are possible than those that are certain
 abbrev pub IsKnown : Bounds → ℕ → Type 0
-IsKnown bounds i = get_or bounds.certain.items i 0 ≡ get_or bounds.possible.items i 0
+IsKnown bounds i = get_or bounds.certain i 0 ≡ get_or bounds.possible i 0
 
 -- of the atoms in the cone of context i the belief set has all the certain ones, and none but possible ones
 pub record IsBounded (m : System) (cones : List ℕ) (bounds : Bounds) (i : ℕ) (b : BeliefSet) : Type 0 where
-  pub certain : (n : Name) → IsTrue (is_in n (atoms_at m bounds.certain.items i)) → IsTrue (is_in n (names_believed b))
-  pub possible : (n : Name) → IsTrue (is_in n (atoms_at m cones i)) → IsTrue (is_in n (names_believed b)) → IsTrue (is_in n (atoms_at m bounds.possible.items i))
+  pub certain : (n : Name) → IsTrue (is_in n (atoms_at m bounds.certain i)) → IsTrue (is_in n (names_believed b))
+  pub possible : (n : Name) → IsTrue (is_in n (atoms_at m cones i)) → IsTrue (is_in n (names_believed b)) → IsTrue (is_in n (atoms_at m bounds.possible i))
 
 -- s is an equilibrium with this projection, within the bounds
 pub record IsCandidate (m : System) (σ : ℕ) (cones : List ℕ) (bounds : Bounds) (s : List BeliefSet) : Type 0 where
@@ -41,8 +39,8 @@ HaveCandidates m σ cones bounds = (i : ℕ) → i < length m.contexts → HasCa
 
 -- there is a set of each sort for each context, and both are one but for programs
 pub record AreBoundsOf (m : System) (bounds : Bounds) : Type 0 where
-  pub certain : length bounds.certain.items ≡ length m.contexts
-  pub possible : length bounds.possible.items ≡ length m.contexts
+  pub certain : length m.contexts ≤ length bounds.certain
+  pub possible : length m.contexts ≤ length bounds.possible
   pub of_programs : (i : ℕ) → ¬ IsKnown bounds i → IsProgramContext m i
 
 -- the context is not whole, and its atoms are not known
@@ -57,18 +55,15 @@ NoneIsOpen m σ bounds rules = (i : ℕ) → i < length m.contexts → ¬ IsWhol
 
 -- at first no atom is certain, and each one of a cone is possible
 pub record AreFirstBounds (cones : List Cone) (bounds : Bounds) : Type 0 where
-  pub certain : bounds.certain.items ≡ map (λ (c : Cone). 0) cones
-  pub possible : bounds.possible.items ≡ cones_of cones
-
--- context i has bounds
-pub record AreBounds (i : ℕ) (bounds : Bounds) : Type 0 where
-  pub in_certain : i < length bounds.certain.items
-  pub in_possible : i < length bounds.possible.items
+  pub long : length bounds.certain ≡ 64
+  pub as_long : length bounds.possible ≡ 64
+  pub certain : (i : ℕ) → get_or bounds.certain i 0 ≡ 0
+  pub possible : (i : ℕ) → get_or bounds.possible i 0 ≡ get_or (cones_of cones) i 0
 
 -- the atoms of context i are told, and of the others nothing changes
 pub record IsToldAt (before : Bounds) (i atoms : ℕ) (after : Bounds) : Type 0 where
-  pub certain : after.certain.items ≡ slice_set before.certain.items i atoms
-  pub possible : after.possible.items ≡ slice_set before.possible.items i atoms
+  pub certain : after.certain ≡ slice_set before.certain i atoms
+  pub possible : after.possible ≡ slice_set before.possible i atoms
 
 -- in how many places the two lists differ
 abbrev pub differences : List ℕ → List ℕ → ℕ
@@ -77,7 +72,7 @@ differences (x ∷ xs) [] = 0
 differences (x ∷ xs) (y ∷ ys) = cond (nat_eq x y) (differences xs ys) (differences xs ys + 1)
 
 abbrev pub open_contexts : Bounds → ℕ
-open_contexts bounds = differences bounds.certain.items bounds.possible.items
+open_contexts bounds = differences bounds.certain bounds.possible
 
 -- no candidate is grounded
 abbrev pub NoneIsGrounded : System → ℕ → List ℕ → Bounds → Type 0
@@ -95,12 +90,6 @@ pub record CanSearch (d : Derivation) (bounds : Bounds) : Type 0 where
   pub candidates : HaveCandidates d.system.now d.state (cones_of d.cones.now) bounds
 
 -- the answer is right: if it is yes, the state is grounded, and if it is no, no candidate is
-abbrev pub IsAnswer : Derivation → Bounds → Bool → Type 0
-IsAnswer d bounds true = IsGroundedState d.system.now d.state
-IsAnswer d bounds false = NoneIsGrounded d.system.now d.state (cones_of d.cones.now) bounds
-
--- what the bounds settle
-abbrev pub IsSettled : Derivation → Bounds → Settled → Type 0
-IsSettled d bounds Grounded = IsGroundedState d.system.now d.state
-IsSettled d bounds Ungrounded = NoneIsGrounded d.system.now d.state (cones_of d.cones.now) bounds
-IsSettled d bounds (Open context) = (context < length d.system.now.contexts) × ¬ IsKnown bounds context
+abbrev pub IsAnswer : System → ℕ → List ℕ → Bounds → Bool → Type 0
+IsAnswer m σ cones bounds true = IsGroundedState m σ
+IsAnswer m σ cones bounds false = NoneIsGrounded m σ cones bounds

@@ -1,5 +1,5 @@
 -- The answer sets of a program with the heads of the rules that apply in a state, through the atoms of its cone.
-use Rattle.std.specs.Prelude.{ℕ, IsTrue, ◌↔◌, List, [], map, get_or}
+use Rattle.std.specs.Prelude.{◌≡◌, ℕ, IsTrue, ◌↔◌, List, [], map, get_or}
 use Rattle.mcs_sets.specs.Sets.{has, common, members}
 use Rattle.mcs_base.specs.Listings.{IsAmong}
 use Rattle.mcs_system.specs.Plain.{Name, ProgramRule, Program, System}
@@ -8,9 +8,8 @@ use Rattle.mcs_system.specs.Logic.{is_in, true_names, BeliefSet, Atoms, Accepts,
 use Rattle.mcs_system.specs.Systems.{variables_of, applicable, heads_into, AcceptsWith}
 use Rattle.mcs_reduct.specs.Reducts.{names_believed}
 use Rattle.mcs_grounded.specs.Derivations.{Tells}
-use Rattle.mcs_grounded.specs.Parts.{AreNumbersAt, cones_of}
-use Rattle.mcs_grounded.specs.declared.cone.Cone.{Cone}
-use Rattle.mcs_grounded.specs.declared.derivation.Derivation.{Derivation}
+use Rattle.mcs_grounded.specs.Parts.{cones_of, numbers_at}
+use Rattle.mcs_grounded.specs.declared.basis.Derivation.{Derivation}
 
 -- the name at a place, and those at the places of a set, ascending
 abbrev pub name_at : List Name → ℕ → Name
@@ -32,9 +31,13 @@ pub record AreConeSets (m : System) (σ i : ℕ) (rules : List ProgramRule) (con
   pub each : (set : ℕ) → IsAmong set sets → (a : List Name) × IsAnswerAt m σ i rules a × IsPartAt (atoms_of m i) cone a set
   pub all : (a : List Name) → IsAnswerAt m σ i rules a → (set : ℕ) × IsAmong set sets × IsPartAt (atoms_of m i) cone a set
 
--- exactly those of the sets that show these variables
-abbrev pub AreShown : Cone → ℕ → List ℕ → List ℕ → Type 0
-AreShown c variables sets found = (set : ℕ) → IsAmong set found ↔ (IsAmong set sets × AreNumbersAt c.reads.items set variables)
+-- the variables of context i whose atoms are at these places
+abbrev pub shown_at : Derivation → ℕ → ℕ → ℕ
+shown_at d i places = numbers_at d.places.now.reads places 0 (members (variables_of d.system.now i))
+
+-- exactly those of the sets that show the state's part of context i
+abbrev pub AreShown : Derivation → ℕ → List ℕ → List ℕ → Type 0
+AreShown d i sets found = (set : ℕ) → IsAmong set found ↔ (IsAmong set sets × (shown_at d i set ≡ common d.state (variables_of d.system.now i)))
 
 -- of the atoms at the places of the cone the belief set has those at these places
 abbrev pub HasOfCone : System → ℕ → ℕ → ℕ → BeliefSet → Type 0

@@ -1,51 +1,44 @@
 //! What is known of the atoms that a belief state has: bounds of each of its answer sets.
 
-ghost use Rattle.std.specs.Prelude.{IfOk};
-ghost use Rattle.mcs_grounded.specs.Searches.{AreBounds, AreFirstBounds, IsToldAt};
+ghost use Rattle.std.specs.Prelude.{◌<◌, ◌≤◌, length};
+ghost use Rattle.mcs_grounded.specs.Searches.{AreFirstBounds, IsToldAt};
 
 use crate::cone::Cone;
-use mcs_base::{Memory, Vars};
-use std::alloc::Global;
+use mcs_base::Vars;
 
 /// For each context, of the atoms in its cone, those that its answer set has for certain, and those
-/// that it may have. Both are empty for classical contexts.
+/// that it may have. Both are empty for classical contexts, and where there is no context.
+#[derive(Clone, Copy)]
 pub(crate) struct Bounds {
-    pub(crate) certain: Vec<Vars>,
-    pub(crate) possible: Vec<Vars>,
-}
-
-impl Drop for Bounds {
-    fn drop(self) {
-        let Bounds {
-            certain: _,
-            possible: _,
-        } = self;
-    }
+    pub(crate) certain: [Vars; 64],
+    pub(crate) possible: [Vars; 64],
 }
 
 impl Bounds {
     /// The bounds of all belief states: no atom is certain, and each one of a cone is possible.
-    pub(crate) fn of(alloc: Global, cones: &[Cone]) -> Result<Bounds, Memory>
-        ensures { IfOk result (AreFirstBounds cones.now) }
+    pub(crate) fn of(cones: &[Cone]) -> Bounds
+        requires { length cones.now ≤ 64 }
+        ensures { AreFirstBounds cones.now result }
     {
-        let mut certain = Vec::new(alloc);
-        let mut possible = Vec::new(alloc);
-        for cone in cones {
-            certain.push(Vars::empty())?;
-            possible.push(cone.places)?;
+        let none = [Vars::empty(); 64];
+        let mut possible = none;
+        for (context, cone) in cones.iter().enumerate() {
+            possible[context] = cone.places;
         }
-        Ok(Bounds { certain, possible })
+        Bounds {
+            certain: none,
+            possible,
+        }
     }
 
     /// The bounds with the atoms of one context told: these and no others.
-    pub(crate) fn told(&self, alloc: Global, context: usize, atoms: Vars) -> Result<Bounds, Memory>
-        requires { AreBounds context self.now }
-        ensures { IfOk result (IsToldAt self.now context atoms) }
+    pub(crate) fn told(&self, context: usize, atoms: Vars) -> Bounds
+        requires { context < 64 }
+        ensures { IsToldAt self.now context atoms result }
     {
-        let mut certain = self.certain.to_vec(alloc)?;
-        let mut possible = self.possible.to_vec(alloc)?;
-        certain[context] = atoms;
-        possible[context] = atoms;
-        Ok(Bounds { certain, possible })
+        let mut told = *self;
+        told.certain[context] = atoms;
+        told.possible[context] = atoms;
+        told
     }
 }

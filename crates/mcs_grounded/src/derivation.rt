@@ -1,51 +1,52 @@
 //! Derivations: the rules that apply in a state, added one after the other from nothing.
 
-ghost use Rattle.std.specs.Prelude.{◌≡◌, ◌<◌, length, IfOk};
+ghost use Rattle.std.specs.Prelude.{◌<◌, ◌≤◌, length, IfOk};
 ghost use Rattle.mcs_grounded.specs.Derivations.{AreTold, IsDerived, IsTold};
 ghost use Rattle.mcs_grounded.specs.Parts.{AreAllFound, IsDerivation, cones_of};
 
-use crate::cone::Cone;
-use crate::found::Found;
+use crate::basis::Derivation;
+use crate::found::{Solver, ask};
+use crate::normal::least_model;
+use crate::places::{numbers_at, places_at};
 use mcs_base::{Active, Memory, Vars};
-use mcs_system::{Kb, System};
+use mcs_system::Kb;
 use std::alloc::Global;
 
-/// What rules are derived of: the system, the cones of its contexts, and the state in which the
-/// rules apply.
-#[derive(Clone, Copy)]
-pub(crate) struct Derivation<'a> {
-    pub(crate) system: &'a System,
-    pub(crate) cones: &'a [Cone],
-    pub(crate) state: Vars,
-}
-
 /// What the context tells with the heads of the rules. Once these are all its rules that apply in
-/// the state, it is its part of the state. Before that it is what is derived, where its program is
-/// reduced by the atoms in `against`.
+/// the state, it is its part of the state. Before that a program tells what is in the least model
+/// of its cone with these heads, where it is reduced by the atoms in `against`.
 fn told(
     alloc: Global,
     derivation: &Derivation<'_>,
-    found: &mut [Found],
+    found: &mut [Option<Solver>],
     against: &[Vars],
     rules: Active,
     context: u32,
 ) -> Result<Vars, Memory>
     requires context { context < length derivation.now.system.now.contexts }
     requires derivation { IsDerivation derivation.now found.old }
-    requires against { length against.now ≡ length derivation.now.system.now.contexts }
+    requires against { length derivation.now.system.now.contexts ≤ length against.now }
     ensures found { AreAllFound derivation.now.system.now found.new }
     ensures told { IfOk result (IsTold derivation.now.system.now derivation.now.state
         (cones_of derivation.now.cones.now) against.now rules context) }
 {
     let system = derivation.system;
     let place = context as usize;
-    if system.applicable(context, derivation.state).within(rules) {
-        return Ok(derivation.state.common(system.vars_of(context)));
+    let into = system.rules_of(context);
+    let variables = system.vars_of(context);
+    if derivation.goal.common(into).within(rules) {
+        return Ok(derivation.state.common(variables));
     }
     match &system.contexts()[place].kb {
-        Kb::Classical(formulas) => found[place].told(alloc, system, context, formulas, rules),
+        Kb::Classical(formulas) => {
+            ask(alloc, system, context, formulas, &mut found[place], rules)
+        }
         Kb::DefaultTheory(_) => unreachable!(),
-        Kb::Program(_) => Ok(derivation.cones[place].derived(against[place], rules)),
+        Kb::Program(_) => {
+            let start = places_at(&derivation.places.heads, rules.common(into).members());
+            let atoms = least_model(&derivation.cones[place].rules, against[place], start);
+            Ok(numbers_at(&derivation.places.reads, variables.members(), atoms))
+        }
     }
 }
 
@@ -53,12 +54,12 @@ fn told(
 fn told_all(
     alloc: Global,
     derivation: &Derivation<'_>,
-    found: &mut [Found],
+    found: &mut [Option<Solver>],
     against: &[Vars],
     rules: Active,
 ) -> Result<Vars, Memory>
     requires derivation { IsDerivation derivation.now found.old }
-    requires against { length against.now ≡ length derivation.now.system.now.contexts }
+    requires against { length derivation.now.system.now.contexts ≤ length against.now }
     ensures found { AreAllFound derivation.now.system.now found.new }
     ensures told { IfOk result (AreTold derivation.now.system.now derivation.now.state
         (cones_of derivation.now.cones.now) against.now rules) }
@@ -81,22 +82,21 @@ fn told_all(
 pub(crate) fn derive(
     alloc: Global,
     derivation: &Derivation<'_>,
-    found: &mut [Found],
+    found: &mut [Option<Solver>],
     against: &[Vars],
 ) -> Result<Active, Memory>
     requires derivation { IsDerivation derivation.now found.old }
-    requires against { length against.now ≡ length derivation.now.system.now.contexts }
+    requires against { length derivation.now.system.now.contexts ≤ length against.now }
     ensures found { AreAllFound derivation.now.system.now found.new }
     ensures derived { IfOk result (IsDerived derivation.now.system.now derivation.now.state
         (cones_of derivation.now.cones.now) against.now) }
 {
     let system = derivation.system;
-    let goal = system.applicable_rules(derivation.state);
     let mut rules = Active::empty();
     loop {
         let believed = told_all(alloc, derivation, found, against, rules)?;
         let acting = system.applicable_rules(believed.common(derivation.state));
-        let fresh = acting.common(goal).minus(rules);
+        let fresh = acting.common(derivation.goal).minus(rules);
         if fresh == Active::empty() {
             return Ok(rules);
         }

@@ -17,12 +17,13 @@ use std::alloc::Global;
 use std::collections::BTreeMap;
 use std::mem;
 
-/// The solver of a classical context: clauses that mean its formulas, and what was found to follow
-/// from these with heads of rules.
+/// The solver of a classical context: clauses that mean its formulas, what was found to follow from
+/// these with heads of rules, and what the context was found to tell, by the sets of rules into it.
 #[derive(Drop)]
 pub(crate) struct Solver {
     pub(crate) clauses: ClauseBase,
     pub(crate) found: Consequences,
+    pub(crate) told: BTreeMap<Active, Vars>,
 }
 
 impl Solver {
@@ -43,12 +44,13 @@ impl Solver {
         Ok(Solver {
             clauses,
             found: Consequences::new(alloc),
+            told: BTreeMap::new(alloc),
         })
     }
 
-    /// What the context tells with the heads of the rules. What was found for other sets of rules
-    /// is used, and what is found is kept.
-    fn told(
+    /// What the context tells with the heads of the rules. It is looked up if it was found before,
+    /// and kept if it was not. What was found for other sets of rules is used.
+    fn tell(
         &mut self,
         alloc: Global,
         system: &System,
@@ -59,6 +61,10 @@ impl Solver {
         ensures own { IsSolverOf system.now context self.new }
         ensures told { IfOk result (IsAcceptedPart system.now context rules) }
     {
+        let own = rules.common(system.rules_of(context));
+        if let Some(told) = self.told.get(&own) {
+            return Ok(*told);
+        }
         let heads = assumptions_into(alloc, system, context)?;
         let beliefs = beliefs_of(alloc, system, context)?;
         let asked = Asked {
@@ -69,78 +75,45 @@ impl Solver {
             asked: &asked,
             assumptions: &heads,
         };
-        let view = self
-            .found
-            .following(alloc, &mut self.clauses, &given, rules)?;
-        Ok(at_places(system.vars_of(context), view))
-    }
-}
-
-/// What was found of a context: what it tells with the heads of rules into it, by the sets of these
-/// for which it was asked. A classical context has a solver, once it was asked.
-#[derive(Drop)]
-pub(crate) struct Found {
-    pub(crate) told: BTreeMap<Active, Vars>,
-    pub(crate) solver: Option<Solver>,
-}
-
-impl Found {
-    /// What the context, which has these formulas, tells with the heads of the rules, as its solver
-    /// finds it. The solver is made if there is none.
-    fn ask(
-        &mut self,
-        alloc: Global,
-        system: &System,
-        context: u32,
-        formulas: &[Formula],
-        rules: Active,
-    ) -> Result<Vars, Memory>
-        requires { CanTell system.now context (map formula_of formulas.now) self.old }
-        ensures found { IsFoundOf system.now context self.new }
-        ensures told { IfOk result (IsAcceptedPart system.now context rules) }
-    {
-        let mut solver = match self.solver.take() {
-            Some(solver) => solver,
-            None => Solver::of(alloc, system, context, formulas)?,
-        };
-        let told = solver.told(alloc, system, context, rules);
-        drop(mem::replace(&mut self.solver, Some(solver)));
-        told
-    }
-
-    /// The same, which is looked up if it was found before, and kept if it was not.
-    pub(crate) fn told(
-        &mut self,
-        alloc: Global,
-        system: &System,
-        context: u32,
-        formulas: &[Formula],
-        rules: Active,
-    ) -> Result<Vars, Memory>
-        requires { CanTell system.now context (map formula_of formulas.now) self.old }
-        ensures found { IsFoundOf system.now context self.new }
-        ensures told { IfOk result (IsAcceptedPart system.now context rules) }
-    {
-        let own = rules.common(system.rules_of(context));
-        if let Some(told) = self.told.get(&own) {
-            return Ok(*told);
-        }
-        let told = self.ask(alloc, system, context, formulas, own)?;
+        let view = self.found.following(alloc, &mut self.clauses, &given, own)?;
+        let told = at_places(system.vars_of(context), view);
         self.told.insert(own, told)?;
         Ok(told)
     }
 }
 
-/// What is found of the contexts at first: nothing.
-pub(crate) fn none_found(alloc: Global, system: &System) -> Result<Vec<Found>, Memory>
+/// What the context, which has these formulas, tells with the heads of the rules, as its solver
+/// finds it. The solver is made if there is none.
+pub(crate) fn ask(
+    alloc: Global,
+    system: &System,
+    context: u32,
+    formulas: &[Formula],
+    solver: &mut Option<Solver>,
+    rules: Active,
+) -> Result<Vars, Memory>
+    requires { CanTell system.now context (map formula_of formulas.now) solver.old }
+    ensures found { IsFoundOf system.now context solver.new }
+    ensures told { IfOk result (IsAcceptedPart system.now context rules) }
+{
+    match solver {
+        Some(solver) => solver.tell(alloc, system, context, rules),
+        None => {
+            let mut made = Solver::of(alloc, system, context, formulas)?;
+            let told = made.tell(alloc, system, context, rules);
+            drop(mem::replace(solver, Some(made)));
+            told
+        }
+    }
+}
+
+/// The solvers of the contexts at first: there is none.
+pub(crate) fn no_solvers(alloc: Global, system: &System) -> Result<Vec<Option<Solver>>, Memory>
     ensures { IfOk result (λ all. AreAllFound system.now all.items) }
 {
     let mut all = Vec::new(alloc);
     for _ in 0..system.contexts().len() {
-        all.push(Found {
-            told: BTreeMap::new(alloc),
-            solver: None,
-        })?;
+        all.push(None)?;
     }
     Ok(all)
 }

@@ -3,6 +3,7 @@
 //! answer sets of a program are listed only if what all of them have in common does not settle it.
 #![tactic(auto)]
 
+mod basis;
 mod bounds;
 mod cone;
 mod derivation;
@@ -10,6 +11,7 @@ mod found;
 mod listing;
 mod normal;
 mod placed;
+mod places;
 mod search;
 mod views;
 

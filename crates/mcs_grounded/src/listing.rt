@@ -5,10 +5,12 @@ ghost use Rattle.mcs_states.specs.Calls.{AsksEvaluator, CanEvaluate};
 ghost use Rattle.mcs_reduct.specs.Grounded.{AreAllStates, AreGrounded};
 ghost use Rattle.mcs_reduct.specs.Plain.{IsPlain};
 
+use crate::basis::Derivation;
+use crate::bounds::Bounds;
 use crate::cone::cones_of;
-use crate::derivation::Derivation;
-use crate::found::none_found;
-use crate::search::is_grounded;
+use crate::found::no_solvers;
+use crate::places::{Places, heads_placed, reads_placed};
+use crate::search::search;
 use mcs_base::{Marks, Memory, Pair, Vars};
 use mcs_equilibria::list_states;
 use mcs_states::{Evaluator, Halt};
@@ -23,16 +25,23 @@ pub fn grounded_among(alloc: Global, system: &System, states: &[Vars]) -> Result
     requires states { AreAllStates system.now states.now }
     ensures { IfOk result (λ grounded. AreGrounded system.now grounded.items) }
 {
-    let cones = cones_of(alloc, system)?;
-    let mut found = none_found(alloc, system)?;
+    let places = Places {
+        heads: heads_placed(system),
+        reads: reads_placed(system),
+    };
+    let cones = cones_of(alloc, system, &places)?;
+    let bounds = Bounds::of(&cones);
+    let mut found = no_solvers(alloc, system)?;
     let mut grounded = Vec::new(alloc);
     for state in states {
         let derivation = Derivation {
             system,
+            places: &places,
             cones: &cones,
             state: *state,
+            goal: system.applicable_rules(*state),
         };
-        if is_grounded(alloc, &derivation, &mut found)? {
+        if search(alloc, &derivation, &mut found, &bounds)? {
             grounded.push(*state)?;
         }
     }

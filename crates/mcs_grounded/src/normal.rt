@@ -1,6 +1,6 @@
 //! Rules of normal programs, by the places of their atoms; the least models of their reducts.
 
-ghost use Rattle.std.specs.Prelude.{◌↔◌, map, IfOk, IsTrue};
+ghost use Rattle.std.specs.Prelude.{map, IfOk, IsTrue};
 ghost use Rattle.std.specs.List.{AllByRecursion, AllZip};
 ghost use Rattle.mcs_system.specs.Logic.{is_in};
 ghost use Rattle.mcs_system.specs.Seen.{rule_of};
@@ -8,7 +8,7 @@ ghost use Rattle.mcs_evidence.specs.Programs.{AreOverRules, IsOverRule};
 ghost use Rattle.mcs_evidence.specs.Pushing.{AreNamesOf};
 ghost use Rattle.mcs_program.specs.Placing.{IsPlaceOf, ArePlaces};
 ghost use Rattle.mcs_reduct.specs.Plain.{has_one_head};
-ghost use Rattle.mcs_grounded.specs.Parts.{IsNormalRule, DoesFire, HaveHeadsOf, HaveBodiesOf};
+ghost use Rattle.mcs_grounded.specs.Parts.{IsNormalRule, HaveHeadsOf, HaveBodiesOf};
 ghost use Rattle.mcs_grounded.specs.Parts.{IsLeastModel, IsDependent, AreNames};
 
 use crate::placed::NormalRule;
@@ -53,14 +53,6 @@ impl NormalRule {
             neg: places_of(atoms, &rule.neg),
         }
     }
-
-    /// Whether the reduct by the places in `against` has the rule, and its positive body lies
-    /// within `places`.
-    fn fires(&self, against: Vars, places: Vars) -> bool
-        ensures { IsTrue result ↔ DoesFire against places self.now }
-    {
-        !self.neg.meets(against) && self.pos.within(places)
-    }
 }
 
 /// The rules, by the places of their atoms, in order.
@@ -82,14 +74,14 @@ pub(crate) fn normal_rules(
     Ok(placed)
 }
 
-/// The places with the heads of the rules of the reduct by `against` that they support, one after
-/// the other.
+/// The places with the heads of the rules that they support, one after the other. Only those rules
+/// count that the reduct by the places in `against` has.
 fn with_heads(rules: &[NormalRule], against: Vars, places: Vars) -> Vars
     ensures { HaveHeadsOf rules.now rules.now against places result }
 {
     let mut more = places;
     for rule in rules {
-        if rule.fires(against, more) {
+        if !rule.neg.meets(against) && rule.pos.within(more) {
             more = more.with(rule.head);
         }
     }

@@ -1,17 +1,19 @@
 //! The answer sets of a program that show a part of a state, told apart by the atoms of its cone.
 
-ghost use Rattle.std.specs.Prelude.{◌≡◌, ◌≤◌, length, map, IfOk};
+ghost use Rattle.std.specs.Prelude.{◌≡◌, ◌<◌, ◌≤◌, length, map, IfOk};
 ghost use Rattle.mcs_system.specs.Seen.{rule_of};
+ghost use Rattle.mcs_system.specs.Views.{at_places};
 ghost use Rattle.mcs_evidence.specs.Programs.{IsInRange};
 ghost use Rattle.mcs_grounded.specs.Parts.{IsConeOf, IsProgramAt, IsProgramContext, IsSetUp};
 ghost use Rattle.mcs_grounded.specs.Views.{AreConeSets, AreConeViews, AreShown, names_there};
 
-use crate::cone::{Cone, numbers_at};
-use crate::derivation::Derivation;
-use mcs_asking::{heads_into, parts_at};
+use crate::basis::Derivation;
+use crate::cone::Cone;
+use crate::places::numbers_at;
+use mcs_asking::{at_places, heads_into};
 use mcs_base::{Memory, Vars};
 use mcs_program::list_answer_sets;
-use mcs_system::{Kb, Name, ProgRule, System, names_of};
+use mcs_system::{Kb, Name, ProgRule, names_of};
 use std::alloc::Global;
 
 /// The names at the places, in order.
@@ -28,9 +30,9 @@ fn names_at<'a>(alloc: Global, atoms: &'a [Name], places: Vars) -> Result<Vec<&'
     Ok(names)
 }
 
-/// The sets of atoms of the cone that the answer sets of the program have, with the heads of the
-/// rules that apply in the state.
-fn cone_sets(
+/// The answer sets of the program, with the heads of the rules that apply in the state, as views of
+/// the atoms of the cone.
+fn answer_views(
     alloc: Global,
     derivation: &Derivation<'_>,
     context: u32,
@@ -40,42 +42,41 @@ fn cone_sets(
     requires set_up { IsSetUp derivation.now }
     requires program { IsProgramAt derivation.now.system.now context (map rule_of rules.now) }
     requires cone { IsConeOf derivation.now.system.now context (map rule_of rules.now) cone.now }
-    ensures { IfOk result (λ sets. AreConeSets derivation.now.system.now derivation.now.state
-        context (map rule_of rules.now) cone.now.places sets.items) }
+    ensures { IfOk result (λ views. AreConeSets derivation.now.system.now derivation.now.state
+        context (map rule_of rules.now) cone.now.places
+        (map (at_places cone.now.places) views.items)) }
 {
     let system = derivation.system;
     let atoms = system.atoms_of(context);
-    let applying = system.applicable_rules(derivation.state);
-    let heads = heads_into(alloc, system, context, applying)?;
+    let heads = heads_into(alloc, system, context, derivation.goal)?;
     let facts = names_of(alloc, &heads)?;
     let asked = names_at(alloc, atoms, cone.places)?;
-    let views = list_answer_sets(alloc, rules, &facts, &asked, atoms)?;
-    parts_at(alloc, cone.places, &views)
+    list_answer_sets(alloc, rules, &facts, &asked, atoms)
 }
 
-/// Those of the sets of atoms that show these variables.
-fn shown(alloc: Global, cone: &Cone, sets: &[Vars], variables: Vars) -> Result<Vec<Vars>, Memory>
-    ensures { IfOk result (λ found. AreShown cone.now variables sets.now found.items) }
+/// The sets of places of the views of the cone's atoms, of those that show the state's part of the
+/// context.
+fn shown(
+    alloc: Global,
+    derivation: &Derivation<'_>,
+    context: u32,
+    places: Vars,
+    views: &[Vars],
+) -> Result<Vec<Vars>, Memory>
+    requires { context < length derivation.now.system.now.contexts }
+    ensures { IfOk result (λ found. AreShown derivation.now context
+        (map (at_places places) views.now) found.items) }
 {
+    let variables = derivation.system.vars_of(context);
+    let part = derivation.state.common(variables);
     let mut found = Vec::new(alloc);
-    for set in sets {
-        if numbers_at(&cone.reads, *set) == variables {
-            found.push(*set)?;
+    for view in views {
+        let set = at_places(places, *view);
+        if numbers_at(&derivation.places.reads, variables.members(), set) == part {
+            found.push(set)?;
         }
     }
     Ok(found)
-}
-
-/// The rules of the context's program.
-fn program_of(system: &System, context: u32) -> &[ProgRule]
-    requires { IsProgramContext system.now context }
-    ensures { IsProgramAt system.now context (map rule_of result.now) }
-{
-    match &system.contexts()[context as usize].kb {
-        Kb::Classical(_) => unreachable!(),
-        Kb::DefaultTheory(_) => unreachable!(),
-        Kb::Program(rules) => rules,
-    }
 }
 
 /// The sets of atoms of the cone that the answer sets of the context's program have, with the heads
@@ -90,19 +91,10 @@ pub(crate) fn cone_views(
     requires program { IsProgramContext derivation.now.system.now context }
     ensures { IfOk result (λ views. AreConeViews derivation.now context views.items) }
 {
-    let system = derivation.system;
     let cone = &derivation.cones[context as usize];
-    let sets = cone_sets(
-        alloc,
-        derivation,
-        context,
-        program_of(system, context),
-        cone,
-    )?;
-    shown(
-        alloc,
-        cone,
-        &sets,
-        derivation.state.common(system.vars_of(context)),
-    )
+    let Kb::Program(rules) = &derivation.system.contexts()[context as usize].kb else {
+        unreachable!()
+    };
+    let views = answer_views(alloc, derivation, context, rules, cone)?;
+    shown(alloc, derivation, context, cone.places, &views)
 }

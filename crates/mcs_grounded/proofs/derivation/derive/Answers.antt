@@ -32,8 +32,8 @@ returns-then-eq-clause-derived c =
     let m = d.system.now in
     let believed = c.in_ok-believed.believed in
     let applied : ℕ = common (applicable m (common believed d.state)) (applicable m d.state) in
-    let applied_is : c.common-in-loop-believed.result ≡ applied = c.common-in-loop-believed.ensures ∙ ap (λ (x : ℕ). common x c.applicable_rules-goal.result) (c.applicable_rules-acting.ensures ∙ ap (applicable m) c.common.ensures)
-    ∙ ap (common (applicable m (common believed d.state))) c.applicable_rules-goal.ensures in
+    let applied_is : c.common-in-loop-believed.result ≡ applied = c.common-in-loop-believed.ensures ∙ ap (λ (x : ℕ). common x d.goal) (c.applicable_rules-acting.ensures ∙ ap (applicable m) c.common.ensures)
+    ∙ ap (common (applicable m (common believed d.state))) d.right in
     let none : minus applied c.loop-believed.rules ≡ 0 = ap (λ (x : ℕ). minus x c.loop-believed.rules) (sym applied_is) ∙ sym c.minus-fresh.ensures ∙ eqb-true c.minus-fresh.result c.empty.result (sym c.eq.ensures ∙ c.if-eq.true) ∙ c.empty.ensures in
     record {
       within = c.loop-believed.invariant.within;
@@ -54,8 +54,8 @@ loop-believed-preserved c =
     let before = c.loop-believed.invariant in
     let have = have_cones m d.cones.now c.requires.derivation.set_up.cones in
     let applied : ℕ = common (applicable m (common believed d.state)) (applicable m d.state) in
-    let applied_is : c.common-in-loop-believed.result ≡ applied = c.common-in-loop-believed.ensures ∙ ap (λ (x : ℕ). common x c.applicable_rules-goal.result) (c.applicable_rules-acting.ensures ∙ ap (applicable m) c.common.ensures)
-    ∙ ap (common (applicable m (common believed d.state))) c.applicable_rules-goal.ensures in
+    let applied_is : c.common-in-loop-believed.result ≡ applied = c.common-in-loop-believed.ensures ∙ ap (λ (x : ℕ). common x d.goal) (c.applicable_rules-acting.ensures ∙ ap (applicable m) c.common.ensures)
+    ∙ ap (common (applicable m (common believed d.state))) d.right in
     let adds : Within fresh applied = (λ k h. (in_minus applied rules k (subst (λ (x : ℕ). has x k ≡ true) (c.minus-fresh.ensures ∙ ap (λ (x : ℕ). minus x rules) applied_is) h)).0) in
     record {
       found = c.in_ok-believed.ensures.found;
@@ -73,7 +73,7 @@ loop-believed-smaller c =
     let target = applicable m d.state in
     let within : Within fresh (minus target rules) = (λ k h. (
     let (inside, out) = in_minus c.common-in-loop-believed.result rules k (subst (λ (x : ℕ). has x k ≡ true) c.minus-fresh.ensures h) in
-    let known : has c.applicable_rules-goal.result k ≡ true = (in_common c.applicable_rules-acting.result c.applicable_rules-goal.result k (subst (λ (x : ℕ). has x k ≡ true) c.common-in-loop-believed.ensures inside)).1 in
-    has-minus target rules k ∙ and_from (has target k) (not (has rules k)) (subst (λ (x : ℕ). has x k ≡ true) c.applicable_rules-goal.ensures known) (not_from_false (has rules k) out))) in
+    let known : has d.goal k ≡ true = (in_common c.applicable_rules-acting.result d.goal k (subst (λ (x : ℕ). has x k ≡ true) c.common-in-loop-believed.ensures inside)).1 in
+    has-minus target rules k ∙ and_from (has target k) (not (has rules k)) (subst (λ (x : ℕ). has x k ≡ true) d.right known) (not_from_false (has rules k) out))) in
     subst (λ (x : ℕ). size (minus target x) < size (minus target rules)) (sym c.union-rules.ensures)
     (fewer_to_add target rules fresh within (λ e. true≢false (sym (eq-eqb fresh c.empty.result (e ∙ sym c.empty.ensures)) ∙ (sym c.eq.ensures ∙ c.if-eq.false))))

@@ -1,18 +1,28 @@
-use Rattle.std.proofs.Common.{◌∙◌, ◌+◌, ℕ, List, sym, ap, subst, take, arith}
+use Rattle.std.proofs.Common.{◌∙◌, ◌+◌, ℕ, List, length, sym, ap, subst, take, arith}
 use Rattle.std.proofs.lemmas.List.{take_all}
 use Rattle.mcs_sets.specs.Orders.{StateBefore}
 use Rattle.mcs_base.specs.Listings.{IsAmong, IsListing}
 use Rattle.mcs_base.proofs.ListingLemmas.{kept_more, left_out}
 use Rattle.mcs_reduct.specs.Grounded.{IsGroundedState}
 use Rattle.mcs_reduct.proofs.GroundedLaws.{grounded_states}
-use Rattle.mcs_grounded.specs.Parts.{AreAllFound, AreConesOf}
+use Rattle.mcs_grounded.specs.Parts.{AreAllFound, AreConesOf, cones_of}
+use Rattle.mcs_grounded.specs.Searches.{IsAnswer, AreFirstBounds}
+use Rattle.mcs_grounded.specs.declared.cone.Cone.{Cone}
+use Rattle.mcs_grounded.proofs.Candidates.{can_begin, not_grounded_state}
+use Rattle.mcs_system.proofs.ValidLemmas.{few_contexts}
 use Rattle.mcs_grounded.proofs.Loops.{own_of, written_back}
 use Rattle.mcs_grounded.proofs.listing.grounded_among.Goals.{then-branch+in_ok-push, else-branch}
 use Rattle.mcs_grounded.proofs.listing.grounded_among.Goals as goal
 
 -- each state is a projected equilibrium
-pub is_grounded-requires-clause-equilibrium : goal.is_grounded-requires-clause-equilibrium
-is_grounded-requires-clause-equilibrium c = (c.requires.states.exactly c.state-item.result).0 (own_of c.args.states.now c.loop-state.state-index c.state-item.result c.loop-state-test.true c.state-item.is)
+pub of-bounds-requires : goal.of-bounds-requires
+of-bounds-requires c = omega (arith, ap length c.deref.ensures.value, c.in_ok-cones.ensures.one_each, few_contexts c.args.system.now c.in_ok-cones.ensures.valid)
+
+pub search-requires-clause-bounds : goal.search-requires-clause-bounds
+search-requires-clause-bounds c = can_begin _ c.of-bounds.result
+    (record { plain = c.requires.plain; places = record { valid = c.heads_placed.ensures.valid; heads = c.heads_placed.ensures.placed; reads = c.reads_placed.ensures }; cones = subst (AreConesOf c.args.system.now) (sym c.deref-in-loop-state.ensures.value) c.in_ok-cones.ensures })
+    (subst (λ (cones : List Cone). AreFirstBounds cones c.of-bounds.result) (c.deref.ensures.value ∙ sym c.deref-in-loop-state.ensures.value) c.of-bounds.ensures)
+    ((c.requires.states.exactly c.state-item.result).0 (own_of c.args.states.now c.loop-state.state-index c.state-item.result c.loop-state-test.true c.state-item.is))
 
 pub loop-state-init : goal.loop-state-init
 loop-state-init c = record {
@@ -28,12 +38,13 @@ loop-state-preserved c =
     let state = c.state-item.result in
     let before = c.loop-state.invariant in
     record {
-      found = subst (AreAllFound m) (sym (written_back c.loop-state.found.len c.loop-state.found.items c.is_grounded.new.found (omega (arith, c.is_grounded.auto.found)) (omega (arith, c.loop-state.found.ok)))) c.in_ok-is_grounded.ensures.found;
+      found = subst (AreAllFound m) (sym (written_back c.loop-state.found.len c.loop-state.found.items c.search.new.found (omega (arith, c.search.auto.found)) (omega (arith, c.loop-state.found.ok)))) c.in_ok-search.ensures.found;
       grounded = elim c.if-branch.branch [
         | then-branch+in_ok-push w ↦ subst (IsListing (λ y. IsAmong y (take (k + 1) states) × IsGroundedState m y) StateBefore) (sym (ap (λ v. v.items) w.grounded-is ∙ w.in_ok-push.ensures.items))
-            (kept_more StateBefore (IsGroundedState m) states k state c.loop-state-test.true c.state-item.is c.requires.states.ascending c.loop-state.grounded.items (c.in_ok-is_grounded.ensures.yes w.if-branch.true) before.grounded)
+            (kept_more StateBefore (IsGroundedState m) states k state c.loop-state-test.true c.state-item.is c.requires.states.ascending c.loop-state.grounded.items (subst (IsAnswer m state (cones_of c.deref-in-loop-state.result.now) c.of-bounds.result) w.if-branch.true c.in_ok-search.ensures.answer) before.grounded)
         | else-branch w ↦ subst (IsListing (λ y. IsAmong y (take (k + 1) states) × IsGroundedState m y) StateBefore) (sym (ap (λ v. v.items) w.grounded-is))
-            (left_out StateBefore (IsGroundedState m) states k state c.loop-state-test.true c.state-item.is c.loop-state.grounded.items (c.in_ok-is_grounded.ensures.no w.if-branch.false) before.grounded)
+            (left_out StateBefore (IsGroundedState m) states k state c.loop-state-test.true c.state-item.is c.loop-state.grounded.items (not_grounded_state m c.deref-in-loop-state.result.now c.of-bounds.result (subst (λ (cones : List Cone). AreFirstBounds cones c.of-bounds.result) (c.deref.ensures.value ∙ sym c.deref-in-loop-state.ensures.value) c.of-bounds.ensures)
+            state (subst (IsAnswer m state (cones_of c.deref-in-loop-state.result.now) c.of-bounds.result) w.if-branch.false c.in_ok-search.ensures.answer)) before.grounded)
       ];
     }
 
@@ -51,8 +62,8 @@ returns c =
 pub bounds-states-state-index : goal.bounds-states-state-index
 bounds-states-state-index c = c.loop-state-test.true
 
-pub is_grounded-requires-clause-derivation : goal.is_grounded-requires-clause-derivation
-is_grounded-requires-clause-derivation c = record {
-  set_up = record { plain = c.requires.plain; cones = subst (AreConesOf c.args.system.now) (sym c.deref.ensures.value) c.in_ok-cones.ensures };
+pub search-requires-clause-derivation : goal.search-requires-clause-derivation
+search-requires-clause-derivation c = record {
+  set_up = record { plain = c.requires.plain; places = record { valid = c.heads_placed.ensures.valid; heads = c.heads_placed.ensures.placed; reads = c.reads_placed.ensures }; cones = subst (AreConesOf c.args.system.now) (sym c.deref-in-loop-state.ensures.value) c.in_ok-cones.ensures };
   found = rw c.deref_mut.ensures.value c.loop-state.invariant.found;
 }

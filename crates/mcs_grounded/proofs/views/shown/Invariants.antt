@@ -1,6 +1,7 @@
-use Rattle.std.proofs.Common.{take}
+use Rattle.std.proofs.Common.{map, take}
+use Rattle.mcs_system.specs.Views.{at_places}
 use Rattle.mcs_grounded.specs.Views.{AreShown}
 use Rattle.mcs_grounded.proofs.views.shown.Given as goal
 
-abbrev pub invariant-loop-set : goal.invariant-loop-set
-invariant-loop-set l = AreShown l.cone l.variables (take l.set-index l.sets) l.found.items
+abbrev pub invariant-loop-view : goal.invariant-loop-view
+invariant-loop-view l = AreShown l.derivation l.context (map (at_places l.places) (take l.view-index l.views)) l.found.items

@@ -1,10 +1,11 @@
-use Rattle.std.proofs.Common.{◌≡◌, take, map}
+use Rattle.std.proofs.Common.{◌≡◌, ℕ, ◌<◌, ◌≤◌, get_or, length}
 use Rattle.mcs_grounded.specs.Parts.{cones_of}
-use Rattle.mcs_grounded.specs.declared.cone.Cone.{Cone}
 use Rattle.mcs_grounded.proofs.bounds.Bounds.of.Given as goal
 
-abbrev pub invariant-loop-cone : goal.invariant-loop-cone
-invariant-loop-cone l = record {
-  certain : l.certain.items ≡ map (λ (c : Cone). 0) (take l.cone-index l.cones);
-  possible : l.possible.items ≡ cones_of (take l.cone-index l.cones);
+-- the places of the cones before are there, and nothing behind them
+abbrev pub invariant-loop-context : goal.invariant-loop-context
+invariant-loop-context l = record {
+  long : length l.possible ≡ 64;
+  before : (i : ℕ) → i < l.context → get_or l.possible i 0 ≡ get_or (cones_of l.cones) i 0;
+  behind : (i : ℕ) → l.context ≤ i → get_or l.possible i 0 ≡ 0;
 }

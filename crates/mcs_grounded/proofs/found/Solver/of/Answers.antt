@@ -14,5 +14,5 @@ clauses-requires c =
     subst (λ (ns : List Name). AreOver ns (map formula_of c.args.formulas.now)) (sym c.atoms_of.ensures.value) (formulas_over c.args.system.now c.args.context (map formula_of c.args.formulas.now) c.requires)
 
 pub returns : goal.returns
-returns c = solver_made c.args.system.now c.args.context (map formula_of c.args.formulas.now) c.requires (record { clauses = c.in_ok-clauses.clauses; found = c.new.result }) c.atoms_of.result.now c.atoms_of.ensures.value
-    (c.in_ok-clauses.ensures ∙ c.in_ok-list.ensures) c.new.ensures
+returns c = solver_made c.args.system.now c.args.context (map formula_of c.args.formulas.now) c.requires (record { clauses = c.in_ok-clauses.clauses; found = c.new.result; told = c.new-2.result }) c.atoms_of.result.now c.atoms_of.ensures.value
+    (c.in_ok-clauses.ensures ∙ c.in_ok-list.ensures) c.new.ensures c.new-2.ensures.empty
