@@ -126,8 +126,3 @@ settles_none_below m level ahead no_less none pair diagnosis settled = none pair
   | inl (weight, least, cheap) ↦ inl (weight, least, (let more : (level + 1) * weight ≤ (ahead + 1) * weight = mul-le (level + 1) weight (ahead + 1) weight (omega (arith, no_less)) (omega arith) in omega (arith, more, cheap)))
   | inr all ↦ inr (omega (arith, all, no_less))
 ])
-
--- what is told at a level is so at each below it
-pub settling_lower : (m : System) (level ahead : ℕ) (told : Settling) → level ≤ ahead → IsSettling m ahead told → IsSettling m level told
-settling_lower m level ahead (Settled pairs) no_less all = all
-settling_lower m level ahead (NoneUpTo bound) no_less (above, none) = (omega (arith, no_less, above), none)

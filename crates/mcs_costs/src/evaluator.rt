@@ -14,7 +14,12 @@ pub enum Settling {
     /// These are all of them, in the order of pairs.
     Settled(Vec<Marks>),
     /// No level up to this one settles them.
-    NoneUpTo(u32),
+    NoneUpTo {
+        level: u32,
+        /// Diagnoses with at most as many marks as the questions were asked for: the cheapest of
+        /// those that are known, or none.
+        so_far: Vec<Marks>,
+    },
 }
 
 /// An evaluator that can tell the cheapest diagnoses without the other minimal ones, of which there
@@ -32,7 +37,8 @@ pub trait CheapestEvaluator: Evaluator {
     /// rule, or if there are diagnoses and the level is at least the number of rules.
     ///
     /// Otherwise `NoneUpTo` a level, this one or a higher one, of which neither holds. If this is
-    /// at least the number of rules, there is no diagnosis.
+    /// at least the number of rules, there is no diagnosis. `so_far` are diagnoses with at most
+    /// `level` marks, which may be shown while contexts still have few answers.
     fn cheapest(&mut self, alloc: Global, level: u32) -> Result<Settling, Halt>
         requires { (Self.stands self.old).halted ≡ false }
         ensures told { IfOk result (IsSettling (Self.stands self.old).system level) }
