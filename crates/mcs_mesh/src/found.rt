@@ -97,9 +97,9 @@ impl Found {
     }
 
     /// The cheapest diagnoses, in the order of pairs, if they are known from the questions of the
-    /// level; otherwise a level, this one or a higher one, of which none settles a diagnosis. They
-    /// are taken of the minimal diagnoses, unless these are too many. All questions of the level
-    /// `done`, which is no less, were asked.
+    /// level; otherwise a level, this one or a higher one, of which none settles a diagnosis, and
+    /// the cheapest of those that are known. They are taken of the minimal diagnoses, unless these
+    /// are too many. All questions of the level `done`, which is no less, were asked.
     pub(crate) fn cheapest<N: NodeList>(
         &mut self,
         alloc: Global,
@@ -120,7 +120,7 @@ impl Found {
         }
         if is_reached(self.level, level) {
             let found = self.level.unwrap_or(level);
-            return settling_among(alloc, plan.system(), &self.pairs, found);
+            return settling_among(alloc, plan.system(), &self.pairs, found, level);
         }
         cheapest_of(alloc, plan, nodes, done, level)
     }
@@ -156,7 +156,7 @@ impl Found {
 }
 
 /// Those of the sets of marks that have at most so many.
-fn few_of(alloc: Global, pairs: &[Marks], level: u32) -> Result<Vec<Marks>, Memory>
+pub(crate) fn few_of(alloc: Global, pairs: &[Marks], level: u32) -> Result<Vec<Marks>, Memory>
     requires { IsAscending PairBefore pairs.now }
     ensures { IfOk result (λ few. IsListing (λ p. IsAmong p pairs.now × (size p ≤ level))
         PairBefore few.items) }

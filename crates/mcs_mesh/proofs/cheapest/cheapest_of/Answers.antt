@@ -1,6 +1,5 @@
 use Rattle.std.proofs.Common.{◌<◌, List, ℕ, subst, sym}
 use Rattle.mcs_system.specs.Plain.{System}
-use Rattle.mcs_costs.proofs.StopLemmas.{settling_lower}
 use Rattle.mcs_elimination.specs.Eliminating.{AreDear, AreDearMarks}
 use Rattle.mcs_elimination.proofs.DearMarks.{dear_marks_are_dear}
 use Rattle.mcs_mesh.specs.Rounds.{HasFewRules}
@@ -16,4 +15,4 @@ cheapest_at-requires g c =
     (k, dear, high, subst (λ (m : System). AreDear m ahead dear) c.system-2.ensures (dear_marks_are_dear c.system-2.result.now ahead dear (subst (λ (sets : List ℕ). AreDearMarks c.system-2.result.now ahead sets) (sym c.deref.ensures.value) c.in_ok-dear.ensures)), given)
 
 pub returns : goal.returns
-returns g c = settling_lower c.args.plan.now c.args.level c.level_ahead-ahead.result c.settling.result c.level_ahead-ahead.ensures.no_less (c.settling.ensures c.args.plan.now c.in_ok-cheapest.ensures)
+returns g c = c.settling.ensures c.args.plan.now c.args.level c.level_ahead-ahead.ensures.no_less (rw c.new.ensures.items tt) c.in_ok-cheapest.ensures
