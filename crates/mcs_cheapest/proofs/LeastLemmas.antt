@@ -23,13 +23,16 @@ use Rattle.mcs_states.specs.Calls.{CanBegin}
 use Rattle.mcs_states.specs.Evaluators.{EvaluatorState, KeepsRest, HasDone, HasHalted}
 use Rattle.mcs_states.specs.declared.halt.Halt.{Halt}
 use Rattle.mcs_states.proofs.Causes.{cause_before, rest_kept, rest_same, told}
+use Rattle.mcs_diagnosis.specs.declared.diagnosis.Diagnosis as shown
+use Rattle.mcs_diagnosis.specs.Diagnoses.{ShowsFirstState}
+use Rattle.mcs_costs.specs.Settling.{AreDiagnosesUpTo}
 use Rattle.mcs_costs.specs.Costs.{cost, weights, AreCheapest, IsCheapest, IsLeastWeight, SettlesCost, SettlesNone, IsStopLevel, IsUpToStop}
 use Rattle.mcs_costs.proofs.CostLemmas.{cost-none, least_weight_some}
 use Rattle.mcs_costs.proofs.ExistLemmas.{cheapest_exists, least_exists, stop_exists}
 use Rattle.mcs_costs.proofs.StopLemmas.{cheapest_few, settles_none_below, stop_is_one, stop_is_quotient, stop_without}
 use Rattle.mcs_system.specs.declared.bridge.Bridge as code
 use Rattle.mcs_cheapest.specs.Found.{HasBrokenOff, IsLeastCost}
-use Rattle.mcs_cheapest.specs.Least.{HasReached, HasTold, IsAsking, IsLooking, IsMostMarks}
+use Rattle.mcs_cheapest.specs.Least.{CanShow, HasReached, HasTold, IsAsking, IsLooking, IsMostMarks}
 use Rattle.mcs_cheapest.specs.Searching.{HasStopped, IsDoneBefore, IsTaken}
 use Rattle.mcs_cheapest.proofs.CountLemmas.{beyond_after, unanswered_after}
 use Rattle.mcs_cheapest.proofs.FoundLemmas.{done_still}
@@ -219,32 +222,46 @@ module _ (first e : EvaluatorState) (level : ℕ) (pairs : List ℕ) (t : HasTol
     few = all_weaker (λ p. size p ≤ most) (λ p. size p ≤ max level most) (λ p few. omega (arith, few)) pairs are.all;
   }
 
--- ---- one is shown
-module _ (first e : EvaluatorState) (level : ℕ) (pairs : List ℕ) (r : HasReached first e level pairs) (p : ℕ) (among : IsAmong p pairs) where
-  few_marks : size p ≤ level
-  few_marks = all_among (λ q. size q ≤ level) pairs p r.few among
-
-  pub reached_diagnosis : (n : System) → first.system ≡ n → IsDiagnosis n p
-  reached_diagnosis n same = subst (λ (m : System). IsDiagnosis m p) same ((r.told.listed.exactly p).0 among).one
-
-  -- the call for it halted
-  pub reached_broke_off : (a e' : EvaluatorState) (halt : Halt) → KeepsRest first a → HasHalted a e' (size p) halt → HasBrokenOff first e' halt
-  reached_broke_off a e' halt kept h = record {
+-- ---- one is shown, by a call of a level that was taken
+module _ (first a e' : EvaluatorState) (level p : ℕ) (few : size p ≤ level) (asking : IsAsking first a (level + 1)) (kept : KeepsRest a e') where
+  -- the call halted
+  pub showing_breaks_off : (halt : Halt) → HasHalted a e' (size p) halt → HasBrokenOff first e' halt
+  showing_breaks_off halt h = record {
     level = size p;
-    up_to_stop = λ stop is. (let up = told_up_to first e level pairs r.told stop is in omega (arith, few_marks, up));
-    cause = cause_before first a kept (size p) halt h.cause;
+    up_to_stop = λ stop is. (let up = (asking.taken level (omega arith)).up_to_stop stop is in omega (arith, few, up));
+    cause = cause_before first a asking.rest (size p) halt h.cause;
     told = told a e' (size p) halt h;
-    within = λ k less. (r.told.asking.taken k (omega (arith, less, few_marks))).within;
-    answered = λ k i x less. (r.told.asking.taken k (omega (arith, less, few_marks))).answered i x;
+    within = λ k less. (asking.taken k (omega (arith, less, few))).within;
+    answered = λ k i x less. (asking.taken k (omega (arith, less, few))).answered i x;
   }
 
   -- it was done, and the level is still the greatest one done
-  pub asking_still : (a e' : EvaluatorState) → IsAsking first a (level + 1) → HasDone a e' (size p) → KeepsRest a e' → IsAsking first e' (level + 1)
-  asking_still a e' asking h kept =
+  pub asking_still : HasDone a e' (size p) → IsAsking first e' (level + 1)
+  asking_still h =
       let before = subst (IsDoneBefore a) (let next : level + 1 ≡ suc level = omega arith in next) asking.done in
       record {
         going = h.settled.going;
         rest = rest_kept first a e' asking.rest kept;
-        done = done_next e' level (done_still a e' level (size p) before.0 few_marks h.level_done) h.settled;
+        done = done_next e' level (done_still a e' level (size p) before.0 few h.level_done) h.settled;
         taken = asking.taken;
       }
+
+-- ---- the diagnoses that can be shown
+-- the cheapest ones
+pub cheapest_shown : (first e : EvaluatorState) (level : ℕ) (pairs : List ℕ) (before : List shown.Diagnosis) (n : System) → first.system ≡ n → HasReached first e level pairs → AllByRecursion (ShowsFirstState n) before → CanShow n e pairs before
+cheapest_shown first e level pairs before n same r shown = record {
+  can = record { same = r.told.asking.rest.system ∙ same; going = r.told.asking.going };
+  diagnoses = all_from_among (IsDiagnosis n) pairs (λ p among. subst (λ (m : System). IsDiagnosis m p) same ((r.told.listed.exactly p).0 among).one);
+  known = shown;
+}
+
+pub cheapest_few_marks : (first e : EvaluatorState) (level : ℕ) (pairs : List ℕ) (n : System) → first.system ≡ n → HasReached first e level pairs → AreDiagnosesUpTo n level pairs
+cheapest_few_marks first e level pairs n same r = all_from_among (λ p. IsDiagnosis n p × (size p ≤ level)) pairs (λ p among. (subst (λ (m : System). IsDiagnosis m p) same ((r.told.listed.exactly p).0 among).one, all_among (λ q. size q ≤ level) pairs p r.few among))
+
+-- those that a level tells
+pub known_shown : (first e : EvaluatorState) (level next : ℕ) (pairs : List ℕ) (before : List shown.Diagnosis) (n : System) → first.system ≡ n → IsAsking first e next → AreDiagnosesUpTo n level pairs → AllByRecursion (ShowsFirstState n) before → CanShow n e pairs before
+known_shown first e level next pairs before n same asking known shown = record {
+  can = record { same = asking.rest.system ∙ same; going = asking.going };
+  diagnoses = all_weaker (λ p. IsDiagnosis n p × (size p ≤ level)) (IsDiagnosis n) (λ p d. d.0) pairs known;
+  known = shown;
+}

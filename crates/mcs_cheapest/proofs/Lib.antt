@@ -4,3 +4,4 @@ pub mod SearchLemmas
 pub mod FoundLemmas
 pub mod ListedLaws
 pub mod LeastLemmas
+pub mod ShowingLemmas

@@ -5,12 +5,13 @@ ghost use Rattle.mcs_states.specs.Calls.{CanBegin};
 ghost use Rattle.mcs_states.specs.Evaluators.{EvaluatorState};
 ghost use Rattle.mcs_costs.specs.Costs.{AreCheapest, IsStopLevel, IsUpToStop};
 ghost use Rattle.mcs_cheapest.specs.Found.{HasSearched, IsLeastCost, Searches};
-ghost use Rattle.mcs_cheapest.specs.Least.{HasReached, HasTold, IsAsking, IsMostMarks};
+ghost use Rattle.mcs_cheapest.specs.Least.{HasReached, HasTold, IsAsking, IsMostMarks, IsTold};
 
 use crate::cheapest::Cheapest;
-use mcs_base::{Marks, Pair};
+use crate::showing::show_each;
+use mcs_base::Marks;
 use mcs_costs::{CheapestEvaluator, Settling, cost, least_weight};
-use mcs_diagnosis::show;
+use mcs_diagnosis::Diagnosis;
 use mcs_states::Halt;
 use mcs_system::System;
 use std::alloc::Global;
@@ -19,6 +20,9 @@ use std::alloc::Global;
 /// them alone: the other minimal ones, of which there may be many, are not made. The evaluator has
 /// to be one of this system that has done no level yet. The levels that are taken are the same, and
 /// each halt has the same causes.
+///
+/// At each level the cheapest of the diagnoses that are known are shown, since contexts have fewer
+/// answers then than at the level that settles them.
 pub fn list_least<E: CheapestEvaluator>(
     alloc: Global,
     evaluator: &mut E,
@@ -28,12 +32,12 @@ pub fn list_least<E: CheapestEvaluator>(
     ensures { Searches (HasSearched (E.stands evaluator.old) (E.stands evaluator.new))
         (E.stands evaluator.old) (E.stands evaluator.new) result }
 {
-    let Told { pairs, level } = least_pairs(alloc, evaluator, system)?;
-    let mut found = Vec::new(alloc);
-    for marks in &pairs {
-        let shown = show(alloc, evaluator, system, Pair::new(*marks))?;
-        found.push(shown)?;
-    }
+    let Told {
+        pairs,
+        level,
+        shown,
+    } = least_pairs(alloc, evaluator, system)?;
+    let found = show_each(alloc, evaluator, system, &pairs, &shown)?;
     take_rest(alloc, evaluator, level, stop_level(system, &pairs))?;
     Ok(Cheapest {
         found,
@@ -42,11 +46,12 @@ pub fn list_least<E: CheapestEvaluator>(
     })
 }
 
-/// The cheapest diagnoses, and a level up to which all were taken.
+/// The cheapest diagnoses, a level up to which all were taken, and diagnoses that were shown before.
 #[derive(Drop)]
 struct Told {
     pairs: Vec<Marks>,
     level: u32,
+    shown: Vec<Diagnosis>,
 }
 
 /// The cheapest diagnoses, once so many levels were taken that none of them has more marks. At this
@@ -57,15 +62,20 @@ fn least_pairs<E: CheapestEvaluator>(
     system: &System,
 ) -> Result<Told, Halt>
     requires { CanBegin system.now (E.stands evaluator.old) }
-    ensures { Searches (λ told. HasReached (E.stands evaluator.old) (E.stands evaluator.new)
-        told.level told.pairs.items) (E.stands evaluator.old) (E.stands evaluator.new) result }
+    ensures { Searches (IsTold HasReached (E.stands evaluator.old) (E.stands evaluator.new))
+        (E.stands evaluator.old) (E.stands evaluator.new) result }
 {
-    let Told { pairs, level } = first_told(alloc, evaluator, system)?;
+    let Told {
+        pairs,
+        level,
+        shown,
+    } = first_told(alloc, evaluator, system)?;
     let most = most_marks(&pairs);
     take_rest(alloc, evaluator, level, most)?;
     Ok(Told {
         pairs,
         level: level.max(most),
+        shown,
     })
 }
 
@@ -100,31 +110,46 @@ fn take_rest<E: CheapestEvaluator>(
 }
 
 /// Takes levels from 0 on, until the cheapest diagnoses are told, or the level is that of all
-/// rules. Below the candidate no level settles them: such a level is asked and not searched.
+/// rules. Below the candidate no level settles them: such a level is asked and not searched. At each
+/// level that is searched the cheapest diagnoses so far are shown.
 fn first_told<E: CheapestEvaluator>(
     alloc: Global,
     evaluator: &mut E,
     system: &System,
 ) -> Result<Told, Halt>
     requires { CanBegin system.now (E.stands evaluator.old) }
-    ensures { Searches (λ told. HasTold (E.stands evaluator.old) (E.stands evaluator.new)
-        told.level told.pairs.items) (E.stands evaluator.old) (E.stands evaluator.new) result }
+    ensures { Searches (IsTold HasTold (E.stands evaluator.old) (E.stands evaluator.new))
+        (E.stands evaluator.old) (E.stands evaluator.new) result }
 {
     let last = system.bridges().len() as u32;
     let mut candidate = 0;
+    let mut shown = Vec::new(alloc);
     for level in 0..last + 1 {
         if level < candidate {
             evaluator.reach(alloc, level)?;
             continue;
         }
         match evaluator.cheapest(alloc, level)? {
-            Settling::Settled(pairs) => return Ok(Told { pairs, level }),
-            Settling::NoneUpTo(bound) => candidate = bound.saturating_add(1),
+            Settling::Settled(pairs) => {
+                return Ok(Told {
+                    pairs,
+                    level,
+                    shown,
+                });
+            }
+            Settling::NoneUpTo {
+                level: bound,
+                so_far,
+            } => {
+                candidate = bound.saturating_add(1);
+                shown = show_each(alloc, evaluator, system, &so_far, &shown)?;
+            }
         }
     }
     Ok(Told {
         pairs: Vec::new(alloc),
         level: last,
+        shown,
     })
 }
 

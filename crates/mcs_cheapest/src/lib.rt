@@ -8,6 +8,7 @@ mod laws;
 mod least;
 mod listing;
 mod searching;
+mod showing;
 
 pub use cheapest::Cheapest;
 pub use laws::cheapest_are_listed;
