@@ -1,8 +1,9 @@
-//! Evaluators that keep the first states that were told, so that none of them is found twice.
+//! Evaluators that keep what was told of a system, so that it is not found twice.
 #![tactic(auto)]
 
 mod recalling;
 mod shown;
+mod told;
 
 pub use recalling::Recalling;
-pub use shown::Shown;
+pub use told::Told;

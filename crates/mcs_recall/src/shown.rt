@@ -7,7 +7,7 @@ use mcs_base::{Pair, Vars};
 
 /// A pair of a system, with the first of the projected equilibria of the system that it changes.
 #[derive(Clone, Copy, Debug)]
-pub struct Shown {
+pub(crate) struct Shown {
     pub pair: Pair,
     pub state: Vars,
 }
