@@ -13,9 +13,9 @@ abbrev pub finding_in : Checked → Finding
 finding_in (checked.Valid accepted) = Valid
 finding_in (checked.Fails line reason) = Fails line reason
 
--- of a valid report the oracles hold all answers that are needed, and the first states are right
+-- of a valid report the oracles hold all answers that are needed, and what was told of the system is right
 abbrev pub HoldsAnswers : System → Checked → Type 0
-HoldsAnswers m (checked.Valid accepted) = AreAccepted m accepted.oracles.items accepted.shown.items
+HoldsAnswers m (checked.Valid accepted) = AreAccepted m accepted.oracles.items accepted.told
 HoldsAnswers m (checked.Fails line reason) = Unit {0}
 
 -- the finding is that of these bytes as a report on the system, and what is left of it is as told

@@ -7,8 +7,8 @@ use Rattle.mcs_mesh.specs.Rounds.{evaluator_state_of, AreFresh}
 use Rattle.mcs_report.specs.Solutions.{IsWholeListing}
 use Rattle.mcs_work.specs.declared.task.WorkStop.{WorkStop}
 use Rattle.mcs_work.specs.declared.task.WorkStop.TheVariants.{Write, Spent, Missing, Memory}
-use Rattle.mcs_recall.specs.Shown.{AreShown}
-use Rattle.mcs_recall.specs.declared.shown.Shown.{Shown}
+use Rattle.mcs_recall.specs.Told.{IsToldOf}
+use Rattle.mcs_recall.specs.declared.told.Told.{Told}
 use Rattle.mcs_check.specs.Validity.{IsNeeded}
 
 -- ---- oracles
@@ -26,10 +26,10 @@ pub record AreWholeOracles (m : System) (oracles : List OracleState) : Type 0 wh
   pub own : AreOraclesOf m oracles
   pub hold : HoldAll m oracles
 
--- the same, with first states of the system that its pairs change
-pub record AreAccepted (m : System) (oracles : List OracleState) (states : List Shown) : Type 0 where
+-- the same, with what was told of the system
+pub record AreAccepted (m : System) (oracles : List OracleState) (told : Told) : Type 0 where
   pub whole : AreWholeOracles m oracles
-  pub shown : AreShown m states
+  pub right : IsToldOf m told
 
 -- one of them does
 pub record LackOne (m : System) (oracles : List OracleState) : Type 0 where
@@ -45,12 +45,12 @@ pub record LackOne (m : System) (oracles : List OracleState) : Type 0 where
 abbrev pub start_of : System → List OracleState → EvaluatorState
 start_of m oracles = evaluator_state_of 1 m 4294967295 None None oracles
 
--- the listing was computed, the oracles came back as they were, and first states with them
-pub record IsRelisted (m : System) (oracles : List OracleState) (text : List ℕ) (again : List OracleState) (states : List Shown) : Type 0 where
+-- the listing was computed, the oracles came back as they were, and what was told with them
+pub record IsRelisted (m : System) (oracles : List OracleState) (text : List ℕ) (again : List OracleState) (told : Told) : Type 0 where
   pub whole : IsWholeListing m text
   pub hold : HoldAll m oracles
   pub same : again ≡ oracles
-  pub shown : AreShown m states
+  pub right : IsToldOf m told
 
 -- ---- stops
 abbrev pub IsSpentStop : WorkStop → Type 0

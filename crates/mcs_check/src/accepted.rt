@@ -1,12 +1,12 @@
 //! What is left of a valid report.
 
 use crate::certified::CertifiedOracle;
-use mcs_recall::Shown;
+use mcs_recall::Told;
 
 /// What is left of a valid report: oracles, one for each context, in order, which hold its answers
-/// and of which none was asked, and the first states that they have told of diagnoses.
+/// and of which none was asked, and what they have told of the system.
 #[derive(Drop)]
 pub struct Accepted {
     pub(crate) oracles: Vec<CertifiedOracle>,
-    pub(crate) shown: Vec<Shown>,
+    pub(crate) told: Told,
 }

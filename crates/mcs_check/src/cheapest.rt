@@ -9,9 +9,8 @@ ghost use Rattle.mcs_work.specs.Tasks.{stop_for_line};
 ghost use Rattle.mcs_check.specs.Relisting.{AreAccepted, IsCutOff};
 
 use crate::accepted::Accepted;
-use crate::relisting::mesh_of;
+use crate::relisting::evaluator_of;
 use mcs_ports::{IdleGate, Sink};
-use mcs_recall::Recalling;
 use mcs_system::System;
 use mcs_text::Unwritten;
 use mcs_work::{Task, WorkStop, work};
@@ -19,8 +18,8 @@ use std::alloc::Global;
 use std::sync::Arc;
 
 /// Prints the cheapest diagnoses of the system by what is left of a valid report: oracles of its
-/// contexts that lack no answer on which the listing of its repairs depends, and first states that
-/// are not found again. No solver runs, and no number of questions is too great. So the costs are
+/// contexts that lack no answer on which the listing of its repairs depends, and what they have told
+/// of the system, which is not found again. No solver runs, and no number of questions is too great. So the costs are
 /// what the answers show.
 ///
 /// Stops only if a write fails or for want of memory. A prefix of the listing was then written.
@@ -30,7 +29,7 @@ pub fn cheapest_by<K: Sink>(
     accepted: Accepted,
     sink: &mut K,
 ) -> Result<(), Unwritten>
-    requires { AreAccepted (arc_value system) accepted.oracles.items accepted.shown.items }
+    requires { AreAccepted (arc_value system) accepted.oracles.items accepted.told }
     ensures { (text : List ℕ) × IsCheapestText (arc_value system) text
         × Writes text (K.device sink.old) (K.device sink.new) result }
 {
@@ -48,14 +47,13 @@ fn list_by<K: Sink>(
 ) -> Result<(), Unwritten>
     requires valid { IsValid (arc_value system) }
     requires accepted { AreAccepted (arc_value system) accepted.oracles.items
-        accepted.shown.items }
+        accepted.told }
     ensures { (text : List ℕ) × IsCheapestText (arc_value system) text
         × Writes text (K.device sink.old) (K.device sink.new) result }
 {
     let gate = IdleGate;
-    let Accepted { oracles, shown } = accepted;
-    let mesh = mesh_of(alloc, &system, oracles, &gate)?;
-    let recalling = Recalling::new(mesh, shown);
+    let Accepted { oracles, told } = accepted;
+    let recalling = evaluator_of(alloc, &system, oracles, told, &gate)?;
     let (worked, recalling) = work(alloc, recalling, system, Task::Cheapest, sink);
     drop(recalling);
     match worked {

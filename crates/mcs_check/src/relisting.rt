@@ -5,6 +5,7 @@ ghost use Rattle.std.specs.Arc.{arc_value};
 ghost use Rattle.mcs_system.specs.Faults.{IsValid};
 ghost use Rattle.mcs_report.specs.Solutions.{IsWholeListing};
 ghost use Rattle.mcs_states.specs.Evaluators.{unasked};
+ghost use Rattle.mcs_recall.specs.Told.{IsToldOf};
 ghost use Rattle.mcs_check.specs.Relisting.{AreOraclesOf, IsMissingStop, IsRelisted, IsSpentStop};
 ghost use Rattle.mcs_check.specs.Relisting.{LackOne, start_of};
 
@@ -15,7 +16,7 @@ use mcs_base::Memory;
 use mcs_import::Plan;
 use mcs_mesh::Mesh;
 use mcs_ports::IdleGate;
-use mcs_recall::Recalling;
+use mcs_recall::{Recalling, Told};
 use mcs_system::System;
 use mcs_work::{Task, WorkStop, work};
 use std::alloc::Global;
@@ -39,19 +40,23 @@ fn missing(stop: WorkStop) -> Result<(), Memory>
     }
 }
 
-/// The evaluator of the system by the oracles of its contexts. It may ask as many questions as there
-/// are.
-pub(crate) fn mesh_of<'a>(
+/// The evaluator of the system by the oracles of its contexts, which keeps what it tells and what
+/// was told before. It may ask as many questions as there are.
+pub(crate) fn evaluator_of<'a>(
     alloc: Global,
     system: &Arc<System>,
     oracles: Vec<CertifiedOracle>,
+    told: Told,
     gate: &'a IdleGate,
-) -> Result<Mesh<'a, CertifiedOracle, IdleGate>, Memory>
-    requires { AreOraclesOf (arc_value system.now) oracles.items }
-    ensures { IfOk result (λ mesh. mesh.state ≡ start_of (arc_value system.now) oracles.items) }
+) -> Result<Recalling<Mesh<'a, CertifiedOracle, IdleGate>>, Memory>
+    requires own { AreOraclesOf (arc_value system.now) oracles.items }
+    requires told { IsToldOf (arc_value system.now) told }
+    ensures { IfOk result (λ evaluator. evaluator
+        ≡ start_of (arc_value system.now) oracles.items) }
 {
     let plan = Arc::new(alloc, Plan::of(alloc, system.clone()?)?)?;
-    Mesh::new(alloc, plan, oracles, MOST_QUESTIONS, gate)
+    let mesh = Mesh::new(alloc, plan, oracles, MOST_QUESTIONS, gate)?;
+    Ok(Recalling::new(mesh, system.clone()?, told))
 }
 
 /// The oracles with the same answers, of which none was asked.
@@ -66,7 +71,7 @@ fn renewed(alloc: Global, oracles: Vec<CertifiedOracle>) -> Result<Vec<Certified
 }
 
 /// What is left once the listing was computed: the sink that it was written to, the oracles as they
-/// were before, and the first states that were told.
+/// were before, and what was told of the system.
 #[derive(Drop)]
 pub(crate) struct Relisted<'b> {
     pub(crate) sink: Collecting<'b>,
@@ -75,7 +80,7 @@ pub(crate) struct Relisted<'b> {
 
 /// Computes the whole listing of the system by the oracles of its contexts, or tells `None` if one
 /// of them lacks an answer that is needed. Little memory is needed for it as long as it is as
-/// expected: that of the first states.
+/// expected: that of what is told.
 pub(crate) fn listing_by<'b>(
     alloc: Global,
     system: Arc<System>,
@@ -87,18 +92,17 @@ pub(crate) fn listing_by<'b>(
     ensures { IfOk result (λ listed. MatchOption listed
         (LackOne (arc_value system) oracles.items)
         (λ r. IsRelisted (arc_value system) oracles.items r.sink.text
-        r.accepted.oracles.items r.accepted.shown.items)) }
+        r.accepted.oracles.items r.accepted.told)) }
 {
     let gate = IdleGate;
-    let mesh = mesh_of(alloc, &system, oracles, &gate)?;
-    let recalling = Recalling::new(mesh, Vec::new(alloc));
+    let recalling = evaluator_of(alloc, &system, oracles, Told::new(alloc), &gate)?;
     let mut sink = Collecting::new(alloc, expected);
     let (worked, recalling) = work(alloc, recalling, system, Task::Solve, &mut sink);
     match worked {
         Ok(()) => {
-            let (mesh, shown) = recalling.into_parts();
+            let (mesh, told) = recalling.into_parts();
             let oracles = renewed(alloc, mesh.into_oracles()?)?;
-            let accepted = Accepted { oracles, shown };
+            let accepted = Accepted { oracles, told };
             Ok(Some(Relisted { sink, accepted }))
         }
         Err(stop) => {

@@ -62,7 +62,7 @@ returns-in-Valid c bytes read =
       found = subst (λ (f : Finding). IsReportFinding m bytes f) c.in-Valid.is (c.compared.ensures m bytes read.answers read.spelled enough told.whole);
       holds = record {
         whole = subst (λ (os : List OracleState). AreWholeOracles m os) (sym told.same) (record { own = own_oracles m read.answers c.in_ok-oracles.oracles.items same; hold = told.hold });
-        shown = told.shown;
+        right = told.right;
       };
     }
 

@@ -7,10 +7,13 @@ use Rattle.mcs_ports.specs.Pieces.{Device}
 use Rattle.mcs_work.specs.Work.{IsDone, HasStopped}
 use Rattle.mcs_work.specs.declared.task.Task.TheVariants.{Solve}
 use Rattle.mcs_check.specs.Collected.{Collected}
-use Rattle.mcs_recall.specs.Shown.{AreShown}
+use Rattle.mcs_recall.specs.Told.{IsToldOf}
 use Rattle.mcs_check.specs.Relisting.{start_of}
 use Rattle.mcs_check.proofs.RelistingLemmas.{renewed_same, told_listing, told_stop, told_missing}
 use Rattle.mcs_check.proofs.relisting.listing_by.Goals as goal
+
+pub evaluator_of-requires-clause-told : goal.evaluator_of-requires-clause-told
+evaluator_of-requires-clause-told c = c.new.ensures (arc_value c.args.system)
 
 pub missing-requires : goal.missing-requires
 missing-requires c =
@@ -19,7 +22,7 @@ missing-requires c =
     let before : Device = record { written = Some c.new-sink.result.text; notes = None; faults = c.new-sink.result.faults } in
     let now : Device = record { written = Some c.work-worked.new.sink.text; notes = None; faults = c.work-worked.new.sink.faults } in
     told_stop m os c.requires.own.one_each c.work-worked.result.1 c.requires.valid before now c.in-Err.stop
-    (subst (λ (e : EvaluatorState). HasStopped Solve [] e c.work-worked.result.1 before now c.in-Err.stop) (c.new-recalling.ensures ∙ c.in_ok-mesh.ensures) (rw c.in-Err.is at c.work-worked.ensures.stop))
+    (subst (λ (e : EvaluatorState). HasStopped Solve [] e c.work-worked.result.1 before now c.in-Err.stop) (c.in_ok-recalling.ensures) (rw c.in-Err.is at c.work-worked.ensures.stop))
 
 pub returns-in-Ok : goal.returns-in-Ok
 returns-in-Ok c =
@@ -30,13 +33,13 @@ returns-in-Ok c =
     let empty : ◌≡◌ {A = Option (List ℕ)} (Some c.new-sink.result.text) (Some []) = ap (λ (s : Collected). Some s.text) c.new-sink.ensures in
     let told = told_listing m os c.requires.own.one_each e text
     (subst (λ (before : Option (List ℕ)). IsDone Solve [] (start_of m os) e before (Some text)) empty
-    (subst (λ (b : EvaluatorState). IsDone Solve [] b e (Some c.new-sink.result.text) (Some text)) (c.new-recalling.ensures ∙ c.in_ok-mesh.ensures) (rw c.in-Ok.is at c.work-worked.ensures.done))) in
-    let kept = subst (λ (b : EvaluatorState). KeepsRest b e) (c.new-recalling.ensures ∙ c.in_ok-mesh.ensures) c.work-worked.ensures.rest in
+    (subst (λ (b : EvaluatorState). IsDone Solve [] b e (Some c.new-sink.result.text) (Some text)) (c.in_ok-recalling.ensures) (rw c.in-Ok.is at c.work-worked.ensures.done))) in
+    let kept = subst (λ (b : EvaluatorState). KeepsRest b e) (c.in_ok-recalling.ensures) c.work-worked.ensures.rest in
     record {
       whole = told.0;
       hold = told.1;
       same = renewed_same m os c.in_ok-into_oracles-in-Ok.field-0.items c.in_ok-oracles-in-Ok.oracles.items e c.requires.own.fresh kept (c.in_ok-into_oracles-in-Ok.ensures ∙ ap (λ (b : EvaluatorState). b.oracles) c.into_parts-mesh.ensures.stands) c.in_ok-oracles-in-Ok.ensures;
-      shown = subst (λ (s : System). AreShown s c.into_parts-mesh.result.1.items) kept.system c.into_parts-mesh.ensures.shown;
+      right = subst (λ (s : System). IsToldOf s c.into_parts-mesh.result.1) kept.system c.into_parts-mesh.ensures.told;
     }
 
 pub returns : goal.returns
@@ -46,5 +49,5 @@ returns c =
     let before : Device = record { written = Some c.new-sink.result.text; notes = None; faults = c.new-sink.result.faults } in
     let now : Device = record { written = Some c.work-worked.new.sink.text; notes = None; faults = c.work-worked.new.sink.faults } in
     told_missing m os c.requires.own.one_each c.work-worked.result.1 before now c.in-Err.stop
-    (subst (λ (e : EvaluatorState). HasStopped Solve [] e c.work-worked.result.1 before now c.in-Err.stop) (c.new-recalling.ensures ∙ c.in_ok-mesh.ensures) (rw c.in-Err.is at c.work-worked.ensures.stop))
+    (subst (λ (e : EvaluatorState). HasStopped Solve [] e c.work-worked.result.1 before now c.in-Err.stop) (c.in_ok-recalling.ensures) (rw c.in-Err.is at c.work-worked.ensures.stop))
     c.in_ok-missing-in-Err.ensures.missing
