@@ -6,19 +6,18 @@ use Rattle.std.proofs.lemmas.Bool.Decides.{nat_tests}
 use Rattle.std.proofs.lemmas.Slice.Eq.{bytes_eq-Decides}
 use Rattle.std.specs.Str.{bytes_eq}
 use Rattle.mcs_base.specs.Listings.{IsAmong}
-use Rattle.mcs_system.specs.Plain.{Name}
+use Rattle.mcs_system.specs.Plain.{Name, Connective}
 use Rattle.mcs_system.specs.Plain as plain
 use Rattle.mcs_system.specs.Logic.{same_name}
-use Rattle.mcs_grammar.specs.Written.{Written, True', False', Named, Denied, Grouped, Both, Either, Leads, Equals, WrittenPlace, WrittenRead, WrittenMarks, WrittenBridge}
+use Rattle.mcs_grammar.specs.Written.{Written, Prefix, True', False', Named, Prefixed, Grouped, Joins, WrittenPlace, WrittenRead, WrittenMarks, WrittenBridge}
 use Rattle.mcs_grammar.specs.Entries.{Token, formula_in}
 use Rattle.mcs_grammar.specs.Saying.{weight_said, SaysPlace, SaysBridge, Each, positive_places, negative_places}
-use Rattle.mcs_productions.specs.declared.class.Class.{Class}
 use Rattle.mcs_productions.specs.declared.class.Class.TheVariants as class
-use Rattle.mcs_productions.specs.declared.production.Action.{Action}
 use Rattle.mcs_productions.specs.declared.production.Action.TheVariants as action
 use Rattle.mcs_account.specs.Mark.{Seen, Said}
-use Rattle.mcs_account.specs.Marks.{Marked, formula_marks, two_marks, belief_marks, denial_marks, read_marks, further_marks, reads_marks, tail_marks, word_marks, weight_marks, own_marks, bridge_marks}
-use Rattle.mcs_account.specs.Account.{Account, greatest_number, number_of, the_read, pushed, took, told, account_step, accounted, in_last, named_rule, with_keep, with_closed, weight_of, with_weight, with_target, with_read}
+use Rattle.mcs_account.specs.Marks.{Marked, formula_marks, belief_marks, denial_marks, read_marks, further_marks, reads_marks, tail_marks, word_marks, weight_marks, own_marks, bridge_marks}
+use Rattle.mcs_account.specs.Account.{Account, greatest_number, number_of, the_read, pushed, took, account_step, accounted, in_last, named_rule, with_keep, with_closed, weight_of, with_weight, with_target, with_read}
+use Rattle.mcs_account.proofs.Signs.{prefix-takes, prefix-told, joint-takes, joint-told}
 
 pub accounted-append : (a : Account) (ms ns : Marked) → accounted a (ms ++ ns) ≡ accounted (accounted a ms) ns
 accounted-append a [] ns = refl
@@ -28,20 +27,19 @@ accounted-append a (m ∷ ms) ns = accounted-append (account_step a m) ms ns
 abbrev Accounts : Written → Type 0
 Accounts f = (a : Account) → accounted a (formula_marks f) ≡ pushed a (formula_in f)
 
-two-account : (c : Class) (sign : Token) (b : Action) (f g : Written) (join : plain.Formula → plain.Formula → plain.Formula) → ((a : Account) → took a c sign ≡ a) → ((a : Account) (x y : plain.Formula) → told (pushed (pushed a x) y) b ≡ pushed a (join x y))
-    → Accounts f → Accounts g → (a : Account) → accounted a (two_marks c sign b (formula_marks f) (formula_marks g)) ≡ pushed a (join (formula_in f) (formula_in g))
-two-account c sign b f g join takes tells hf hg a = simp (accounted-append, hf, takes, hg, tells a (formula_in f) (formula_in g))
+prefix-accounts : (p : Prefix) (f : Written) → Accounts f → Accounts (Prefixed p f)
+prefix-accounts p f hf a = simp (prefix-takes, accounted-append, hf, prefix-told p a (formula_in f))
+
+joins-account : (j : Connective) (f g : Written) → Accounts f → Accounts g → Accounts (Joins j f g)
+joins-account j f g hf hg a = simp (accounted-append, hf, joint-takes, hg, joint-told j a (formula_in f) (formula_in g))
 
 pub formula-accounts : (f : Written) → Accounts f
 formula-accounts True' a = refl
 formula-accounts False' a = refl
 formula-accounts (Named n) a = refl
-formula-accounts (Denied f) a = accounted-append a (formula_marks f) (Said action.ToNot ∷ []) ∙ ap (λ (r : Account). accounted r (Said action.ToNot ∷ [])) (formula-accounts f a)
+formula-accounts (Prefixed p f) a = prefix-accounts p f (formula-accounts f) a
 formula-accounts (Grouped f) a = accounted-append a (formula_marks f) (Seen class.ClosesParenthesis (codes ")") ∷ []) ∙ ap (λ (r : Account). accounted r (Seen class.ClosesParenthesis (codes ")") ∷ [])) (formula-accounts f a)
-formula-accounts (Both f g) a = two-account class.Conjoins (codes "&") action.ToAnd f g plain.And (λ r. refl) (λ r x y. refl) (formula-accounts f) (formula-accounts g) a
-formula-accounts (Either f g) a = two-account class.Disjoins (codes "|") action.ToOr f g plain.Or (λ r. refl) (λ r x y. refl) (formula-accounts f) (formula-accounts g) a
-formula-accounts (Leads f g) a = two-account class.Implies (codes "->") action.ToImplies f g plain.Implies (λ r. refl) (λ r x y. refl) (formula-accounts f) (formula-accounts g) a
-formula-accounts (Equals f g) a = two-account class.Equates (codes "<->") action.ToIff f g plain.Iff (λ r. refl) (λ r x y. refl) (formula-accounts f) (formula-accounts g) a
+formula-accounts (Joins j f g) a = joins-account j f g (formula-accounts f) (formula-accounts g) a
 
 -- ---- bridge rules, by the numbers of their contexts
 abbrev pub read_said : List plain.Context → WrittenPlace → plain.Read

@@ -13,11 +13,13 @@ use Rattle.mcs_productions.specs.declared.class.Class.{Class}
 use Rattle.mcs_productions.specs.declared.class.Class.TheVariants as class
 use Rattle.mcs_productions.specs.declared.production.Action.{Action}
 use Rattle.mcs_productions.specs.declared.production.Action.TheVariants as action
+use Rattle.mcs_account.specs.Items.{Making, OfOne, OfTwo, making}
 use Rattle.mcs_account.specs.Marks.{Fill, bytes_for, Filled, marks_for}
-use Rattle.mcs_account.specs.Account.{Account, joined, took, told}
+use Rattle.mcs_account.specs.Account.{Account, made_of, joined, took, told}
 use Rattle.mcs_account.specs.Images.{AreShort}
 use Rattle.mcs_account.specs.Known.{AllShort}
 use Rattle.mcs_account.specs.Reading.{Events, heard, ended_if, top_of}
+use Rattle.mcs_account.proofs.Signs.{prefix-atoms}
 use Rattle.mcs_account.proofs.ReadEnds.{EndsBelief}
 
 -- the token is one that may be there for this
@@ -28,16 +30,10 @@ IsFor c t = (x : Fill c) × (bytes_for c x ≡ t)
 both-short : (xs ys : List Name) → AreShort xs → AreShort ys → AreShort (xs ++ ys)
 both-short xs ys h k n there = elim (among_either n xs ys there) [ inl l ↦ h n l | inr r ↦ k n r ]
 
-joined-none : (a : Action) → joined a [] ≡ []
-joined-none action.ToNot = refl
-joined-none a = refl
-
-joined-short : (a : Action) (fs : List plain.Formula) → AllShort fs → AllShort (joined a fs)
-joined-short action.ToNot (f ∷ fs) h = h
-joined-short a [] h = subst AllShort (sym (joined-none a)) tt
-joined-short a (f ∷ []) h = h
-joined-short action.EndsRead (g ∷ f ∷ fs) h = h
-joined-short a (g ∷ f ∷ fs) h = (both-short (atoms f) (atoms g) h.1.0 h.0, h.1.1)
+made-short : (m : Making) (fs : List plain.Formula) → AllShort fs → AllShort (made_of m fs)
+made-short (OfOne p) (f ∷ fs) h = (subst AreShort (sym (prefix-atoms p f)) h.0, h.1)
+made-short (OfTwo j) (g ∷ f ∷ fs) h = (both-short (atoms f) (atoms g) h.1.0 h.0, h.1.1)
+made-short m fs h = h
 
 none-short : AreShort []
 none-short n h = absurd h
@@ -58,7 +54,7 @@ pub heard-short : (a : Account) (t : Token) (xs : Events) → Filled (marks_for 
 heard-short a t [] f w h = h
 heard-short a t (Took c ∷ xs) f w h = heard-short (took a c t) t xs f.1 w (took-short a c t f.0 w h)
 heard-short a t (Told action.EndsRead ∷ xs) f w h = heard-short a t xs f.1 w h
-heard-short a t (Told b ∷ xs) f w h = heard-short (told a b) t xs f.1 w (joined-short b a.operands h)
+heard-short a t (Told b ∷ xs) f w h = heard-short (told a b) t xs f.1 w (made-short (making b) a.operands h)
 
 pub ended-short : (b : Bool) (a : Account) → AllShort a.operands → AllShort (ended_if b a).operands
 ended-short false a h = h
@@ -76,12 +72,13 @@ top-short (f ∷ fs) h = h.0
 abbrev pub HasAtom : Token → List plain.Formula → Type 0
 HasAtom t fs = IsAmong t (atoms (top_of fs))
 
+made-top : (t : Token) (m : Making) (fs : List plain.Formula) → HasAtom t fs → HasAtom t (made_of m fs)
+made-top t (OfOne p) (f ∷ fs) h = subst (IsAmong t) (sym (prefix-atoms p f)) h
+made-top t (OfTwo j) (g ∷ f ∷ fs) h = among_right t (atoms f) (atoms g) h
+made-top t m fs h = h
+
 pub joined-top : (t : Token) (a : Action) (fs : List plain.Formula) → HasAtom t fs → HasAtom t (joined a fs)
-joined-top t a [] h = absurd h
-joined-top t action.ToNot (f ∷ fs) h = h
-joined-top t a (f ∷ []) h = h
-joined-top t action.EndsRead (g ∷ f ∷ fs) h = h
-joined-top t a (g ∷ f ∷ fs) h = among_right t (atoms f) (atoms g) h
+joined-top t a fs h = made-top t (making a) fs h
 
 -- a belief that ends with a name ends with an atom
 pub name-atom : (c : Class) (t : Token) → EndsBelief c → IsFor c t → IsNameWord t → c ≡ class.IsAtom

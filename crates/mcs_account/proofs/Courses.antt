@@ -3,19 +3,21 @@ use Rattle.std.proofs.Common.{◌≡◌, ℕ, ◌+◌, ◌-◌, Bool, true, fals
 use Rattle.std.specs.List.{flat_map, AllByRecursion}
 use Rattle.std.specs.Str.{bytes_eq}
 use Rattle.mcs_base.specs.Numbers.{value_of_digits}
-use Rattle.mcs_system.specs.Plain.{Name}
+use Rattle.mcs_system.specs.Plain.{Name, Connective, Conjunction, Disjunction, Implication, Equivalence}
 use Rattle.mcs_system.specs.Plain as plain
-use Rattle.mcs_grammar.specs.Written.{Written, True', False', Named, Denied, Grouped, Both, Either, Leads, Equals, WrittenPlace, WrittenRead, WrittenMarks, WrittenBridge}
-use Rattle.mcs_grammar.specs.Entries.{Token, Use, BeginsBridge, NamesBridge, Weighs, NamesTarget, NamesSource, BeginsBelief, EndsRead, IsNumber, Entry, entry, with_first, with_last, size_of, formula_entries, whole_entries, formula_in, place_entries, optional, read_entries, further_read, reads_entries, weight_entries, mark_entries, bridge_entries}
+use Rattle.mcs_grammar.specs.Written.{Written, Prefix, True', False', Named, Prefixed, Grouped, Joins, WrittenPlace, WrittenRead, WrittenMarks, WrittenBridge}
+use Rattle.mcs_grammar.specs.Entries.{Token, joint_sign, Use, BeginsBridge, NamesBridge, Weighs, NamesTarget, NamesSource, BeginsBelief, EndsRead, IsNumber, Entry, entry, with_first, with_last, size_of, formula_entries, whole_entries, formula_in, place_entries, optional, read_entries, further_read, reads_entries, weight_entries, mark_entries, bridge_entries}
 use Rattle.mcs_productions.specs.declared.class.Class.{Class}
 use Rattle.mcs_productions.specs.declared.class.Class.TheVariants as class
 use Rattle.mcs_productions.specs.declared.production.Action.{Action}
 use Rattle.mcs_productions.specs.declared.production.Action.TheVariants as action
 use Rattle.mcs_account.specs.Mark.{Seen, Said}
-use Rattle.mcs_account.specs.Marks.{Marked, formula_marks, two_marks, belief_marks, denial_marks, read_marks, further_marks, reads_marks, tail_marks, word_marks, weight_marks, own_marks, bridge_marks}
+use Rattle.mcs_account.specs.Marks.{Marked, joint_class, joint_action, formula_marks, belief_marks, denial_marks, read_marks, further_marks, reads_marks, tail_marks, word_marks, weight_marks, own_marks, bridge_marks}
 use Rattle.mcs_account.specs.Reading.{HasSome}
-use Rattle.mcs_account.specs.Account.{Place, next_counted, Course, course_step, course_told, followed}
+use Rattle.mcs_account.specs.Account.{Place, Course, course_step, followed}
 use Rattle.mcs_account.proofs.EntryLists.{formula-some}
+pub use Rattle.mcs_account.proofs.Signs.{course_at}
+use Rattle.mcs_account.proofs.Signs.{after_sign, prefix-steps, prefix-tells, joint-steps, joint-tells}
 
 -- ---- lists
 pub all-of : {W : Type 0} (ws : List W) → AllByRecursion (λ (w : W). Unit {0}) ws
@@ -52,9 +54,6 @@ zero-add n = omega arith
 abbrev pub counting : Place → ℕ → Place
 counting p k = record p { counted = k; begins = [] }
 
-abbrev pub course_at : Place → List plain.Formula → List Entry → Course
-course_at p fs es = record { place = p; operands = fs; entries = es }
-
 abbrev formula_part : Place → Written → List Entry
 formula_part p f = with_first p.begins (formula_entries p.context p.counted p.opened f)
 
@@ -68,23 +67,19 @@ Follows f = (s : Course) → followed s (formula_marks f) ≡ after_formula s f
 same-course : (p : Place) (fs : List plain.Formula) (j k : ℕ) (es fs' : List Entry) → j ≡ k → es ≡ fs' → course_at (counting p j) fs es ≡ course_at (counting p k) fs fs'
 same-course p fs j k es es' e h = ap (λ (n : ℕ). course_at (counting p n) fs es) e ∙ ap (course_at (counting p k) fs) h
 
--- a sign that counts
-abbrev after_sign : Course → Token → Course
-after_sign s sign = course_at (next_counted s.place) s.operands (s.entries ++ entry sign (s.place.begins ++ IsNumber (s.place.counted + 1) ∷ []) ∷ [])
-
-denied-follows : (f : Written) → Follows f → Follows (Denied f)
-denied-follows f ih s = let e : s.place.counted + 1 + size_of f ≡ s.place.counted + (size_of f + 1) = omega arith in simp (followed-append, ih, first-none, append_assoc, e)
+prefix-follows : (p : Prefix) (f : Written) → Follows f → Follows (Prefixed p f)
+prefix-follows p f ih s = let e : s.place.counted + 1 + size_of f ≡ s.place.counted + (size_of f + 1) = omega arith in
+    simp (prefix-steps, followed-append, ih, prefix-tells, first-none, append_assoc, e)
 
 grouped-follows : (f : Written) → Follows f → Follows (Grouped f)
 grouped-follows f ih s = let e : s.place.opened + 1 - 1 ≡ s.place.opened = omega arith in simp (followed-append, ih, first-none, append_assoc, e)
 
 -- two formulas with a sign between them
-two-follow : (c : Class) (sign : Token) (a : Action) (f g : Written) (join : plain.Formula → plain.Formula → plain.Formula) → ((s : Course) → course_step s (Seen c sign) ≡ after_sign s sign)
-    → ((p : Place) (x y : plain.Formula) (fs : List plain.Formula) (es : List Entry) → course_told (course_at p (y ∷ x ∷ fs) es) a ≡ course_at p (join x y ∷ fs) es) → Follows f → Follows g → (s : Course)
-    → followed s (two_marks c sign a (formula_marks f) (formula_marks g))
-    ≡ course_at (counting s.place (s.place.counted + (size_of f + size_of g + 1))) (join (formula_in f) (formula_in g) ∷ s.operands)
-    (s.entries ++ with_first s.place.begins (formula_entries s.place.context s.place.counted s.place.opened f ++ entry sign (IsNumber (s.place.counted + size_of f + 1) ∷ []) ∷ formula_entries s.place.context (s.place.counted + size_of f + 1) s.place.opened g))
-two-follow c sign a f g join steps tells hf hg s =
+joins-follow : (j : Connective) (f g : Written) → Follows f → Follows g → Follows (Joins j f g)
+joins-follow j f g hf hg s =
+    let c : Class = joint_class j in
+    let sign : Token = joint_sign j in
+    let a : Action = joint_action j in
     let p : Place = s.place in
     let n : ℕ = p.counted in
     let one : Course = after_formula s f in
@@ -95,11 +90,11 @@ two-follow c sign a f g join steps tells hf hg s =
     let back : Marked = formula_marks g ++ Said a ∷ [] in
     followed-append s (formula_marks f) (Seen c sign ∷ back)
     ∙ ap (λ (r : Course). followed r (Seen c sign ∷ back)) (hf s)
-    ∙ ap (λ (r : Course). followed r back) (steps one)
+    ∙ ap (λ (r : Course). followed r back) (joint-steps j one)
     ∙ followed-append two (formula_marks g) (Said a ∷ [])
     ∙ ap (λ (r : Course). followed r (Said a ∷ [])) (hg two)
-    ∙ tells (counting p (n + size_of f + 1 + size_of g)) (formula_in f) (formula_in g) s.operands _
-    ∙ same-course p (join (formula_in f) (formula_in g) ∷ s.operands) (n + size_of f + 1 + size_of g) (n + (size_of f + size_of g + 1)) (((s.entries ++ with_first p.begins es) ++ e ∷ []) ++ with_first [] ds) (s.entries ++ with_first p.begins (es ++ e ∷ ds)) (omega arith)
+    ∙ joint-tells j (counting p (n + size_of f + 1 + size_of g)) (formula_in f) (formula_in g) s.operands _
+    ∙ same-course p (plain.Joined j (formula_in f) (formula_in g) ∷ s.operands) (n + size_of f + 1 + size_of g) (n + (size_of f + size_of g + 1)) (((s.entries ++ with_first p.begins es) ++ e ∷ []) ++ with_first [] ds) (s.entries ++ with_first p.begins (es ++ e ∷ ds)) (omega arith)
     (ap (λ (l : List Entry). ((s.entries ++ with_first p.begins es) ++ e ∷ []) ++ l) (first-none ds) ∙ append_assoc (s.entries ++ with_first p.begins es) (e ∷ []) ds ∙ append_assoc s.entries (with_first p.begins es) (e ∷ ds)
     ∙ ap (λ (l : List Entry). s.entries ++ l) (sym (first-append p.begins es (e ∷ ds) (formula-some p.context n p.opened f))))
 
@@ -107,12 +102,9 @@ pub formula-follows : (f : Written) → Follows f
 formula-follows True' s = refl
 formula-follows False' s = refl
 formula-follows (Named n) s = refl
-formula-follows (Denied f) s = denied-follows f (formula-follows f) s
+formula-follows (Prefixed p f) s = prefix-follows p f (formula-follows f) s
 formula-follows (Grouped f) s = grouped-follows f (formula-follows f) s
-formula-follows (Both f g) s = two-follow class.Conjoins (codes "&") action.ToAnd f g plain.And (λ r. refl) (λ p x y fs es. refl) (formula-follows f) (formula-follows g) s
-formula-follows (Either f g) s = two-follow class.Disjoins (codes "|") action.ToOr f g plain.Or (λ r. refl) (λ p x y fs es. refl) (formula-follows f) (formula-follows g) s
-formula-follows (Leads f g) s = two-follow class.Implies (codes "->") action.ToImplies f g plain.Implies (λ r. refl) (λ p x y fs es. refl) (formula-follows f) (formula-follows g) s
-formula-follows (Equals f g) s = two-follow class.Equates (codes "<->") action.ToIff f g plain.Iff (λ r. refl) (λ p x y fs es. refl) (formula-follows f) (formula-follows g) s
+formula-follows (Joins j f g) s = joins-follow j f g (formula-follows f) (formula-follows g) s
 
 -- ---- bridge rules
 -- where no parenthesis is open and nothing begins

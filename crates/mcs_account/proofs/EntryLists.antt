@@ -6,7 +6,7 @@ use Rattle.mcs_base.specs.Listings.{IsAmong}
 use Rattle.mcs_base.proofs.Lists.{flat_map-flat_map}
 use Rattle.mcs_base.proofs.Among.{among_left, among_right, among_either, among_flat_map, flat_map_among}
 use Rattle.mcs_system.specs.Plain.{Name}
-use Rattle.mcs_grammar.specs.Written.{Written, True', False', Named, Denied, Grouped, Both, Either, Leads, Equals}
+use Rattle.mcs_grammar.specs.Written.{Written, True', False', Named, Prefixed, Grouped, Joins}
 use Rattle.mcs_grammar.specs.Entries.{Use, Entry, with_first, with_last, formula_entries, uses_of}
 use Rattle.mcs_account.specs.Reading.{HasSome}
 
@@ -19,12 +19,9 @@ pub formula-some : (c : Name) (n o : ℕ) (w : Written) → HasSome (formula_ent
 formula-some c n o True' = tt
 formula-some c n o False' = tt
 formula-some c n o (Named name) = tt
-formula-some c n o (Denied f) = tt
+formula-some c n o (Prefixed p f) = tt
 formula-some c n o (Grouped f) = tt
-formula-some c n o (Both f g) = some-append (formula_entries c n o f) _ (formula-some c n o f)
-formula-some c n o (Either f g) = some-append (formula_entries c n o f) _ (formula-some c n o f)
-formula-some c n o (Leads f g) = some-append (formula_entries c n o f) _ (formula-some c n o f)
-formula-some c n o (Equals f g) = some-append (formula_entries c n o f) _ (formula-some c n o f)
+formula-some c n o (Joins j f g) = some-append (formula_entries c n o f) _ (formula-some c n o f)
 
 -- ---- uses
 abbrev uses_in_entry : Entry → List Use

@@ -9,8 +9,9 @@ use Rattle.mcs_base.proofs.Lists.{slice_get-append_right}
 use Rattle.mcs_base.proofs.Among.{among_left, among_right, get_among, among_flat_map}
 use Rattle.mcs_system.specs.Plain.{Name}
 use Rattle.mcs_system.specs.Faults.{is_atom}
-use Rattle.mcs_grammar.specs.Written.{Written, True', False', Named, Denied, Grouped, Both, Either, Leads, Equals, level, IsNameWord, WrittenPlace, IsPlace, WrittenRead, WrittenBridge, WrittenText}
+use Rattle.mcs_grammar.specs.Written.{Written, True', False', Named, Prefixed, Grouped, Joins, level, IsNameWord, WrittenPlace, IsPlace, WrittenRead, WrittenBridge, WrittenText}
 use Rattle.mcs_grammar.specs.Entries.{Use, BeginsBelief, NamesTarget, NamesSource, Entry, entry, with_first, with_last, formula_in, whole_entries, optional, place_entries, read_entries, further_read, reads_entries, context_entries, mark_entries, bridge_entries, version_entries, text_entries, uses_of}
+use Rattle.mcs_account.proofs.Signs.{prefix-no-name, joined-high}
 use Rattle.mcs_account.proofs.UsesParts.{IsPlaceOf, OfHead, OfRead}
 use Rattle.mcs_account.proofs.EntryLists.{uses-append}
 use Rattle.mcs_account.proofs.BridgeUses.{read_end}
@@ -34,12 +35,9 @@ unfolding reserved_words
 begun c True' low = (_, inl refl, record { begins = inl refl; atom = λ e. absurd (true≢false (sym e)) })
 begun c False' low = (_, inl refl, record { begins = inl refl; atom = λ e. absurd (true≢false (sym e)) })
 begun c (Named a) low = (_, inl refl, record { begins = inl refl; atom = λ e. refl })
-begun c (Denied f) low = (_, inl refl, record { begins = inl refl; atom = λ e. absurd (true≢false (sym e)) })
+begun c (Prefixed p f) low = (_, inl refl, record { begins = inl refl; atom = λ e. absurd (prefix-no-name p e) })
 begun c (Grouped f) low = (_, inl refl, record { begins = inl refl; atom = λ e. absurd (true≢false (sym e)) })
-begun c (Both f g) low = cc
-begun c (Either f g) low = cc
-begun c (Leads f g) low = cc
-begun c (Equals f g) low = cc
+begun c (Joins j f g) low = absurd (joined-high j low)
 
 -- ---- where it stands
 -- the entries of a read have a last one with more uses

@@ -5,8 +5,9 @@ use Rattle.mcs_base.specs.Listings.{IsAmong}
 use Rattle.mcs_base.proofs.Among.{among_left, among_right, among_either}
 use Rattle.mcs_system.specs.Plain.{Name}
 use Rattle.mcs_system.specs.Logic.{atoms}
-use Rattle.mcs_grammar.specs.Written.{Written, True', False', Named, Denied, Grouped, Both, Either, Leads, Equals}
+use Rattle.mcs_grammar.specs.Written.{Written, True', False', Named, Prefixed, Grouped, Joins}
 use Rattle.mcs_grammar.specs.Entries.{Use, AtomOf, IsNumber, OpensWithin, Entry, entry, formula_in, size_of, formula_entries, whole_entries, uses_of}
+use Rattle.mcs_account.proofs.Signs.{prefix-atoms}
 use Rattle.mcs_account.proofs.UsesParts.{depth_of}
 use Rattle.mcs_account.proofs.EntryLists.{uses-append, uses-end}
 
@@ -131,25 +132,26 @@ binary-uses c n o f m ms = uses-append (formula_entries c n o f) (m ∷ ms)
 part-with : (c : Name) (xs : List Name) (from to low high : ℕ) (us vs : List Use) → vs ≡ us → ArePartUses c xs from to low high us → ArePartUses c xs from to low high vs
 part-with c xs from to low high us vs e h = subst (λ (ws : List Use). ArePartUses c xs from to low high ws) (sym e) h
 
+part-names : (c : Name) (xs ys : List Name) (from to low high : ℕ) (us : List Use) → ys ≡ xs → ArePartUses c xs from to low high us → ArePartUses c ys from to low high us
+part-names c xs ys from to low high us e h = subst (λ (ns : List Name). ArePartUses c ns from to low high us) (sym e) h
+
 pub formula-part : (c : Name) (n o : ℕ) (f : Written) → ArePartUses c (atoms (formula_in f)) n (n + size_of f) o (o + depth_of f) (uses_of (formula_entries c n o f))
 formula-part c n o True' = same-part c [] [] n (n + 1) (n + 1) o o (o + 0) _ _ refl refl (omega arith) refl (number-part c n o)
 formula-part c n o False' = same-part c [] [] n (n + 1) (n + 1) o o (o + 0) _ _ refl refl (omega arith) refl (number-part c n o)
 formula-part c n o (Named a) = same-part c (a ∷ []) (a ∷ []) n (n + 1) (n + 1) o o (o + 0) _ _ refl refl (omega arith) refl (atom-part c n o a)
-formula-part c n o (Denied f) =
+formula-part c n o (Prefixed p f) =
     let xs : List Name = atoms (formula_in f) in
+    part-names c xs _ n _ o _ _ (prefix-atoms p (formula_in f)) (
     let us : List Use = uses_of (formula_entries c (n + 1) o f) in
     same-part c xs xs n (n + 1 + size_of f) (n + (size_of f + 1)) o (max o (o + depth_of f)) (o + depth_of f) (IsNumber (n + 1) ∷ us) (IsNumber (n + 1) ∷ us) refl (omega arith) (omega arith) refl
-    (join-parts c [] xs n (n + 1) (n + 1 + size_of f) o o (o + depth_of f) (omega arith) (omega arith) (IsNumber (n + 1) ∷ []) us (number-part c n o) (formula-part c (n + 1) o f))
+    (join-parts c [] xs n (n + 1) (n + 1 + size_of f) o o (o + depth_of f) (omega arith) (omega arith) (IsNumber (n + 1) ∷ []) us (number-part c n o) (formula-part c (n + 1) o f)))
 formula-part c n o (Grouped f) =
     let xs : List Name = atoms (formula_in f) in
     let us : List Use = uses_of (formula_entries c n (o + 1) f) in
     let vs : List Use = uses_of (formula_entries c n (o + 1) f ++ entry (codes ")") [] ∷ []) in
     same-part c xs xs n (n + size_of f) (n + size_of f) o (o + 1 + depth_of f) (o + (depth_of f + 1)) (OpensWithin o ∷ us) (OpensWithin o ∷ vs) refl refl (omega arith) (ap (λ (ws : List Use). OpensWithin o ∷ ws) (sym (uses-end (formula_entries c n (o + 1) f) (entry (codes ")") []) refl)))
     (open-part c xs n (n + size_of f) o (o + 1 + depth_of f) us (omega arith) (formula-part c n (o + 1) f))
-formula-part c n o (Both f g) = part-with c _ n _ o _ _ _ (binary-uses c n o f _ _) (binary-part c _ _ n (size_of f) (size_of g) o (depth_of f) (depth_of g) _ _ (formula-part c n o f) (formula-part c (n + size_of f + 1) o g))
-formula-part c n o (Either f g) = part-with c _ n _ o _ _ _ (binary-uses c n o f _ _) (binary-part c _ _ n (size_of f) (size_of g) o (depth_of f) (depth_of g) _ _ (formula-part c n o f) (formula-part c (n + size_of f + 1) o g))
-formula-part c n o (Leads f g) = part-with c _ n _ o _ _ _ (binary-uses c n o f _ _) (binary-part c _ _ n (size_of f) (size_of g) o (depth_of f) (depth_of g) _ _ (formula-part c n o f) (formula-part c (n + size_of f + 1) o g))
-formula-part c n o (Equals f g) = part-with c _ n _ o _ _ _ (binary-uses c n o f _ _) (binary-part c _ _ n (size_of f) (size_of g) o (depth_of f) (depth_of g) _ _ (formula-part c n o f) (formula-part c (n + size_of f + 1) o g))
+formula-part c n o (Joins j f g) = part-with c _ n _ o _ _ _ (binary-uses c n o f _ _) (binary-part c _ _ n (size_of f) (size_of g) o (depth_of f) (depth_of g) _ _ (formula-part c n o f) (formula-part c (n + size_of f + 1) o g))
 
 pub whole-part : (c : Name) (f : Written) → ArePartUses c (atoms (formula_in f)) 0 (size_of f) 0 (depth_of f) (uses_of (whole_entries c f))
 whole-part c f = same-part c _ _ 0 (0 + size_of f) (size_of f) 0 (0 + depth_of f) (depth_of f) _ _ refl (omega arith) (omega arith) refl (formula-part c 0 0 f)

@@ -9,7 +9,7 @@ use Rattle.mcs_syntax.specs.declared.part.Event.{Event}
 use Rattle.mcs_syntax.specs.declared.part.Event.TheVariants.{Took}
 use Rattle.mcs_account.specs.Mark.{Seen, Said, event_of, events_of}
 use Rattle.mcs_grammar.specs.Entries.{Token}
-use Rattle.mcs_grammar.specs.Written.{Written, True', False', Named, Denied, Grouped, Both, Either, Leads, Equals, level, IsGrouped, WrittenPlace, WrittenRead, WrittenMarks, WrittenBridge, no_marks, IsPlace, IsWrittenBridge, IsFormula, WrittenItem, Fact, IsItem, WrittenLiteral, WrittenRule, IsRule, WrittenKb, Classical, DefaultTheory, Program, IsKb, WrittenContext, IsContext, WrittenText, IsText, IsNameWord}
+use Rattle.mcs_grammar.specs.Written.{Written, Denial, True', False', Named, Prefixed, Grouped, Joins, level, IsGrouped, WrittenPlace, WrittenRead, WrittenMarks, WrittenBridge, no_marks, IsPlace, IsWrittenBridge, IsFormula, WrittenItem, Fact, IsItem, WrittenLiteral, WrittenRule, IsRule, WrittenKb, OfKind, IsKb, WrittenContext, IsContext, WrittenText, IsText, IsNameWord}
 use Rattle.mcs_productions.specs.Productions.{rules}
 use Rattle.mcs_productions.specs.declared.class.Class.{Class}
 use Rattle.mcs_productions.specs.declared.class.Class.TheVariants as class
@@ -18,8 +18,9 @@ use Rattle.mcs_productions.specs.declared.production.Action.TheVariants as actio
 use Rattle.mcs_productions.specs.declared.production.Production.{Production}
 use Rattle.mcs_productions.specs.declared.production.Production.TheVariants as name
 use Rattle.mcs_account.specs.Marks.{Marked, formula_marks, belief_marks, denial_marks, read_marks, further_marks, reads_marks, tail_marks, word_marks, weight_class, weight_marks, own_marks, bridge_marks, version_marks, after_marks, item_marks, further_head_marks, literal_denial, literal_marks, further_literal_marks, literals_marks, sign_marks, rule_marks, ended_marks, items_marks, kb_marks, context_marks, text_marks}
-use Rattle.mcs_system.specs.Plain.{Name}
+use Rattle.mcs_system.specs.Plain.{Name, Connective, Conjunction, Disjunction, Implication, Equivalence, ClassicalKind, DefaultKind, ProgramKind}
 use Rattle.mcs_grammar.specs.Written as written
+use Rattle.mcs_account.proofs.Signs.{joined-high}
 
 abbrev pub Part : Type 0
 Part = Expr Class Action Production
@@ -60,11 +61,14 @@ grown e step ms ns h k = subst (Means Class Action Production rules (Then e (Man
     at xs (both a b us vs m n) = subst (Means Class Action Production rules (Then e (Many step))) (sym (append_assoc us vs (events_of ns))) (both e (Many step) us (vs ++ events_of ns) m (last-of step vs (events_of ns) n k))
 
 -- ---- formulas
+joint_production : Connective → Production
+joint_production Conjunction = name.Conjunction
+joint_production Disjunction = name.Disjunction
+joint_production Implication = name.Implication
+joint_production Equivalence = name.Formula
+
 own : Written → Production
-own (Both f g) = name.Conjunction
-own (Either f g) = name.Disjunction
-own (Leads f g) = name.Implication
-own (Equals f g) = name.Formula
+own (Joins j f g) = joint_production j
 own f = name.Primary
 
 as-conjunction' : (ms : Marked) → Of (Rule name.Primary) ms → Of (Rule name.Conjunction) ms
@@ -80,62 +84,62 @@ as-formula' : (ms : Marked) → Of (Rule name.Implication) ms → Of (Rule name.
 as-formula' ms h = by_rule name.Formula _ (subst (Means Class Action Production rules (rules name.Formula)) (append-nil (events_of ms)) (both _ _ (events_of ms) [] h (without _)))
 
 as-primary : (f : Written) (ms : Marked) → level f ≡ 0 → Of (Rule (own f)) ms → Of (Rule name.Primary) ms
-unfolding own
-as-primary (Both f g) ms l h = absurd (omega arith)
-as-primary (Either f g) ms l h = absurd (omega arith)
-as-primary (Leads f g) ms l h = absurd (omega arith)
-as-primary (Equals f g) ms l h = absurd (omega arith)
+unfolding own joint_production
+as-primary (Joins j f g) ms l h = absurd (joined-high j l)
 as-primary f ms l h = h
 
 as-conjunction : (f : Written) (ms : Marked) → level f ≤ 1 → Of (Rule (own f)) ms → Of (Rule name.Conjunction) ms
-unfolding own
-as-conjunction (Both f g) ms l h = h
-as-conjunction (Either f g) ms l h = absurd (omega arith)
-as-conjunction (Leads f g) ms l h = absurd (omega arith)
-as-conjunction (Equals f g) ms l h = absurd (omega arith)
+unfolding own joint_production
+as-conjunction (Joins Conjunction f g) ms l h = h
+as-conjunction (Joins Disjunction f g) ms l h = absurd (omega arith)
+as-conjunction (Joins Implication f g) ms l h = absurd (omega arith)
+as-conjunction (Joins Equivalence f g) ms l h = absurd (omega arith)
 as-conjunction f ms l h = as-conjunction' ms h
 
 as-disjunction : (f : Written) (ms : Marked) → level f ≤ 2 → Of (Rule (own f)) ms → Of (Rule name.Disjunction) ms
-unfolding own
-as-disjunction (Either f g) ms l h = h
-as-disjunction (Leads f g) ms l h = absurd (omega arith)
-as-disjunction (Equals f g) ms l h = absurd (omega arith)
+unfolding own joint_production
+as-disjunction (Joins Disjunction f g) ms l h = h
+as-disjunction (Joins Implication f g) ms l h = absurd (omega arith)
+as-disjunction (Joins Equivalence f g) ms l h = absurd (omega arith)
 as-disjunction f ms l h = as-disjunction' ms (as-conjunction f ms (omega arith) h)
 
 as-implication : (f : Written) (ms : Marked) → level f ≤ 3 → Of (Rule (own f)) ms → Of (Rule name.Implication) ms
-unfolding own
-as-implication (Leads f g) ms l h = h
-as-implication (Equals f g) ms l h = absurd (omega arith)
+unfolding own joint_production
+as-implication (Joins Implication f g) ms l h = h
+as-implication (Joins Equivalence f g) ms l h = absurd (omega arith)
 as-implication f ms l h = as-implication' ms (as-disjunction f ms (omega arith) h)
 
 as-formula : (f : Written) (ms : Marked) → Of (Rule (own f)) ms → Of (Rule name.Formula) ms
-unfolding own
-as-formula (Equals f g) ms h = h
+unfolding own joint_production
+as-formula (Joins Equivalence f g) ms h = h
 as-formula f ms h = as-formula' ms (as-implication f ms (omega arith) h)
 
 -- a sign, its right part and what is whole then
 sign-of : (c : Class) (t : Token) (n : Production) (a : Action) (ms : Marked) → Of (Rule n) ms → Of (Then (Take c) (Then (Rule n) (Say a))) (Seen c t ∷ (ms ++ Said a ∷ []))
 sign-of c t n a ms h = first-of c t (Then (Rule n) (Say a)) (ms ++ Said a ∷ []) (pair-of (Rule n) (Say a) ms (Said a ∷ []) h (says a))
 
+lowest : (f : Written) → level f ≤ 0 → level f ≡ 0
+lowest f low = omega arith
+
 written-of : (f : Written) → IsGrouped f → Of (Rule (own f)) (formula_marks f)
-unfolding own
+unfolding own joint_production
 written-of True' h = by_rule name.Primary _ (right _ _ _ (right _ _ _ (left _ _ _ (takes class.IsTrue))))
 written-of False' h = by_rule name.Primary _ (right _ _ _ (right _ _ _ (right _ _ _ (left _ _ _ (takes class.IsFalse)))))
 written-of (Named n) h = by_rule name.Primary _ (right _ _ _ (right _ _ _ (right _ _ _ (right _ _ _ (takes class.IsAtom)))))
-written-of (Denied f) h = by_rule name.Primary _ (left _ _ _ (sign-of class.Negates (codes "~") name.Primary action.ToNot (formula_marks f) (as-primary f (formula_marks f) h.1 (written-of f h.0))))
+written-of (Prefixed Denial f) h = by_rule name.Primary _ (left _ _ _ (sign-of class.Negates (codes "~") name.Primary action.ToNot (formula_marks f) (as-primary f (formula_marks f) h.1 (written-of f h.0))))
 written-of (Grouped f) h =
     by_rule name.Primary _ (right _ _ _ (left _ _ _ (first-of class.OpensParenthesis (codes "(") _ _
     (pair-of (Rule name.Formula) (Take class.ClosesParenthesis) (formula_marks f) (Seen class.ClosesParenthesis (codes ")") ∷ []) (as-formula f (formula_marks f) (written-of f h)) (takes class.ClosesParenthesis)))))
-written-of (Both f g) h =
+written-of (Joins Conjunction f g) h =
     by_rule name.Conjunction _ (grown (Rule name.Primary) _ (formula_marks f) _ (inside-rule name.Conjunction _ (as-conjunction f (formula_marks f) h.1 (written-of f h.0)))
-    (sign-of class.Conjoins (codes "&") name.Primary action.ToAnd (formula_marks g) (as-primary g (formula_marks g) h.3 (written-of g h.2))))
-written-of (Either f g) h =
+    (sign-of class.Conjoins (codes "&") name.Primary action.ToAnd (formula_marks g) (as-primary g (formula_marks g) (lowest g h.3) (written-of g h.2))))
+written-of (Joins Disjunction f g) h =
     by_rule name.Disjunction _ (grown (Rule name.Conjunction) _ (formula_marks f) _ (inside-rule name.Disjunction _ (as-disjunction f (formula_marks f) h.1 (written-of f h.0)))
     (sign-of class.Disjoins (codes "|") name.Conjunction action.ToOr (formula_marks g) (as-conjunction g (formula_marks g) h.3 (written-of g h.2))))
-written-of (Leads f g) h =
+written-of (Joins Implication f g) h =
     by_rule name.Implication _ (pair-of (Rule name.Disjunction) _ (formula_marks f) _ (as-disjunction f (formula_marks f) h.1 (written-of f h.0))
     (with_it _ _ (sign-of class.Implies (codes "->") name.Implication action.ToImplies (formula_marks g) (as-implication g (formula_marks g) h.3 (written-of g h.2)))))
-written-of (Equals f g) h =
+written-of (Joins Equivalence f g) h =
     by_rule name.Formula _ (pair-of (Rule name.Implication) _ (formula_marks f) _ (as-implication f (formula_marks f) h.1 (written-of f h.0))
     (with_it _ _ (sign-of class.Equates (codes "<->") name.Formula action.ToIff (formula_marks g) (as-formula g (formula_marks g) (written-of g h.2)))))
 
@@ -266,9 +270,9 @@ context-of : (c : WrittenContext) → IsContext c → Of (Rule name.Context) (co
 context-of c h = by_rule name.Context _ (first-of class.BeginsContext (codes "context") _ (Seen class.NamesContext c.name ∷ kb_marks c.kb) (first-of class.NamesContext c.name _ (kb_marks c.kb) (at c.kb h.1)))
   where
     at : (kb : WrittenKb) → IsKb kb → Of kb_part (kb_marks kb)
-    at (Classical fs) h = left _ _ _ (items-of class.SaysClassical (codes "classical") name.Formula _ (many-of _ IsFormula (λ f. ended_marks (formula_marks f)) (λ f g. ended-of name.Formula (formula_marks f) (formula-of f g.0)) fs h))
-    at (DefaultTheory is) h = right _ _ _ (left _ _ _ (items-of class.SaysDefault (codes "default") name.Item _ (many-of _ IsItem (λ i. ended_marks (item_marks i)) (λ i g. ended-of name.Item (item_marks i) (item-of i g)) is h)))
-    at (Program rs) h = right _ _ _ (right _ _ _ (items-of class.SaysProgram (codes "program") name.ProgramRule _ (many-of _ IsRule (λ r. ended_marks (rule_marks r)) (λ r g. ended-of name.ProgramRule (rule_marks r) (rule-of r g)) rs h)))
+    at (OfKind ClassicalKind fs) h = left _ _ _ (items-of class.SaysClassical (codes "classical") name.Formula _ (many-of _ IsFormula (λ f. ended_marks (formula_marks f)) (λ f g. ended-of name.Formula (formula_marks f) (formula-of f g.0)) fs h))
+    at (OfKind DefaultKind is) h = right _ _ _ (left _ _ _ (items-of class.SaysDefault (codes "default") name.Item _ (many-of _ IsItem (λ i. ended_marks (item_marks i)) (λ i g. ended-of name.Item (item_marks i) (item-of i g)) is h)))
+    at (OfKind ProgramKind rs) h = right _ _ _ (right _ _ _ (items-of class.SaysProgram (codes "program") name.ProgramRule _ (many-of _ IsRule (λ r. ended_marks (rule_marks r)) (λ r g. ended-of name.ProgramRule (rule_marks r) (rule-of r g)) rs h)))
 
 -- ---- the whole text
 pub text-of : (t : WrittenText) → IsText t → Of (Rule name.Text) (text_marks t)

@@ -34,3 +34,10 @@ pub mod UsesParts
 pub mod UsesAtoms
 pub mod UsesSizes
 pub mod FirstTokens
+pub mod Signs
+pub mod ItemMarks
+pub mod ItemCourses
+pub mod ItemAccounts
+pub mod ItemTurns
+pub mod ItemUses
+pub mod KindItems

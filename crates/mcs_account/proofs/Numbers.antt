@@ -1,5 +1,5 @@
 -- The contexts of a text by their numbers.
-use Rattle.std.proofs.Common.{◌≡◌, ℕ, Bool, true, false, List, [], ◌∷◌, ◌++◌, map, length, Some, refl, sym, ap, ◌∙◌, inl, inr, append_assoc, append-nil}
+use Rattle.std.proofs.Common.{◌≡◌, ℕ, Bool, true, false, List, [], ◌∷◌, ◌++◌, map, length, Option, Some, None, refl, sym, ap, ◌∙◌, inl, inr, append_assoc, append-nil}
 use Rattle.std.specs.Prelude.{slice_get}
 use Rattle.std.proofs.lemmas.List.{map-append}
 use Rattle.mcs_base.proofs.Lists.{slice_get_kept, slice_get_seam}
@@ -9,7 +9,8 @@ use Rattle.mcs_grammar.specs.Entries.{Token, Use}
 use Rattle.mcs_productions.specs.declared.class.Class.{Class}
 use Rattle.mcs_productions.specs.declared.class.Class.TheVariants as class
 use Rattle.mcs_account.specs.declared.place.Place as code_place
-use Rattle.mcs_account.specs.Account.{Account, Place, place_after, own_uses, uses_at, uses_with, in_last, with_kb, with_item, took, read_added}
+use Rattle.mcs_account.specs.Account.{Account, Place, place_after, own_uses, uses_at, uses_with, in_last, with_kb, with_item, of_kind, took, read_added}
+use Rattle.mcs_account.specs.Items.{kind_said}
 use Rattle.mcs_account.specs.Images.{context_chosen, target_chosen}
 use Rattle.mcs_account.specs.Reading.{ended_if}
 use Rattle.mcs_account.specs.Turns.{comes, named_after}
@@ -26,12 +27,14 @@ last-names f h [] = refl
 last-names f h (c ∷ []) = ap (λ (n : Name). n ∷ []) (h c)
 last-names f h (c ∷ d ∷ cs) = ap (λ (ns : List Name). c.name ∷ ns) (last-names f h (d ∷ cs))
 
+kind-names : (k : Option plain.Kind) (a : Account) → names_in (of_kind k a) ≡ names_in a
+kind-names None a = refl
+kind-names (Some k) a = last-names (with_kb (plain.OfKind k [])) (λ c. refl) a.contexts
+
 pub took-names : (a : Account) (c : Class) (t : Token) → names_in (took a c t) ≡ names_in a ++ introduced c t
 took-names a class.NamesContext t = map-append (λ (c : plain.Context). c.name) a.contexts (record { name = t; kb = plain.Classical [] } ∷ [])
-took-names a class.SaysDefault t = last-names (with_kb (plain.DefaultTheory [])) (λ c. refl) a.contexts ∙ sym (append-nil (names_in a))
-took-names a class.SaysProgram t = last-names (with_kb (plain.Program [])) (λ c. refl) a.contexts ∙ sym (append-nil (names_in a))
 took-names a class.EndsItem t = last-names (with_item a.operands a.rule) (λ c. refl) a.contexts ∙ sym (append-nil (names_in a))
-took-names a c t = sym (append-nil (names_in a))
+took-names a c t = kind-names (kind_said c) a ∙ sym (append-nil (names_in a))
 
 pub ended-names : (b : Bool) (a : Account) → names_in (ended_if b a) ≡ names_in a
 ended-names false a = refl

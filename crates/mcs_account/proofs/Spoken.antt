@@ -1,14 +1,15 @@
 -- The contexts that a text speaks of were named before.
-use Rattle.std.proofs.Common.{◌≡◌, Bool, true, false, List, [], ◌∷◌, ◌++◌, refl, sym, subst, inl, inr, ◌⊎◌}
+use Rattle.std.proofs.Common.{◌≡◌, ℕ, ◌+◌, Bool, true, false, List, [], ◌∷◌, ◌++◌, refl, sym, subst, inl, inr, ◌⊎◌}
 use Rattle.std.specs.List.{AllByRecursion}
 use Rattle.mcs_base.specs.Listings.{IsAmong}
 use Rattle.mcs_base.proofs.Among.{among_left, among_right}
 use Rattle.mcs_system.specs.Plain.{Name}
 use Rattle.mcs_system.specs.Plain as plain
-use Rattle.mcs_grammar.specs.Entries.{Token, Use, NamesContext, NamesTarget, NamesSource, EndsRead, Entry}
+use Rattle.mcs_grammar.specs.Entries.{Token, Use, NamesContext, NamesTarget, NamesSource, EndsRead, IsNumber, Entry}
 use Rattle.mcs_grammar.specs.Faults.{TextFault, NoContext, Has}
 use Rattle.mcs_productions.specs.declared.class.Class.{Class}
 use Rattle.mcs_productions.specs.declared.class.Class.TheVariants as class
+use Rattle.mcs_account.specs.Items.{is_counted}
 use Rattle.mcs_account.specs.Account.{Place, place_after, own_uses, uses_at, when, uses_with}
 use Rattle.mcs_account.specs.Images.{WasNamed, IsSpokenOf}
 use Rattle.mcs_account.specs.Known.{IsKnown}
@@ -33,6 +34,10 @@ module _ (before : List Use) (n : Bool) (p : Place) (h : IsKnown before n p) whe
     ]
   ]
 
+  number-spoken : (b : Bool) (k : ℕ) → AreSpoken before (when b (IsNumber k))
+  number-spoken true k = (tt, tt)
+  number-spoken false k = tt
+
   own-spoken : (c : Class) (t : Token) → comes c n ≡ true → AreSpoken before (own_uses p c t)
   own-spoken class.SaysProgram t e = ((h.contexts e).0, tt)
   own-spoken class.BeginsDefault t e = ((h.contexts e).0, tt)
@@ -47,15 +52,8 @@ module _ (before : List Use) (n : Bool) (p : Place) (h : IsKnown before n p) whe
   own-spoken class.WeighsTwo t e = (tt, tt)
   own-spoken class.NamesTarget t e = (tt, tt)
   own-spoken class.NamesSource t e = (tt, tt)
-  own-spoken class.Negates t e = (tt, tt)
-  own-spoken class.Conjoins t e = (tt, tt)
-  own-spoken class.Disjoins t e = (tt, tt)
-  own-spoken class.Implies t e = (tt, tt)
-  own-spoken class.Equates t e = (tt, tt)
-  own-spoken class.IsTrue t e = (tt, tt)
-  own-spoken class.IsFalse t e = (tt, tt)
   own-spoken class.OpensParenthesis t e = (tt, tt)
-  own-spoken c t e = tt
+  own-spoken c t e = number-spoken (is_counted c) (p.counted + 1)
 
   at-spoken : (c : Class) (t : Token) → comes c n ≡ true → AreSpoken before (uses_at p c t)
   at-spoken class.ClosesItems t e = tt

@@ -7,7 +7,7 @@ use Rattle.mcs_syntax.specs.Grammar.{Take, Then, Or}
 use Rattle.mcs_grammar.specs.Entries.{Token}
 use Rattle.std.proofs.lemmas.List.{append-nil}
 use Rattle.std.specs.List.{flat_map, AllByRecursion}
-use Rattle.mcs_grammar.specs.Written.{True', False', Named, Denied, Grouped, Both, Either, Leads, Equals, IsFormula, WrittenRead, IsPlace, Fact, Rule, IsItem, WrittenLiteral, IsRule, Classical, DefaultTheory, Program, IsContext, WrittenBridge, IsWrittenBridge, IsWeight, no_marks, IsNameWord}
+use Rattle.mcs_grammar.specs.Written.{Denial, True', False', Named, Prefixed, Grouped, Joins, IsFormula, WrittenRead, IsPlace, Fact, Rule, IsItem, WrittenLiteral, IsRule, OfKind, IsContext, WrittenBridge, IsWrittenBridge, IsWeight, no_marks, IsNameWord}
 use Rattle.mcs_productions.specs.Productions.{rules}
 use Rattle.mcs_productions.specs.declared.production.Production.{Production}
 use Rattle.mcs_productions.specs.declared.production.Production.TheVariants as name
@@ -16,7 +16,7 @@ use Rattle.mcs_account.proofs.Trees.{Tree, flat, if_some}
 use Rattle.mcs_account.proofs.Values.{UpTo, Value, value_marks, ReadValue, LiteralValue}
 use Rattle.mcs_productions.specs.declared.class.Class.TheVariants as class
 use Rattle.mcs_account.specs.Mark.{Seen, events_of}
-use Rattle.mcs_system.specs.Plain.{Name}
+use Rattle.mcs_system.specs.Plain.{Name, Conjunction, Disjunction, Implication, Equivalence, ClassicalKind, DefaultKind, ProgramKind}
 use Rattle.mcs_productions.specs.declared.class.Class.{Class}
 use Rattle.mcs_account.proofs.TreeLemmas.{AreMade, tree-of}
 use Rattle.mcs_account.proofs.Forward.{Part, Of}
@@ -36,7 +36,7 @@ abbrev higher : (j k : ℕ) → j ≤ k → UpTo j → UpTo k
 higher j k h v = let below = v.2 in (v.0, v.1, omega arith)
 
 pub primary-made : Makes name.Primary
-primary-made (inl t) = let v = t.1.0 in ((Denied v.0, ((v.1.0, v.2), v.1.1), refl), refl)
+primary-made (inl t) = let v = t.1.0 in ((Prefixed Denial v.0, ((v.1.0, v.2), v.1.1), refl), refl)
 primary-made (inr (inl t)) = let v = t.1.0 in ((Grouped v.0, (v.1.0, v.1.1), refl), refl)
 primary-made (inr (inr (inl x))) = ((True', (tt, tt), refl), refl)
 primary-made (inr (inr (inr (inl x)))) = ((False', (tt, tt), refl), refl)
@@ -52,24 +52,24 @@ left-grouped k step more v (x ∷ xs) =
     (all.0, all.1 ∙ ap (λ (ms : Marked). ms ++ flat_map step xs) one.1 ∙ append_assoc (formula_marks v.0) (step x) (flat_map step xs))
 
 pub conjunction-made : Makes name.Conjunction
-conjunction-made t = left-grouped 1 _ (λ v x. let w = x.1.0 in ((Both v.0 w.0, ((v.1.0, v.2, w.1.0, w.2), (v.1.1, w.1.1)), omega arith), refl)) (t.0.0, t.0.1, (let e = t.0.2 in omega arith)) t.1
+conjunction-made t = left-grouped 1 _ (λ v x. let w = x.1.0 in ((Joins Conjunction v.0 w.0, ((v.1.0, v.2, w.1.0, (let e = w.2 in omega arith)), (v.1.1, w.1.1)), omega arith), refl)) (t.0.0, t.0.1, (let e = t.0.2 in omega arith)) t.1
 
 pub disjunction-made : Makes name.Disjunction
-disjunction-made t = left-grouped 2 _ (λ v x. let w = x.1.0 in ((Either v.0 w.0, ((v.1.0, v.2, w.1.0, w.2), (v.1.1, w.1.1)), omega arith), refl)) (higher 1 2 (omega arith) t.0) t.1
+disjunction-made t = left-grouped 2 _ (λ v x. let w = x.1.0 in ((Joins Disjunction v.0 w.0, ((v.1.0, v.2, w.1.0, w.2), (v.1.1, w.1.1)), omega arith), refl)) (higher 1 2 (omega arith) t.0) t.1
 
 pub implication-made : Makes name.Implication
 implication-made t = at t.1
   where
     at : (o : Option _) → (v : UpTo 3) × (formula_marks v.0 ≡ written_parts name.Implication (t.0, o))
     at None = (higher 2 3 (omega arith) t.0, sym (append-nil (formula_marks t.0.0)))
-    at (Some x) = let w = x.1.0 in ((Leads t.0.0 w.0, ((t.0.1.0, t.0.2, w.1.0, w.2), (t.0.1.1, w.1.1)), omega arith), refl)
+    at (Some x) = let w = x.1.0 in ((Joins Implication t.0.0 w.0, ((t.0.1.0, t.0.2, w.1.0, w.2), (t.0.1.1, w.1.1)), omega arith), refl)
 
 pub equivalence-made : Makes name.Formula
 equivalence-made t = at t.1
   where
     at : (o : Option _) → (v : UpTo 4) × (formula_marks v.0 ≡ written_parts name.Formula (t.0, o))
     at None = (higher 3 4 (omega arith) t.0, sym (append-nil (formula_marks t.0.0)))
-    at (Some x) = let w = x.1.0 in ((Equals t.0.0 w.0, ((t.0.1.0, t.0.2, w.1.0, w.2), (t.0.1.1, w.1.1)), omega arith), refl)
+    at (Some x) = let w = x.1.0 in ((Joins Equivalence t.0.0 w.0, ((t.0.1.0, t.0.2, w.1.0, w.2), (t.0.1.1, w.1.1)), omega arith), refl)
 
 -- ---- any number of parts
 -- values that parts have, and how they are written
@@ -199,15 +199,15 @@ context-made t = at t.1.1
     at (inl k) =
         let n = t.1.0 in
         let fs = listed IsFormula (λ y. ((y.0).0, (y.0).1)) (λ f. ended_marks (formula_marks f)) k.1.1.0 in
-        ((record { name = n.0; kb = Classical (map (λ y. (y.0).0) k.1.1.0) }, (n.1, fs.0)), items-part n.0 class.SaysClassical _ _ (codes "classical") fs.1)
+        ((record { name = n.0; kb = OfKind ClassicalKind (map (λ y. (y.0).0) k.1.1.0) }, (n.1, fs.0)), items-part n.0 class.SaysClassical _ _ (codes "classical") fs.1)
     at (inr (inl k)) =
         let n = t.1.0 in
         let is = listed IsItem (λ y. y.0) (λ i. ended_marks (item_marks i)) k.1.1.0 in
-        ((record { name = n.0; kb = DefaultTheory (map (λ y. (y.0).0) k.1.1.0) }, (n.1, is.0)), items-part n.0 class.SaysDefault _ _ (codes "default") is.1)
+        ((record { name = n.0; kb = OfKind DefaultKind (map (λ y. (y.0).0) k.1.1.0) }, (n.1, is.0)), items-part n.0 class.SaysDefault _ _ (codes "default") is.1)
     at (inr (inr k)) =
         let n = t.1.0 in
         let rs = listed IsRule (λ y. y.0) (λ r. ended_marks (rule_marks r)) k.1.1.0 in
-        ((record { name = n.0; kb = Program (map (λ y. (y.0).0) k.1.1.0) }, (n.1, rs.0)), items-part n.0 class.SaysProgram _ _ (codes "program") rs.1)
+        ((record { name = n.0; kb = OfKind ProgramKind (map (λ y. (y.0).0) k.1.1.0) }, (n.1, rs.0)), items-part n.0 class.SaysProgram _ _ (codes "program") rs.1)
 
 -- the contexts and the rules
 all-parts : {B : Type 0} (v : Marked) (xs : List (Value name.Context)) (ys : List B) (bridge : B → WrittenBridge) → flat_map context_marks (map (λ x. x.0) xs) ≡ flat_map (λ x. context_marks x.0) xs

@@ -10,7 +10,7 @@ use Rattle.mcs_grammar.specs.Faults.{NamedRead, WasReadInto}
 use Rattle.mcs_account.specs.Images.{read_in}
 use Rattle.mcs_account.proofs.UsesParts.{text_uses, IsReadOf, IsProgramKb}
 use Rattle.mcs_account.proofs.EntryLists.{among-append, append-left, append-right, among-parts, parts-among}
-use Rattle.mcs_account.proofs.ContextUses.{KbUse, OfKind, OfItem, OfDefault, WithinFormula, WithinRule, kb-uses, kind-among, in_formula, in_kb, formula-in, rule-in, kb-in}
+use Rattle.mcs_account.proofs.ContextUses.{KbUse, OfWord, OfItem, OfDefault, WithinFormula, WithinRule, kb-uses, kind-among, in_formula, in_kb, formula-in, rule-in, kb-in}
 use Rattle.mcs_account.proofs.BridgeUses.{BridgeUse, OfBridge, OfName, OfWeight, OfHead, OfRead, bridge-uses, uses-bridge, in_place, in_read, in_bridge, place-in, read-in, bridge-in}
 
 -- ---- of a context, or of a bridge rule
@@ -102,7 +102,7 @@ programs-said t c (NamesOne x there is) = cc
 programs-said t c (WithinKb x there here) = at (kb-uses x.name x.kb (SaysProgram c) here)
   where
     at : KbUse x.name x.kb (SaysProgram c) → (x : WrittenContext) × IsAmong x t.contexts × (x.name ≡ c) × IsProgramKb x.kb
-    at (OfKind is program) = (x, there, cc, program)
+    at (OfWord is program) = (x, there, cc, program)
     at (OfItem is) = cc
     at (OfDefault is) = cc
     at (WithinFormula f in_kb' here) = absurd (not-so in_formula (SaysProgram c) (formula-in x.name f (SaysProgram c) here) refl)

@@ -14,7 +14,7 @@ use Rattle.mcs_productions.specs.declared.production.Action.TheVariants as actio
 use Rattle.mcs_productions.specs.declared.production.Production.{Production}
 use Rattle.mcs_account.specs.Mark.{Seen, Said, events_of}
 use Rattle.mcs_account.specs.Marks.{Marked, Filled, marks_for}
-use Rattle.mcs_account.specs.Account.{Account, Place, place_after, when, uses_at, uses_with, joined, took, told, no_account, accounted, Course, read_ends, course_step, course_told, followed, first_course}
+use Rattle.mcs_account.specs.Account.{Account, Place, place_after, when, uses_at, uses_with, made_of, joined, took, told, no_account, accounted, Course, read_ends, course_step, course_told, followed, first_course}
 use Rattle.mcs_account.specs.Known.{names_in}
 use Rattle.mcs_account.specs.Reading.{AreReadFrom, Events, HasSome, class_in, ends_in, heard, ended_if, top_of}
 use Rattle.mcs_account.specs.Turns.{Turn, Phase, Free, Due, Over, Broken, first_turn, ended, ends, comes, named_after, phase_if, phase_after, phase_told, turn_took, turn_told, passed}
@@ -27,6 +27,7 @@ use Rattle.mcs_account.proofs.Tokens.{join-filled}
 use Rattle.mcs_account.proofs.TreeLemmas.{all-parts}
 use Rattle.mcs_account.proofs.ReadEnds.{EndsBelief, ends_late, stays-broken}
 use Rattle.mcs_account.proofs.Numbers.{introduced, took-names}
+use Rattle.mcs_account.specs.Items.{Making, OfOne, OfTwo, making}
 use Rattle.mcs_account.proofs.Atoms.{IsFor, HasAtom, joined-top}
 
 -- ---- after some of a text: the order of its events, what it says, and what its tokens are there for
@@ -61,11 +62,10 @@ record Agrees (s : State) : Type 0 where
   same : s.account.operands ≡ s.course.operands
   whole : s.turn.formed ≡ true → HasSome s.account.operands
 
-joined-some : (a : Action) (fs : List plain.Formula) → HasSome fs → HasSome (joined a fs)
-joined-some a [] h = absurd h
-joined-some action.ToNot (f ∷ fs) h = tt
-joined-some a (f ∷ []) h = tt
-joined-some a (f ∷ g ∷ fs) h = tt
+made-some : (m : Making) (fs : List plain.Formula) → HasSome fs → HasSome (made_of m fs)
+made-some (OfOne p) (f ∷ fs) h = tt
+made-some (OfTwo j) (g ∷ f ∷ fs) h = tt
+made-some m fs h = h
 
 took-agrees : (s : State) (c : Class) (t : Token) → Agrees s → Agrees (took_at s c t)
 took-agrees s class.EndsItem t h = record { same = refl; whole = λ e. absurd (cc) }
@@ -81,7 +81,7 @@ told-agrees s action.EndsRead h = record { same = at s.account.operands s.course
     at : (fs gs : List plain.Formula) → fs ≡ gs → (told (record s.account { operands = fs }) action.EndsRead).operands ≡ (read_ends (record s.course { operands = gs }) gs).operands
     at [] gs e = rw (← e) refl
     at (f ∷ fs) gs e = rw (← e) refl
-told-agrees s a h = record { same = ap (joined a) h.same; whole = λ e. joined-some a s.account.operands (h.whole e) }
+told-agrees s a h = record { same = ap (joined a) h.same; whole = λ e. made-some (making a) s.account.operands (h.whole e) }
 
 all-agree : (s : State) (ms : Marked) → Agrees s → Agrees (after s ms)
 all-agree s [] h = h

@@ -5,19 +5,21 @@ use Rattle.std.proofs.lemmas.Slice.Eq.{bytes_eq-Decides}
 use Rattle.std.proofs.lemmas.List.{map-append}
 use Rattle.std.specs.List.{flat_map, AllByRecursion}
 use Rattle.mcs_system.specs.Plain as plain
-use Rattle.mcs_grammar.specs.Written.{Written, True', False', Named, Denied, Grouped, Both, Either, Leads, Equals, HasNames, IsFormula, WrittenItem, Fact, IsItem, WrittenLiteral, WrittenRule, IsRule, WrittenKb, Classical, DefaultTheory, Program, IsKb, WrittenContext, IsContext, WrittenRead, IsPlace, WrittenBridge, IsWrittenBridge, IsWeight, WrittenText, IsText, IsNameWord}
-use Rattle.mcs_grammar.specs.Written as written
+use Rattle.mcs_grammar.specs.Written.{WrittenKb, OfKind, IsWrittenIn, IsKb, WrittenContext, IsContext, WrittenRead, IsPlace, WrittenBridge, IsWrittenBridge, IsWeight, WrittenText, IsText}
 use Rattle.mcs_grammar.specs.Entries.{Token, Use, EndsRead, Entry, with_last, text_entries, tokens_of}
 use Rattle.mcs_system.specs.Plain.{Name}
 use Rattle.mcs_productions.specs.declared.class.Class.{Class}
 use Rattle.mcs_productions.specs.declared.class.Class.TheVariants as class
 use Rattle.mcs_productions.specs.declared.production.Action.{Action}
 use Rattle.mcs_productions.specs.declared.production.Action.TheVariants as action
-use Rattle.mcs_account.specs.Mark.{Mark, Seen, Said, IsFilled, tokens_in}
-use Rattle.mcs_account.specs.Marks.{Marked, Filled, Fill, bytes_for, formula_marks, two_marks, after_marks, item_marks, head_marks, further_head_marks, literal_denial, literal_marks, further_literal_marks, sign_marks, rule_marks, ended_marks, kb_marks, context_marks, denial_marks, read_marks, further_marks, reads_marks, tail_marks, word_marks, weight_marks, bridge_marks, version_marks, text_marks}
+use Rattle.mcs_account.specs.Mark.{Seen, Said, tokens_in}
+use Rattle.mcs_account.specs.Marks.{Marked, Filled, formula_marks, ended_marks, marks_in, kb_marks, context_marks, denial_marks, read_marks, further_marks, reads_marks, tail_marks, word_marks, weight_marks, bridge_marks, version_marks, text_marks}
 use Rattle.mcs_account.specs.Account.{Course, course_step, course_told, read_ends, followed}
 use Rattle.mcs_account.proofs.Courses.{course_at, free_place}
 use Rattle.mcs_account.proofs.ContextCourses.{text-follows}
+pub use Rattle.mcs_account.proofs.ItemMarks.{join-filled}
+use Rattle.mcs_account.proofs.ItemMarks.{IsOne, all-filled, formula-filled, ended-filled}
+use Rattle.mcs_account.proofs.KindItems.{word-filled, filled-in}
 
 -- ---- tokens
 last-tokens : (us : List Use) (ms : List Entry) → tokens_of (with_last us ms) ≡ tokens_of ms
@@ -43,66 +45,8 @@ pub text-tokens : (t : WrittenText) → IsText t → tokens_of (text_entries t) 
 text-tokens t h = let f = text-follows t h in sym (ap (λ (s : Course). tokens_of s.entries) f.course) ∙ followed-tokens (course_at (free_place [] [] 0) [] []) (text_marks t)
 
 -- ---- what each is there for
-abbrev IsOne : Mark Class Action Token → Type 0
-IsOne m = IsFilled Fill bytes_for m
-
-pub join-filled : (ms ns : Marked) → Filled ms → Filled ns → Filled (ms ++ ns)
-join-filled [] ns h k = k
-join-filled (m ∷ ms) ns h k = (h.0, join-filled ms ns h.1 k)
-
-all-filled : {W : Type 0} (P : W → Type 0) (f : W → Marked) → ((w : W) → P w → Filled (f w)) → (ws : List W) → AllByRecursion P ws → Filled (flat_map f ws)
-all-filled P f one [] h = tt
-all-filled P f one (w ∷ ws) h = join-filled (f w) (flat_map f ws) (one w h.0) (all-filled P f one ws h.1)
-
-two-filled : (c : Class) (sign : Token) (a : Action) (ms ns : Marked) → IsOne (Seen c sign) → Filled ms → Filled ns → Filled (two_marks c sign a ms ns)
-two-filled c sign a ms ns e h k = join-filled ms _ h (e, join-filled ns (Said a ∷ []) k (tt, tt))
-
-formula-filled : (f : Written) → HasNames f → Filled (formula_marks f)
-formula-filled True' h = ((tt, refl), tt)
-formula-filled False' h = ((tt, refl), tt)
-formula-filled (Named n) h = (((n, h), refl), tt)
-formula-filled (Denied f) h = ((tt, refl), join-filled (formula_marks f) _ (formula-filled f h) (tt, tt))
-formula-filled (Grouped f) h = ((tt, refl), join-filled (formula_marks f) _ (formula-filled f h) ((tt, refl), tt))
-formula-filled (Both f g) h = two-filled class.Conjoins (codes "&") action.ToAnd (formula_marks f) (formula_marks g) (tt, refl) (formula-filled f h.0) (formula-filled g h.1)
-formula-filled (Either f g) h = two-filled class.Disjoins (codes "|") action.ToOr (formula_marks f) (formula_marks g) (tt, refl) (formula-filled f h.0) (formula-filled g h.1)
-formula-filled (Leads f g) h = two-filled class.Implies (codes "->") action.ToImplies (formula_marks f) (formula_marks g) (tt, refl) (formula-filled f h.0) (formula-filled g h.1)
-formula-filled (Equals f g) h = two-filled class.Equates (codes "<->") action.ToIff (formula_marks f) (formula_marks g) (tt, refl) (formula-filled f h.0) (formula-filled g h.1)
-
-item-filled : (i : WrittenItem) → IsItem i → Filled (item_marks i)
-item-filled (Fact f) h = formula-filled f h.1
-item-filled (written.Rule d) h =
-    join-filled (formula_marks d.pre) _ (formula-filled d.pre h.0.1) (
-      (tt, refl),
-      join-filled (formula_marks d.first_just) _ (formula-filled d.first_just h.1.0.1)
-          (join-filled (flat_map (after_marks class.SeparatesJustifications (codes ",")) d.justs) _ (all-filled IsFormula (after_marks class.SeparatesJustifications (codes ",")) (λ f g. ((tt, refl), formula-filled f g.1)) d.justs h.1.1) ((tt, refl), formula-filled d.conclusion h.2.1)),
-    )
-
-literal-filled : (l : WrittenLiteral) → IsNameWord l.atom → Filled (literal_marks l)
-literal-filled l h = at l.denied
-  where
-    at : (b : Bool) → Filled (literal_denial b ++ Seen class.IsBodyAtom l.atom ∷ [])
-    at true = ((tt, refl), (((l.atom, h), refl), tt))
-    at false = (((l.atom, h), refl), tt)
-
-sign-filled : (sign : Bool) (ls : List WrittenLiteral) → AllByRecursion (λ (l : WrittenLiteral). IsNameWord l.atom) ls → Filled (sign_marks sign ls)
-sign-filled false ls h = tt
-sign-filled true [] h = ((tt, refl), tt)
-sign-filled true (l ∷ ls) h = ((tt, refl), join-filled (literal_marks l) _ (literal-filled l h.0) (all-filled (λ (q : WrittenLiteral). IsNameWord q.atom) further_literal_marks (λ q n. ((tt, refl), literal-filled q n)) ls h.1))
-
-head-filled : (names : List Name) → AllByRecursion IsNameWord names → Filled (head_marks names)
-head-filled [] h = tt
-head-filled (a ∷ names) h = (((a, h.0), refl), all-filled IsNameWord further_head_marks (λ n w. ((tt, refl), (((n, w), refl), tt))) names h.1)
-
-rule-filled : (r : WrittenRule) → IsRule r → Filled (rule_marks r)
-rule-filled r h = join-filled (head_marks r.head) _ (head-filled r.head h.head_names) (sign-filled r.has_sign r.body h.body_names)
-
-ended-filled : (ms : Marked) → Filled ms → Filled (ended_marks ms)
-ended-filled ms h = join-filled ms _ h ((tt, refl), tt)
-
 kb-filled : (kb : WrittenKb) → IsKb kb → Filled (kb_marks kb)
-kb-filled (Classical fs) h = ((tt, refl), ((tt, refl), join-filled _ _ (all-filled IsFormula (λ f. ended_marks (formula_marks f)) (λ f g. ended-filled (formula_marks f) (formula-filled f g.1)) fs h) ((tt, refl), tt)))
-kb-filled (DefaultTheory is) h = ((tt, refl), ((tt, refl), join-filled _ _ (all-filled IsItem (λ i. ended_marks (item_marks i)) (λ i g. ended-filled (item_marks i) (item-filled i g)) is h) ((tt, refl), tt)))
-kb-filled (Program rs) h = ((tt, refl), ((tt, refl), join-filled _ _ (all-filled IsRule (λ r. ended_marks (rule_marks r)) (λ r g. ended-filled (rule_marks r) (rule-filled r g)) rs h) ((tt, refl), tt)))
+kb-filled (OfKind k items) h = (word-filled k, ((tt, refl), join-filled _ _ (all-filled (IsWrittenIn k) (λ i. ended_marks (marks_in k i)) (λ i g. ended-filled (marks_in k i) (filled-in k i g)) items h) ((tt, refl), tt)))
 
 context-filled : (c : WrittenContext) → IsContext c → Filled (context_marks c)
 context-filled c h = ((tt, refl), (((c.name, h.0), refl), kb-filled c.kb h.1))
@@ -121,9 +65,9 @@ reads-filled : (rs : List WrittenRead) → AllByRecursion (λ (r : WrittenRead).
 reads-filled [] h = tt
 reads-filled (r ∷ rs) h = ((tt, refl), join-filled (read_marks r) _ (read-filled r h.0) (all-filled (λ (q : WrittenRead). IsPlace q.place) further_marks (λ q p. ((tt, refl), read-filled q p)) rs h.1))
 
-word-filled : (c : Class) (word : Token) → IsOne (Seen c word) → (b : Bool) → Filled (word_marks c word b)
-word-filled c word one true = (one, tt)
-word-filled c word one false = tt
+optional-filled : (c : Class) (word : Token) → IsOne (Seen c word) → (b : Bool) → Filled (word_marks c word b)
+optional-filled c word one true = (one, tt)
+optional-filled c word one false = tt
 
 weight-filled : (w : Option Token) → IsWeight w → Filled (weight_marks w)
 weight-filled None h = tt
@@ -151,8 +95,8 @@ bridge-filled b h = (
   (tt, refl),
   (
     ((b.name, h.0), refl),
-    join-filled (word_marks class.Keeps (codes "keep") b.marks.keep) _ (word-filled class.Keeps (codes "keep") (tt, refl) b.marks.keep)
-        (join-filled (word_marks class.Closes (codes "closed") b.marks.closed) _ (word-filled class.Closes (codes "closed") (tt, refl) b.marks.closed)
+    join-filled (word_marks class.Keeps (codes "keep") b.marks.keep) _ (optional-filled class.Keeps (codes "keep") (tt, refl) b.marks.keep)
+        (join-filled (word_marks class.Closes (codes "closed") b.marks.closed) _ (optional-filled class.Closes (codes "closed") (tt, refl) b.marks.closed)
         (join-filled (weight_marks b.marks.weight) _ (weight-filled b.marks.weight h.3) (tail-filled b h))),
   ),
 )

@@ -1,72 +1,69 @@
 -- The atoms that a text's tokens are there for.
-use Rattle.std.proofs.Common.{◌≡◌, List, [], ◌∷◌, ◌++◌, map, refl, sym, ap, ◌∙◌, inl, inr, ◌⊎◌, ◌↔◌, subst, append_assoc, append-nil}
+use Rattle.std.proofs.Common.{◌≡◌, List, ◌++◌, map, refl, sym, inl, inr, ◌⊎◌, ◌↔◌, subst}
 use Rattle.std.specs.List.{flat_map}
-use Rattle.std.proofs.lemmas.Grind.{flat_map-append}
-use Rattle.std.proofs.lemmas.List.Folds.{flat_map-map}
 use Rattle.mcs_base.specs.Listings.{IsAmong}
-use Rattle.mcs_base.proofs.Lists.{flat_map_same, flat_map-flat_map}
-use Rattle.mcs_base.proofs.Among.{among_left, among_right, among_either, among_flat_map, flat_map_among}
-use Rattle.mcs_system.specs.Plain.{Name}
-use Rattle.mcs_system.specs.Logic.{atoms}
-use Rattle.mcs_system.specs.Atoms.{item_atoms, rule_atoms, kb_atoms}
-use Rattle.mcs_grammar.specs.Written.{Written, WrittenItem, Fact, Rule, WrittenKb, Classical, DefaultTheory, Program, WrittenRule, WrittenContext, WrittenPlace, WrittenText}
-use Rattle.mcs_grammar.specs.Entries.{Use, AtomOf, formula_in}
-use Rattle.mcs_grammar.specs.Saying.{item_in, rule_in, kb_in}
+use Rattle.mcs_base.proofs.Among.{among_map, map_among, among_left, among_right, among_either, among_flat_map, flat_map_among}
+use Rattle.mcs_system.specs.Plain.{Name, Kind}
+use Rattle.mcs_system.specs.Kinds.{atoms_in}
+use Rattle.mcs_account.specs.Items.{formulas_in, rules_in}
+use Rattle.mcs_system.specs.Atoms.{kb_atoms}
+use Rattle.mcs_grammar.specs.Written.{Written, WrittenOf, WrittenKb, OfKind, WrittenRule, WrittenContext, WrittenPlace, WrittenText}
+use Rattle.mcs_grammar.specs.Entries.{Use, AtomOf}
+use Rattle.mcs_grammar.specs.Saying.{said_in, kb_in}
 use Rattle.mcs_grammar.specs.Faults.{WasAtom}
-use Rattle.mcs_account.proofs.UsesParts.{text_uses, IsPlaceOf, OfHead, OfRead, IsAtomOf, item_formulas, kb_formulas, kb_rules}
+use Rattle.mcs_account.proofs.UsesParts.{text_uses, IsPlaceOf, OfHead, OfRead, IsAtomOf, kb_formulas, kb_rules}
 use Rattle.mcs_account.proofs.FormulaUses.{whole-part}
+use Rattle.mcs_account.proofs.ItemUses.{formula_names, rule_names}
+use Rattle.mcs_account.proofs.KindItems.{names-in}
 use Rattle.mcs_account.proofs.RuleUses.{rule-part}
-use Rattle.mcs_account.proofs.ContextUses.{formula_uses, KbUse, OfKind, OfItem, OfDefault, WithinFormula, WithinRule, kb-uses, formula-among, rule-among}
+use Rattle.mcs_account.proofs.ContextUses.{formula_uses, KbUse, OfWord, OfItem, OfDefault, WithinFormula, WithinRule, kb-uses, formula-among, rule-among}
 use Rattle.mcs_account.proofs.BridgeUses as bridges
 use Rattle.mcs_account.proofs.TextUses.{TextUse, BeginsOne, NamesOne, WithinKb, WithinBridge, text-use, kb-there, bridge-there}
 
 -- ---- the atoms of a knowledge base, by its formulas and its rules
-abbrev pub atoms_in : Written → List Name
-atoms_in f = atoms (formula_in f)
+of-item : (a : Name) (k : Kind) (items : List (WrittenOf k)) (i : WrittenOf k) → IsAmong i items → IsAmong a (flat_map formula_names (formulas_in k i) ++ flat_map rule_names (rules_in k i)) → IsAmong a (kb_atoms (kb_in (OfKind k items)))
+of-item a k items i there here =
+    among_flat_map (atoms_in k) (said_in k i) a (map (said_in k) items) (among_map (said_in k) i items there) (subst (IsAmong a) (sym (names-in k i)) here)
 
-abbrev pub rule_names : WrittenRule → List Name
-rule_names r = rule_atoms (rule_in r)
+-- an atom of a knowledge base is one of a formula or of a rule
+pub data KbAtom (a : Name) (kb : WrittenKb) : Type 0 where
+  OfFormula' : (f : Written) (there : IsAmong f (kb_formulas kb)) (here : IsAmong a (formula_names f)) → KbAtom a kb
+  OfRule' : (r : WrittenRule) (there : IsAmong r (kb_rules kb)) (here : IsAmong a (rule_names r)) → KbAtom a kb
 
-item-atoms : (i : WrittenItem) → item_atoms (item_in i) ≡ flat_map atoms_in (item_formulas i)
-item-atoms (Fact f) = sym (append-nil (atoms_in f))
-item-atoms (Rule d) = ap (λ (xs : List Name). atoms_in d.pre ++ xs)
-    (append_assoc (atoms_in d.first_just) (flat_map atoms (map formula_in d.justs)) (atoms_in d.conclusion)
-    ∙ ap (λ (xs : List Name). atoms_in d.first_just ++ xs)
-    (ap (λ (xs : List Name). xs ++ atoms_in d.conclusion) (flat_map-map atoms formula_in d.justs)
-    ∙ ap (λ (xs : List Name). flat_map atoms_in d.justs ++ xs) (sym (append-nil (atoms_in d.conclusion)))
-    ∙ sym (flat_map-append atoms_in d.justs (d.conclusion ∷ []))))
+kb-atom : (a : Name) (kb : WrittenKb) → IsAmong a (kb_atoms (kb_in kb)) → KbAtom a kb
+kb-atom a (OfKind k items) h =
+    let (x, said, here) = flat_map_among (atoms_in k) a (map (said_in k) items) h in
+    let (i, there, is) = map_among (said_in k) x items said in
+    at i there (among_either a (flat_map formula_names (formulas_in k i)) (flat_map rule_names (rules_in k i)) (subst (IsAmong a) (names-in k i) (subst (λ y. IsAmong a (atoms_in k y)) is here)))
+  where
+    at : (i : WrittenOf k) → IsAmong i items → IsAmong a (flat_map formula_names (formulas_in k i)) ⊎ IsAmong a (flat_map rule_names (rules_in k i)) → KbAtom a (OfKind k items)
+    at i there (inl l) = let (f, in_item, here) = flat_map_among formula_names a (formulas_in k i) l in OfFormula' f (among_flat_map (formulas_in k) i f items there in_item) here
+    at i there (inr l) = let (r, in_item, here) = flat_map_among rule_names a (rules_in k i) l in OfRule' r (among_flat_map (rules_in k) i r items there in_item) here
 
-kb-atoms : (kb : WrittenKb) → kb_atoms (kb_in kb) ≡ flat_map atoms_in (kb_formulas kb) ++ flat_map rule_names (kb_rules kb)
-kb-atoms (Classical formulas) = flat_map-map atoms formula_in formulas ∙ sym (append-nil (flat_map atoms_in formulas))
-kb-atoms (DefaultTheory items) =
-    flat_map-map item_atoms item_in items
-    ∙ flat_map_same (λ (i : WrittenItem). item_atoms (item_in i)) (λ (i : WrittenItem). flat_map atoms_in (item_formulas i)) items item-atoms
-    ∙ sym (flat_map-flat_map atoms_in item_formulas items)
-    ∙ sym (append-nil (flat_map atoms_in (flat_map item_formulas items)))
-kb-atoms (Program rules) = flat_map-map rule_atoms rule_in rules
-
-pub formula-atoms : (a : Name) (kb : WrittenKb) (f : Written) → IsAmong f (kb_formulas kb) → IsAmong a (atoms_in f) → IsAmong a (kb_atoms (kb_in kb))
-formula-atoms a kb f there here = subst (IsAmong a) (sym (kb-atoms kb)) (among_left a (flat_map atoms_in (kb_formulas kb)) (flat_map rule_names (kb_rules kb)) (among_flat_map atoms_in f a (kb_formulas kb) there here))
+pub formula-atoms : (a : Name) (kb : WrittenKb) (f : Written) → IsAmong f (kb_formulas kb) → IsAmong a (formula_names f) → IsAmong a (kb_atoms (kb_in kb))
+formula-atoms a (OfKind k items) f there here =
+    let (i, in_items, in_item) = flat_map_among (formulas_in k) f items there in
+    of-item a k items i in_items (among_left a (flat_map formula_names (formulas_in k i)) (flat_map rule_names (rules_in k i)) (among_flat_map formula_names f a (formulas_in k i) in_item here))
 
 pub rule-atoms : (a : Name) (kb : WrittenKb) (r : WrittenRule) → IsAmong r (kb_rules kb) → IsAmong a (rule_names r) → IsAmong a (kb_atoms (kb_in kb))
-rule-atoms a kb r there here = subst (IsAmong a) (sym (kb-atoms kb)) (among_right a (flat_map atoms_in (kb_formulas kb)) (flat_map rule_names (kb_rules kb)) (among_flat_map rule_names r a (kb_rules kb) there here))
+rule-atoms a (OfKind k items) r there here =
+    let (i, in_items, in_item) = flat_map_among (rules_in k) r items there in
+    of-item a k items i in_items (among_right a (flat_map formula_names (formulas_in k i)) (flat_map rule_names (rules_in k i)) (among_flat_map rule_names r a (rules_in k i) in_item here))
 
 -- ---- a use of a knowledge base
 kb-atom-use : (c a : Name) (n : Name) (kb : WrittenKb) → KbUse n kb (AtomOf c a) → (n ≡ c) × IsAmong a (kb_atoms (kb_in kb))
-kb-atom-use c a n kb (OfKind is program) = cc
+kb-atom-use c a n kb (OfWord is program) = cc
 kb-atom-use c a n kb (OfItem is) = cc
 kb-atom-use c a n kb (OfDefault is) = cc
 kb-atom-use c a n kb (WithinFormula f there here) = let part = (whole-part n f).are (AtomOf c a) here in (sym part.0, formula-atoms a kb f there part.1)
 kb-atom-use c a n kb (WithinRule r there here) = let part = (rule-part n r).are (AtomOf c a) here in (sym part.0, rule-atoms a kb r there part.1)
 
 kb-use-atom : (c a : Name) (x : WrittenContext) (t : WrittenText) → IsAmong x t.contexts → x.name ≡ c → IsAmong a (kb_atoms (kb_in x.kb)) → WasAtom (text_uses t) c a
-kb-use-atom c a x t there is h = at (among_either a (flat_map atoms_in (kb_formulas x.kb)) (flat_map rule_names (kb_rules x.kb)) (subst (IsAmong a) (kb-atoms x.kb) h))
+kb-use-atom c a x t there is h = at (kb-atom a x.kb h)
   where
-    at : IsAmong a (flat_map atoms_in (kb_formulas x.kb)) ⊎ IsAmong a (flat_map rule_names (kb_rules x.kb)) → WasAtom (text_uses t) c a
-    at (inl l) = let (f, in_kb, here) = flat_map_among atoms_in a (kb_formulas x.kb) l in
-        kb-there t (AtomOf c a) x there (formula-among x.name x.kb (AtomOf c a) f in_kb ((whole-part x.name f).there (AtomOf c a) (sym is, here)))
-    at (inr l) = let (r, in_kb, here) = flat_map_among rule_names a (kb_rules x.kb) l in
-        kb-there t (AtomOf c a) x there (rule-among x.name x.kb (AtomOf c a) r in_kb ((rule-part x.name r).there (AtomOf c a) (sym is, here)))
+    at : KbAtom a x.kb → WasAtom (text_uses t) c a
+    at (OfFormula' f in_kb here) = kb-there t (AtomOf c a) x there (formula-among x.name x.kb (AtomOf c a) f in_kb ((whole-part x.name f).there (AtomOf c a) (sym is, here)))
+    at (OfRule' r in_kb here) = kb-there t (AtomOf c a) x there (rule-among x.name x.kb (AtomOf c a) r in_kb ((rule-part x.name r).there (AtomOf c a) (sym is, here)))
 
 -- ---- of a text
 place-atom : (c a : Name) (p : WrittenPlace) (t : WrittenText) → IsPlaceOf t p → IsAmong (AtomOf c a) (formula_uses p.context p.belief) → IsAtomOf t c a

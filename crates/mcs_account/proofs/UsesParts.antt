@@ -1,15 +1,17 @@
 -- The parts of a text that its tokens are told by.
-use Rattle.std.proofs.Common.{◌≡◌, ℕ, ◌+◌, ◌≤◌, max, Bool, cond, List, [], ◌∷◌, ◌++◌, length, ◌⊎◌, true, false, refl, arith}
+use Rattle.std.proofs.Common.{◌≡◌, ℕ, ◌+◌, ◌≤◌, max, Bool, cond, List, [], ◌∷◌, length, ◌⊎◌, true, false, refl, arith}
 use Rattle.std.specs.List.{flat_map}
 use Rattle.mcs_base.specs.Listings.{IsAmong}
-use Rattle.mcs_system.specs.Plain.{Name}
+use Rattle.mcs_system.specs.Plain.{Name, ProgramKind}
 use Rattle.mcs_system.specs.Logic.{same_name, atoms}
 use Rattle.mcs_system.specs.Atoms.{kb_atoms}
-use Rattle.mcs_grammar.specs.Written.{Written, True', False', Named, Denied, Grouped, Both, Either, Leads, Equals, WrittenItem, Fact, Rule, WrittenKb, Classical, DefaultTheory, Program, WrittenLiteral, WrittenRule, WrittenContext, WrittenPlace, WrittenRead, WrittenBridge, WrittenText}
+use Rattle.mcs_grammar.specs.Written.{Written, True', False', Named, Prefixed, Grouped, Joins, WrittenKb, OfKind, WrittenLiteral, WrittenRule, WrittenContext, WrittenPlace, WrittenRead, WrittenBridge, WrittenText}
 use Rattle.mcs_grammar.specs.Entries.{Use, NamesContext, SaysProgram, formula_in, size_of, text_entries, uses_of}
 use Rattle.mcs_grammar.specs.Saying.{kb_in, positive_atoms, negative_atoms}
 use Rattle.mcs_grammar.specs.Faults.{NamedRead}
 use Rattle.mcs_account.specs.Images.{read_in}
+pub use Rattle.mcs_account.specs.Items.{item_formulas}
+use Rattle.mcs_account.specs.Items.{formulas_in, rules_in}
 
 abbrev pub text_uses : WrittenText → List Use
 text_uses t = uses_of (text_entries t)
@@ -45,21 +47,14 @@ IsAtomOf t c a =
 
 -- ---- sizes
 -- the formulas of a knowledge base, and the number of names of its rules
-abbrev pub item_formulas : WrittenItem → List Written
-item_formulas (Fact f) = f ∷ []
-item_formulas (Rule d) = d.pre ∷ d.first_just ∷ (d.justs ++ d.conclusion ∷ [])
-
 abbrev pub kb_formulas : WrittenKb → List Written
-kb_formulas (Classical formulas) = formulas
-kb_formulas (DefaultTheory items) = flat_map item_formulas items
-kb_formulas (Program rules) = []
+kb_formulas (OfKind k items) = flat_map (formulas_in k) items
 
 abbrev pub rule_size : WrittenRule → ℕ
 rule_size r = length r.head + length r.body
 
 abbrev pub kb_rules : WrittenKb → List WrittenRule
-kb_rules (Program rules) = rules
-kb_rules kb = []
+kb_rules (OfKind k items) = flat_map (rules_in k) items
 
 -- a size of a formula or of a rule of the text
 pub data IsSizeOf (t : WrittenText) (n : ℕ) : Type 0 where
@@ -73,12 +68,9 @@ abbrev pub depth_of : Written → ℕ
 depth_of True' = 0
 depth_of False' = 0
 depth_of (Named name) = 0
-depth_of (Denied f) = depth_of f
+depth_of (Prefixed p f) = depth_of f
 depth_of (Grouped f) = depth_of f + 1
-depth_of (Both f g) = max (depth_of f) (depth_of g)
-depth_of (Either f g) = max (depth_of f) (depth_of g)
-depth_of (Leads f g) = max (depth_of f) (depth_of g)
-depth_of (Equals f g) = max (depth_of f) (depth_of g)
+depth_of (Joins j f g) = max (depth_of f) (depth_of g)
 
 pub record IsShallow (t : WrittenText) : Type 0 where
   pub of_contexts : (x : WrittenContext) (f : Written) → IsAmong x t.contexts → IsAmong f (kb_formulas x.kb) → depth_of f ≤ 512
@@ -86,7 +78,7 @@ pub record IsShallow (t : WrittenText) : Type 0 where
 
 -- ---- contexts and their kinds
 abbrev pub IsProgramKb : WrittenKb → Type 0
-IsProgramKb (Program rules) = Unit {0}
+IsProgramKb (OfKind ProgramKind rules) = Unit {0}
 IsProgramKb kb = ⊥
 
 -- ---- at which token: the uses before a bridge rule's token have all that the contexts name and say

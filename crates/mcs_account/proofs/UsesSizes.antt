@@ -6,7 +6,7 @@ use Rattle.mcs_grammar.specs.Entries.{IsNumber, OpensWithin, size_of}
 use Rattle.mcs_account.proofs.UsesParts.{text_uses, IsPlaceOf, OfHead, OfRead, rule_size, IsSizeOf, OfFormula, OfRule, OfPlace, IsShallow}
 use Rattle.mcs_account.proofs.FormulaUses.{whole-part}
 use Rattle.mcs_account.proofs.RuleUses.{rule-part}
-use Rattle.mcs_account.proofs.ContextUses.{formula_uses, KbUse, OfKind, OfItem, OfDefault, WithinFormula, WithinRule, kb-uses, formula-among, rule-among}
+use Rattle.mcs_account.proofs.ContextUses.{formula_uses, KbUse, OfWord, OfItem, OfDefault, WithinFormula, WithinRule, kb-uses, formula-among, rule-among}
 use Rattle.mcs_account.proofs.BridgeUses as bridges
 use Rattle.mcs_account.proofs.TextUses.{TextUse, BeginsOne, NamesOne, WithinKb, WithinBridge, text-use, kb-there}
 use Rattle.mcs_account.proofs.UsesAtoms.{place-there}
@@ -16,7 +16,7 @@ abbrev IsNumbered : WrittenText → ℕ → Type 0
 IsNumbered t n = (1 ≤ n) × ((k : ℕ) × IsSizeOf t k × (n ≤ k))
 
 kb-number : (n : ℕ) (t : WrittenText) (x : WrittenContext) → IsAmong x t.contexts → KbUse x.name x.kb (IsNumber n) → IsNumbered t n
-kb-number n t x there (OfKind is program) = cc
+kb-number n t x there (OfWord is program) = cc
 kb-number n t x there (OfItem is) = cc
 kb-number n t x there (OfDefault is) = cc
 kb-number n t x there (WithinFormula f in_kb here) = let part = (whole-part x.name f).are (IsNumber n) here in (part.0, (size_of f, OfFormula x there f in_kb refl, part.1))
@@ -50,7 +50,7 @@ numbers-there t n = (λ h. numbers-said t n (text-use t (IsNumber n) h), λ h. s
 
 -- ---- parentheses
 kb-opens : (n : ℕ) (t : WrittenText) (x : WrittenContext) → IsShallow t → IsAmong x t.contexts → KbUse x.name x.kb (OpensWithin n) → n < 512
-kb-opens n t x h there (OfKind is program) = cc
+kb-opens n t x h there (OfWord is program) = cc
 kb-opens n t x h there (OfItem is) = cc
 kb-opens n t x h there (OfDefault is) = cc
 kb-opens n t x h there (WithinFormula f in_kb here) = let part = (whole-part x.name f).are (OpensWithin n) here in let most = h.of_contexts x f there in_kb in omega (arith, part.1)

@@ -1,6 +1,6 @@
 -- What was read of a text: the system so far, what is being read, and what each token is there for. A token, by its
 -- class, and an action are one step each.
-use Rattle.std.specs.Prelude.{ℕ, ◌+◌, ◌-◌, min, Bool, true, false, List, [], ◌∷◌, ◌++◌, map}
+use Rattle.std.specs.Prelude.{ℕ, ◌+◌, ◌-◌, min, Bool, true, false, List, [], ◌∷◌, ◌++◌, map, Option, Some, None}
 use Rattle.std.specs.List.{position_or_len}
 use Rattle.mcs_base.specs.Numbers.{value_of_digits}
 use Rattle.mcs_system.specs.Plain.{Name}
@@ -12,7 +12,9 @@ use Rattle.mcs_productions.specs.declared.class.Class.TheVariants as class
 use Rattle.mcs_productions.specs.declared.production.Action.{Action}
 use Rattle.mcs_productions.specs.declared.production.Action.TheVariants as action
 use Rattle.mcs_account.specs.Mark.{Mark, Seen, Said}
-use Rattle.mcs_account.specs.Marks.{Marked}
+pub use Rattle.mcs_account.specs.Items.{item_of}
+use Rattle.mcs_grammar.specs.Items.{prefixed}
+use Rattle.mcs_account.specs.Items.{Marked, Making, OfOne, OfTwo, making, is_counted, kind_said, made_in}
 
 -- ---- the system so far
 pub record Account : Type 0 where
@@ -59,17 +61,13 @@ number_of cs n = min (position_or_len (same_name n) (map (λ (c : plain.Context)
 abbrev pub with_kb : plain.Kb → plain.Context → plain.Context
 with_kb kb c = record c { kb = kb }
 
--- the formulas of a whole item, the last one first: a fact has one, a default three or more
-abbrev pub item_of : plain.Formula → List plain.Formula → List plain.Formula → plain.Item
-item_of conclusion [] justs = plain.Fact conclusion
-item_of conclusion (f ∷ []) justs = plain.Rule (record { pre = f; justs = justs; conclusion = conclusion })
-item_of conclusion (f ∷ g ∷ fs) justs = item_of conclusion (g ∷ fs) (f ∷ justs)
+-- the items with one more, where there is one
+abbrev pub with_made : {A : Type 0} → Option A → List A → List A
+with_made None items = items
+with_made (Some i) items = items ++ i ∷ []
 
 abbrev pub more_kb : List plain.Formula → plain.ProgramRule → plain.Kb → plain.Kb
-more_kb (f ∷ fs) r (plain.Classical formulas) = plain.Classical (formulas ++ f ∷ [])
-more_kb (f ∷ fs) r (plain.DefaultTheory items) = plain.DefaultTheory (items ++ item_of f fs [] ∷ [])
-more_kb fs r (plain.Program rules) = plain.Program (rules ++ r ∷ [])
-more_kb fs r kb = kb
+more_kb fs r (plain.OfKind k items) = plain.OfKind k (with_made (made_in k fs r) items)
 
 abbrev pub with_item : List plain.Formula → plain.ProgramRule → plain.Context → plain.Context
 with_item fs r c = record c { kb = more_kb fs r c.kb }
@@ -115,10 +113,13 @@ with_read false r b = record b { pos = b.pos ++ r ∷ [] }
 abbrev pub pushed : Account → plain.Formula → Account
 pushed a f = record a { operands = f ∷ a.operands }
 
+-- the last context is of the kind that is said, and has no item
+abbrev pub of_kind : Option plain.Kind → Account → Account
+of_kind None a = a
+of_kind (Some k) a = record a { contexts = in_last (with_kb (plain.OfKind k [])) a.contexts }
+
 abbrev pub took : Account → Class → Token → Account
 took a class.NamesContext t = record a { contexts = a.contexts ++ record { name = t; kb = plain.Classical [] } ∷ [] }
-took a class.SaysDefault t = record a { contexts = in_last (with_kb (plain.DefaultTheory [])) a.contexts }
-took a class.SaysProgram t = record a { contexts = in_last (with_kb (plain.Program [])) a.contexts }
 took a class.EndsItem t = record a { contexts = in_last (with_item a.operands a.rule) a.contexts; operands = []; rule = no_rule }
 took a class.IsHeadAtom t = record a { rule = record a.rule { head = a.rule.head ++ t ∷ [] } }
 took a class.DeniesLiteral t = record a { denied = true }
@@ -135,23 +136,25 @@ took a class.EndsBridge t = record a { bridges = in_last (with_head a.operands) 
 took a class.IsTrue t = pushed a plain.Truth
 took a class.IsFalse t = pushed a plain.Falsity
 took a class.IsAtom t = pushed a (plain.Atom t)
-took a c t = a
+took a c t = of_kind (kind_said c) a
 
 -- ---- an action
--- the operands after it
+-- the formulas that are whole after it
+abbrev pub made_of : Making → List plain.Formula → List plain.Formula
+made_of (OfOne p) (f ∷ fs) = prefixed p f ∷ fs
+made_of (OfTwo j) (g ∷ f ∷ fs) = plain.Joined j f g ∷ fs
+made_of m fs = fs
+
 abbrev pub joined : Action → List plain.Formula → List plain.Formula
-joined action.ToNot (f ∷ fs) = plain.Not f ∷ fs
-joined action.ToAnd (g ∷ f ∷ fs) = plain.And f g ∷ fs
-joined action.ToOr (g ∷ f ∷ fs) = plain.Or f g ∷ fs
-joined action.ToImplies (g ∷ f ∷ fs) = plain.Implies f g ∷ fs
-joined action.ToIff (g ∷ f ∷ fs) = plain.Iff f g ∷ fs
-joined a fs = fs
+joined a fs = made_of (making a) fs
 
 -- a connective of two
+abbrev pub IsOfTwo : Making → Type 0
+IsOfTwo (OfTwo j) = Unit {0}
+IsOfTwo m = ⊥
+
 abbrev pub IsJoining : Action → Type 0
-IsJoining action.EndsRead = ⊥
-IsJoining action.ToNot = ⊥
-IsJoining a = Unit {0}
+IsJoining a = IsOfTwo (making a)
 
 abbrev pub read_added : Account → List plain.Formula → Account
 read_added a [] = a
@@ -183,6 +186,10 @@ pub record Place : Type 0 where
 abbrev pub no_place : Place
 no_place = record { context = []; target = []; counted = 0; opened = 0; begins = [] }
 
+abbrev pub when : Bool → Use → List Use
+when true u = u ∷ []
+when false u = []
+
 abbrev pub own_uses : Place → Class → Token → List Use
 own_uses p class.BeginsContext t = BeginsContext ∷ []
 own_uses p class.NamesContext t = NamesContext t ∷ []
@@ -196,20 +203,9 @@ own_uses p class.Weighs t = Weighs (value_of_digits t) ∷ []
 own_uses p class.WeighsTwo t = Weighs (value_of_digits t) ∷ []
 own_uses p class.NamesTarget t = NamesTarget t ∷ []
 own_uses p class.NamesSource t = NamesSource t ∷ []
-own_uses p class.Negates t = IsNumber (p.counted + 1) ∷ []
-own_uses p class.Conjoins t = IsNumber (p.counted + 1) ∷ []
-own_uses p class.Disjoins t = IsNumber (p.counted + 1) ∷ []
-own_uses p class.Implies t = IsNumber (p.counted + 1) ∷ []
-own_uses p class.Equates t = IsNumber (p.counted + 1) ∷ []
-own_uses p class.IsTrue t = IsNumber (p.counted + 1) ∷ []
-own_uses p class.IsFalse t = IsNumber (p.counted + 1) ∷ []
 own_uses p class.IsAtom t = AtomOf p.context t ∷ IsNumber (p.counted + 1) ∷ []
 own_uses p class.OpensParenthesis t = OpensWithin p.opened ∷ []
-own_uses p c t = []
-
-abbrev pub when : Bool → Use → List Use
-when true u = u ∷ []
-when false u = []
+own_uses p c t = when (is_counted c) (IsNumber (p.counted + 1))
 
 abbrev pub uses_at : Place → Class → Token → List Use
 uses_at p class.ClosesItems t = []
@@ -221,6 +217,10 @@ uses_with ends p c t f = when ends (EndsRead p.target p.context f) ++ uses_at p 
 
 abbrev pub next_counted : Place → Place
 next_counted p = record p { counted = p.counted + 1; begins = [] }
+
+abbrev pub counted_if : Bool → Place → Place
+counted_if true p = next_counted p
+counted_if false p = record p { begins = [] }
 
 abbrev pub place_after : Place → Class → Token → Place
 place_after p class.NamesContext t = record p { context = t; target = t; begins = [] }
@@ -234,17 +234,10 @@ place_after p class.IsBodyAtom t = next_counted p
 place_after p class.NamesTarget t = record p { context = t; target = t; begins = [] }
 place_after p class.NamesSource t = record p { context = t; begins = [] }
 place_after p class.BeginsBelief t = record p { counted = 0; begins = BeginsBelief p.context ∷ [] }
-place_after p class.Negates t = next_counted p
-place_after p class.Conjoins t = next_counted p
-place_after p class.Disjoins t = next_counted p
-place_after p class.Implies t = next_counted p
-place_after p class.Equates t = next_counted p
-place_after p class.IsTrue t = next_counted p
-place_after p class.IsFalse t = next_counted p
 place_after p class.IsAtom t = next_counted p
 place_after p class.OpensParenthesis t = record p { opened = p.opened + 1; begins = [] }
 place_after p class.ClosesParenthesis t = record p { opened = p.opened - 1; begins = [] }
-place_after p c t = record p { begins = [] }
+place_after p c t = counted_if (is_counted c) p
 
 -- the place, the formulas that are whole, and the tokens so far with what they are there for
 pub record Course : Type 0 where

@@ -1,4 +1,5 @@
 pub mod Mark
+pub mod Items
 pub mod Marks
 pub mod Account
 pub mod Reading

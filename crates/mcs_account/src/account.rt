@@ -11,13 +11,15 @@ ghost use Rattle.mcs_system.specs.Seen.{context_of, formula_of, rule_of};
 ghost use Rattle.mcs_system.specs.Seen as seen;
 ghost use Rattle.mcs_account.specs.Account as said;
 ghost use Rattle.mcs_account.specs.Account.{IsJoining, account_in, bare_context, greatest_number};
-ghost use Rattle.mcs_account.specs.Account.{item_of, no_account, no_rule, number_of};
+ghost use Rattle.mcs_account.specs.Account.{no_account, no_rule, number_of};
+ghost use Rattle.mcs_account.specs.Items.{kind_said};
 ghost use Rattle.mcs_account.specs.Account.{told, took, weight_of};
 ghost use Rattle.mcs_account.specs.Images.{account_of, names_of, operands_of};
 
+use crate::items::{add_item, empty_kb, joined};
 use mcs_base::Memory;
 use mcs_productions::{Action, Class};
-use mcs_system::{Bridge, Context, Default, Formula, Kb, Name, ProgRule, Read, TheoryItem};
+use mcs_system::{Bridge, Context, Formula, Kb, Name, ProgRule, Read};
 use std::alloc::Global;
 use std::mem;
 
@@ -45,42 +47,6 @@ fn empty_rule(alloc: Global) -> ProgRule
         pos: Vec::new(alloc),
         neg: Vec::new(alloc),
     }
-}
-
-/// The item of these formulas: one is a fact; of more the first is the prerequisite of a default,
-/// and the last its consequent.
-fn item(formulas: Vec<Formula>) -> Option<TheoryItem>
-    ensures { MatchOption result (operands_of formulas.items ≡ []) (λ i. (f : plain.Formula)
-        × (fs : List plain.Formula) × (operands_of formulas.items ≡ f ∷ fs)
-        × (seen.item_of i ≡ item_of f fs [])) }
-{
-    let mut formulas = formulas;
-    let conclusion = formulas.pop()?;
-    if formulas.is_empty() {
-        return Some(TheoryItem::Fact(conclusion));
-    }
-    let pre = formulas.remove(0);
-    Some(TheoryItem::Rule(Default {
-        pre,
-        justs: formulas,
-        conclusion,
-    }))
-}
-
-/// Both formulas, joined by what the action says.
-fn joined(alloc: Global, action: Action, left: Formula, right: Formula) -> Result<Formula, Memory>
-    requires { IsJoining action }
-    ensures { IfOk result (λ f. said.joined action (formula_of right ∷ formula_of left ∷ [])
-        ≡ formula_of f ∷ []) }
-{
-    let left = Box::new(alloc, left)?;
-    let right = Box::new(alloc, right)?;
-    Ok(match action {
-        Action::ToAnd => Formula::And(left, right),
-        Action::ToOr => Formula::Or(left, right),
-        Action::ToImplies => Formula::Implies(left, right),
-        _ => Formula::Iff(left, right),
-    })
 }
 
 /// The number that the digits spell, or the greatest one that there is if it is greater.
@@ -168,14 +134,6 @@ impl Account {
     {
         match class {
             Class::NamesContext => self.begin_context(alloc, token),
-            Class::SaysDefault => {
-                self.set_kb(Kb::DefaultTheory(Vec::new(alloc)));
-                Ok(())
-            }
-            Class::SaysProgram => {
-                self.set_kb(Kb::Program(Vec::new(alloc)));
-                Ok(())
-            }
             Class::EndsItem => self.end_item(alloc),
             Class::IsHeadAtom => push_name(alloc, &mut self.rule.head, token),
             Class::IsBodyAtom => self.add_literal(alloc, token),
@@ -211,7 +169,10 @@ impl Account {
             Class::IsTrue => Ok(self.operands.push(Formula::True)?),
             Class::IsFalse => Ok(self.operands.push(Formula::False)?),
             Class::IsAtom => self.push_atom(alloc, token),
-            _ => Ok(()),
+            _ => {
+                self.say_kind(alloc, class);
+                Ok(())
+            }
         }
     }
 
@@ -284,6 +245,16 @@ impl Account {
     {
         if let Some(context) = self.contexts.last_mut() {
             context.kb = kb;
+        }
+    }
+
+    /// The last context is of the kind that a token of the class says, if it says one, and has no
+    /// items.
+    fn say_kind(&mut self, alloc: Global, class: Class)
+        ensures { account_of self.new ≡ said.of_kind (kind_said class) (account_of self.old) }
+    {
+        if let Some(kb) = empty_kb(alloc, class) {
+            self.set_kb(kb);
         }
     }
 
@@ -447,28 +418,6 @@ impl Account {
         let formula = joined(alloc, action, left, right)?;
         Ok(self.operands.push(formula)?)
     }
-}
-
-/// Adds an item: the last formula, the default that the formulas make, or the program rule.
-fn add_item(kb: &mut Kb, formulas: Vec<Formula>, rule: ProgRule) -> Result<(), Memory>
-    ensures { IfOk result (λ _. seen.kb_of kb.new
-        ≡ said.more_kb (operands_of formulas.items) (rule_of rule) (seen.kb_of kb.old)) }
-{
-    let mut formulas = formulas;
-    match kb {
-        Kb::Classical(all) => {
-            if let Some(formula) = formulas.pop() {
-                all.push(formula)?;
-            }
-        }
-        Kb::DefaultTheory(items) => {
-            if let Some(item) = item(formulas) {
-                items.push(item)?;
-            }
-        }
-        Kb::Program(rules) => rules.push(rule)?,
-    }
-    Ok(())
 }
 
 /// Adds a read to the bridge rule.

@@ -3,6 +3,7 @@
 #![tactic(auto)]
 
 mod account;
+mod items;
 mod place;
 mod reader;
 

@@ -1,6 +1,6 @@
 //! What a token of a text is there for, by its class and the tokens before it.
 
-ghost use Rattle.std.specs.Prelude.{◌≡◌, ◌+◌, ◌≤◌, ◌↔◌, IsTrue, min, map};
+ghost use Rattle.std.specs.Prelude.{◌≡◌, ◌+◌, ◌≤◌, ◌↔◌, IsTrue, cond, min, map};
 ghost use Rattle.mcs_system.specs.Plain as plain;
 ghost use Rattle.mcs_system.specs.Limits.{most};
 ghost use Rattle.mcs_system.specs.declared.limit.Limit.TheVariants as limits;
@@ -8,11 +8,13 @@ ghost use Rattle.mcs_grammar.specs.Entries.{Token};
 ghost use Rattle.mcs_grammar.specs.Written.{IsNameWord};
 ghost use Rattle.mcs_productions.specs.Productions.{wanted};
 ghost use Rattle.mcs_productions.specs.declared.terminal.Terminal.TheVariants as terminal;
+ghost use Rattle.mcs_account.specs.declared.place.Role.TheVariants as roles;
 ghost use Rattle.mcs_account.specs.Account as said;
 ghost use Rattle.mcs_account.specs.Account.{no_place, own_uses, place_after, uses_with};
 ghost use Rattle.mcs_account.specs.Images.{IsNaming, IsPlace, capped, most_number, role_uses};
 ghost use Rattle.mcs_account.specs.Images.{about_place, context_chosen, target_chosen, uses_in};
 
+use crate::items::is_counted;
 use mcs_base::{is_reserved, is_word};
 use mcs_productions::Class;
 
@@ -98,6 +100,26 @@ fn number_after(before: usize) -> usize
     before + 1
 }
 
+/// How many tokens were counted after one more, which may count.
+fn count_if(counts: bool, before: usize) -> usize
+    ensures { result ≡ cond counts (min (before + 1) most_number) before }
+{
+    if counts {
+        return number_after(before);
+    }
+    before
+}
+
+/// The role of a token that says nothing by itself, but may have a number.
+fn role_if(counts: bool, number: usize) -> Role
+    ensures { result ≡ cond counts (roles.Counted number) roles.Nothing }
+{
+    if counts {
+        return Role::Counted { number };
+    }
+    Role::Nothing
+}
+
 /// Whether the token is a word that is not reserved, of any length.
 pub fn is_name_word(token: &[u8]) -> bool
     ensures { IsTrue result ↔ IsNameWord token.now }
@@ -155,17 +177,10 @@ impl Place {
             Class::NamesTarget => Role::NamesTarget,
             Class::NamesSource => Role::NamesSource,
             Class::IsHeadAtom | Class::IsBodyAtom | Class::IsAtom => Role::Atom { number },
-            Class::Negates
-            | Class::Conjoins
-            | Class::Disjoins
-            | Class::Implies
-            | Class::Equates
-            | Class::IsTrue
-            | Class::IsFalse => Role::Counted { number },
             Class::OpensParenthesis => Role::Opens {
                 within: self.opened,
             },
-            _ => Role::Nothing,
+            _ => role_if(is_counted(class), number),
         }
     }
 
@@ -212,20 +227,14 @@ impl Place {
                 opened: self.opened.saturating_sub(1),
                 ..next
             },
-            Class::IsHeadAtom
-            | Class::IsBodyAtom
-            | Class::IsAtom
-            | Class::Negates
-            | Class::Conjoins
-            | Class::Disjoins
-            | Class::Implies
-            | Class::Equates
-            | Class::IsTrue
-            | Class::IsFalse => Place {
+            Class::IsHeadAtom | Class::IsBodyAtom | Class::IsAtom => Place {
                 counted: number_after(self.counted),
                 ..next
             },
-            _ => next,
+            _ => Place {
+                counted: count_if(is_counted(class), self.counted),
+                ..next
+            },
         }
     }
 }

@@ -9,40 +9,23 @@ use Rattle.mcs_base.specs.Listings.{IsAmong}
 use Rattle.mcs_base.proofs.ListingLemmas.{members_listing}
 use Rattle.mcs_base.proofs.Among.{among_get, map_among, filter_among, flat_map_among}
 use Rattle.mcs_base.proofs.Each.{all_from_among}
-use Rattle.mcs_system.specs.Plain.{Name, Formula, ProgramRule, Item, Fact, Rule, Kb, Classical, DefaultTheory, Program, Context, Read, Bridge, System}
+use Rattle.mcs_system.specs.Plain.{Name, Formula, Kb, OfKind, Context, Read, Bridge, System}
+use Rattle.mcs_system.specs.Kinds.{atoms_in}
 use Rattle.mcs_system.specs.Logic.{is_in, atoms}
 use Rattle.mcs_system.specs.Systems.{context_variables, variables, variables_of, occurrences, heads_from, heads_into, IsVariable}
-use Rattle.mcs_system.specs.Atoms.{item_atoms, rule_atoms, kb_atoms, own_atoms, all_heads_into, atom_occurrences, atoms_of}
+use Rattle.mcs_system.specs.Atoms.{kb_atoms, own_atoms, all_heads_into, atom_occurrences, atoms_of}
 use Rattle.mcs_system.specs.Views.{belief_of, belief_at, beliefs_at}
-use Rattle.mcs_system.proofs.NameLemmas.{is_in-among, is_in_left, is_in_right, is_in_flat_map, is_in-first_names}
+use Rattle.mcs_system.proofs.NameLemmas.{is_in_left, is_in_right, is_in_flat_map, is_in-first_names}
 use Rattle.mcs_system.proofs.VariableLemmas.{firsts_among}
 use Rattle.mcs_system.proofs.ContextSets.{variable_there, variables_of-lt}
 use Rattle.mcs_cnf.specs.ClauseLists.{IsOver, AreOver}
-use Rattle.mcs_cnf.proofs.OverLemmas.{over_atoms, context_atoms}
-use Rattle.mcs_evidence.specs.Defaults.{IsOverItem}
-use Rattle.mcs_evidence.specs.Programs.{IsOverRule}
-use Rattle.mcs_asking.specs.Kinds.{IsOverKb}
+use Rattle.mcs_cnf.proofs.OverLemmas.{context_atoms}
+use Rattle.mcs_asking.specs.Kinds.{IsOverIn, IsOverKb}
+use Rattle.mcs_asking.proofs.KindItems.{over_in}
 
 -- ---- what is built of known names is over them
-over_item : (names : List Name) (item : Item) → ((n : Name) → is_in n (item_atoms item) ≡ true → is_in n names ≡ true) → IsOverItem names item
-over_item names (Fact f) h = (over_atoms names f).1 h
-over_item names (Rule d) h = (
-  (over_atoms names d.pre).1 (λ n k. h n (is_in_left n (atoms d.pre) _ k)),
-  all_from_among (IsOver names) d.justs (λ f among. (over_atoms names f).1 (λ n k. h n (is_in_right n (atoms d.pre) _ (is_in_left n (flat_map atoms d.justs) _ (is_in_flat_map atoms n f d.justs among k))))),
-  (over_atoms names d.conclusion).1 (λ n k. h n (is_in_right n (atoms d.pre) _ (is_in_right n (flat_map atoms d.justs) _ k))),
-)
-
-over_rule : (names : List Name) (r : ProgramRule) → ((n : Name) → is_in n (rule_atoms r) ≡ true → is_in n names ≡ true) → IsOverRule names r
-over_rule names r h = (
-  all_from_among (λ n. IsTrue (is_in n names)) r.head (λ n among. h n (is_in_left n r.head _ ((is_in-among n r.head).1 among))),
-  all_from_among (λ n. IsTrue (is_in n names)) r.pos (λ n among. h n (is_in_right n r.head _ (is_in_left n r.pos _ ((is_in-among n r.pos).1 among)))),
-  all_from_among (λ n. IsTrue (is_in n names)) r.neg (λ n among. h n (is_in_right n r.head _ (is_in_right n r.pos _ ((is_in-among n r.neg).1 among)))),
-)
-
 over_kb : (names : List Name) (kb : Kb) → ((n : Name) → is_in n (kb_atoms kb) ≡ true → is_in n names ≡ true) → IsOverKb names kb
-over_kb names (Classical fs) h = all_from_among (IsOver names) fs (λ f among. (over_atoms names f).1 (λ n k. h n (is_in_flat_map atoms n f fs among k)))
-over_kb names (DefaultTheory items) h = all_from_among (IsOverItem names) items (λ item among. over_item names item (λ n k. h n (is_in_flat_map item_atoms n item items among k)))
-over_kb names (Program rules) h = all_from_among (IsOverRule names) rules (λ r among. over_rule names r (λ n k. h n (is_in_flat_map rule_atoms n r rules among k)))
+over_kb names (OfKind k items) h = all_from_among (IsOverIn k names) items (λ x among. over_in k names x (λ n here. h n (is_in_flat_map (atoms_in k) n x items among here)))
 
 -- the knowledge base of a context
 pub own_over : (m : System) (i : ℕ) (c : Context) → slice_get m.contexts i ≡ Some c → IsOverKb (atoms_of m i) c.kb

@@ -8,7 +8,7 @@ use Rattle.mcs_base.proofs.ListingLemmas.{members_listing}
 use Rattle.mcs_base.proofs.Among.{get_among, map_among, filter_among, flat_map_among}
 use Rattle.mcs_base.proofs.Each.{all_from_among}
 use Rattle.mcs_base.proofs.Sums.{count_by-cons}
-use Rattle.mcs_system.specs.Plain.{Formula, Item, Fact, Rule, Kb, Classical, DefaultTheory, Program, ProgramRule, Context, Read, Bridge, System}
+use Rattle.mcs_system.specs.Plain.{Formula, Item, Fact, Rule, ProgramKind, Kb, OfKind, Program, ProgramRule, Context, Read, Bridge, System}
 use Rattle.mcs_system.specs.Faults.{IsValid, is_atom, is_program, is_default, reads_of}
 use Rattle.mcs_system.specs.Systems.{variables_of, occurrences, heads_into, IsVariable}
 use Rattle.mcs_system.specs.Views.{belief_of, belief_at, beliefs_at}
@@ -59,9 +59,8 @@ of_kind : (m : System) (i : ℕ) (c : Context) (fs : List Formula) → slice_get
 of_kind m i c fs is fit = at c.kb refl
   where
     at : (k : Kb) → c.kb ≡ k → AreOfKind k fs
-    at (Classical formulas) e = tt
-    at (DefaultTheory items) e = tt
-    at (Program rules) e = fit (program_there m i c rules is e)
+    at (OfKind ProgramKind rules) e = fit (program_there m i c rules is e)
+    at (OfKind k items) e = tt
 
 pub heads_of_kind : (m : System) → IsValid m → (i x : ℕ) (c : Context) → slice_get m.contexts i ≡ Some c → AreOfKind c.kb (heads_into m i x)
 heads_of_kind m valid i x c is = of_kind m i c (heads_into m i x) is (program_heads m valid i x)

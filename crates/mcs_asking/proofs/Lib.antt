@@ -1,4 +1,5 @@
 pub mod AskingLemmas
+pub mod KindItems
 pub mod CoverLemmas
 pub mod KindLemmas
 pub mod AnswerLemmas

@@ -34,21 +34,24 @@ fn shown_views(
     let asked = question.asked;
     let heads = question.heads;
     match question.kb {
-        Kb::Classical(formulas) => match cert {
-            AnswerCert::Classical(cert) => classical_views(alloc, formulas, heads, asked, cert),
-            AnswerCert::Default(_) => Ok(None),
-            AnswerCert::Program(_) => Ok(None),
-        },
-        Kb::DefaultTheory(items) => match cert {
-            AnswerCert::Classical(_) => Ok(None),
-            AnswerCert::Default(cert) => default_views(alloc, items, heads, asked, cert),
-            AnswerCert::Program(_) => Ok(None),
-        },
-        Kb::Program(rules) => match cert {
-            AnswerCert::Classical(_) => Ok(None),
-            AnswerCert::Default(_) => Ok(None),
-            AnswerCert::Program(cert) => program_views(alloc, rules, heads, asked, cert),
-        },
+        Kb::Classical(formulas) => {
+            let AnswerCert::Classical(cert) = cert else {
+                return Ok(None);
+            };
+            classical_views(alloc, formulas, heads, asked, cert)
+        }
+        Kb::DefaultTheory(items) => {
+            let AnswerCert::Default(cert) = cert else {
+                return Ok(None);
+            };
+            default_views(alloc, items, heads, asked, cert)
+        }
+        Kb::Program(rules) => {
+            let AnswerCert::Program(cert) = cert else {
+                return Ok(None);
+            };
+            program_views(alloc, rules, heads, asked, cert)
+        }
     }
 }
 

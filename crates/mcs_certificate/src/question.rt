@@ -1,10 +1,9 @@
 //! What is asked of a context.
 
 ghost use Rattle.std.specs.Prelude.{◌≤◌, map};
-ghost use Rattle.mcs_system.specs.Faults.{default_count};
 ghost use Rattle.mcs_system.specs.Seen.{formula_of, kb_of};
 ghost use Rattle.mcs_cnf.specs.ClauseLists.{AreOver};
-ghost use Rattle.mcs_asking.specs.Kinds.{IsOverKb, AreOfKind};
+ghost use Rattle.mcs_asking.specs.Kinds.{part_count, IsOverKb, AreOfKind};
 ghost use Rattle.mcs_cnf.specs.OneProof.{AreOver-prop};
 ghost use Rattle.mcs_certificate.specs.OneProof.{IsOverKb-prop, AreOfKind-prop};
 
@@ -18,7 +17,7 @@ pub struct Question<'a> {
     pub asked: &'a Asked<'a>,
     pub kb: &'a Kb,
     pub heads: &'a [&'a Formula],
-    pub ghost few_defaults: { default_count (kb_of kb.now) ≤ 10 },
+    pub ghost few_parts: { part_count (kb_of kb.now) ≤ 10 },
     pub ghost own: { IsOverKb asked.now.atoms.now
         (kb_of kb.now) } by { IsOverKb-prop asked.now.atoms.now (kb_of kb.now) },
     pub ghost told: { AreOver asked.now.atoms.now

@@ -1,48 +1,28 @@
 -- Answers that were judged while they were read.
-use Rattle.std.proofs.Common.{◌≡◌, ℕ, Bool, false, IsTrue, List, [], ◌∷◌, ◌++◌, map, length, Option, Some, None, Result, Ok, Err, Vec, slice_get, ◌↔◌, refl, sym, ap, ◌∙◌, subst}
+use Rattle.std.proofs.Common.{◌≡◌, ℕ, Bool, false, IsTrue, List, map, length, Option, Some, None, Result, Ok, Err, Vec, slice_get, ◌↔◌, sym, ap, ◌∙◌, subst}
 use Rattle.std.specs.declared.alloc.Global.{Global}
-use Rattle.std.specs.List.{filter_map}
 use Rattle.std.proofs.lemmas.List.{length-map}
 use Rattle.mcs_sets.specs.Sets.{members, size}
 use Rattle.mcs_base.proofs.Booleans.{false_tells}
-use Rattle.mcs_system.specs.Plain.{Name, Formula, Default, Item, Fact, ProgramRule, Kb, Classical, DefaultTheory, Program, Context, System}
+use Rattle.mcs_system.specs.Plain.{Name, Formula, Default, Item, Kb, Context, System}
 use Rattle.mcs_system.specs.Atoms.{atoms_of}
 use Rattle.mcs_system.specs.Faults.{IsValid}
-use Rattle.mcs_system.specs.Logic.{fact_of, with_heads}
+use Rattle.mcs_system.specs.Logic.{with_heads}
 use Rattle.mcs_system.specs.Systems.{variables_of, heads_into}
 use Rattle.mcs_system.specs.Views.{at_places, belief_at, beliefs_at}
-use Rattle.mcs_cnf.specs.Entailments.{Entailment}
-use Rattle.mcs_cnf.specs.Classical.{IsAcceptedClassical}
-use Rattle.mcs_evidence.specs.Defaults.{defaults_of, IsAcceptedDefault}
-use Rattle.mcs_evidence.specs.Programs.{IsAcceptedProgram}
-use Rattle.mcs_asking.specs.Certificates.{Certificate, OfFormulas, OfDefaults, OfProgram, IsAccepted, IsAcceptedFor}
+use Rattle.mcs_evidence.specs.Defaults.{defaults_of}
+use Rattle.mcs_asking.specs.Certificates.{Certificate, IsAccepted, IsAcceptedFor}
 use Rattle.mcs_asking.proofs.AnswerLemmas.{accepted_none, accepted_views, as_asked}
 use Rattle.mcs_proof_lines.specs.declared.fault.ReportFault.{ReportFault}
-use Rattle.mcs_proof_lines.specs.Walks.{At, Reading, ◌>>=◌, ReturnsReading, mapped_reading, entailment_at, many_at}
-use Rattle.mcs_proof_lines.specs.Verdicts.{Terms, verdicts_at}
-use Rattle.mcs_proof_lines.specs.Programs.{program_at}
+use Rattle.mcs_proof_lines.specs.Walks.{At, Reading, ◌>>=◌, ReturnsReading, mapped_reading}
+use Rattle.mcs_proof_lines.specs.Verdicts.{Terms}
 use Rattle.mcs_proof_reader.specs.Questions.{ten}
-use Rattle.mcs_proof_reader.specs.Answers.{Shown, state_at, states_there, classical_at, default_at, models_at, shown_at, shown_of, terms_for}
+use Rattle.mcs_proof_text.specs.Kinds.{terms_with, certificate_at}
+use Rattle.mcs_proof_reader.specs.Answers.{Shown, outputs_at, certificate_of, with_certificate, shown_at, shown_of}
 use Rattle.mcs_steps.specs.Judging.{IsJudged}
 use Rattle.mcs_judging.specs.Judging.{IsTold, Tells, AreViewsOf}
 use Rattle.mcs_judging.proofs.Ways.{fault_first, fault_later, fault_same}
 use Rattle.mcs_check.specs.Judging.{HasKb}
-use Rattle.mcs_check.specs.Parts.{outputs_at, terms_with, certificate_at, certificate_of}
-
--- ---- the states
-module _ (m : System) (i : ℕ) (kb : Kb) (at : At) where
-  module _ (fs : List Formula) (is : kb ≡ Classical fs) where
-    pub no_state : (e : ReportFault) → ReturnsReading e (state_at m i at) → ReturnsReading e (outputs_at m i kb at)
-    no_state e told = subst (λ (k : Kb). ReturnsReading e (outputs_at m i k at)) (sym is) (fault_first e (state_at m i at) (λ state. Ok (state.0 ∷ [], state.1)) told)
-
-    pub one_state : (state : ℕ) (now : At) → state_at m i at ≡ Ok (state, now) → outputs_at m i kb at ≡ Ok (state ∷ [], now)
-    one_state state now told = ap (λ (k : Kb). outputs_at m i k at) is ∙ ap (mapped_reading (λ (s : ℕ). s ∷ [])) told
-
-  pub states_of_theory : (items : List Item) → kb ≡ DefaultTheory items → (states : List ℕ) (now : At) → states_there m i at ≡ (states, now) → outputs_at m i kb at ≡ Ok (states, now)
-  states_of_theory items is states now told = ap (λ (k : Kb). outputs_at m i k at) is ∙ ap (λ (s : List ℕ × At). (let r : Reading (List ℕ) = Ok s in r)) told
-
-  pub states_of_program : (rules : List ProgramRule) → kb ≡ Program rules → (states : List ℕ) (now : At) → states_there m i at ≡ (states, now) → outputs_at m i kb at ≡ Ok (states, now)
-  states_of_program rules is states now told = ap (λ (k : Kb). outputs_at m i k at) is ∙ ap (λ (s : List ℕ × At). (let r : Reading (List ℕ) = Ok s in r)) told
 
 -- ---- a certificate, by the kind of the knowledge base
 certified : {A : Type 0} (of : A → Certificate) (Shows : List ℕ → Certificate → Type 0) (r : Result (Option (Vec ℕ Global)) ReportFault) (now : At) (read : Reading A)
@@ -54,16 +34,11 @@ module _ (names texts numbers : List Name) (words : texts ≡ names) (hs bs : Li
   abbrev IsJudgedFor : Kb → Type 0
   IsJudgedFor k = Tells (AreViewsOf (IsAcceptedFor names (with_heads k hs) bs)) r now (certificate_at names numbers n k count at)
 
-  pub formulas_judged : (fs : List Formula) → kb ≡ Classical fs → Tells (AreViewsOf (IsAcceptedClassical names (fs ++ hs) bs)) r now (many_at (entailment_at texts) n at) → IsJudgedFor kb
-  formulas_judged fs is told = subst IsJudgedFor (sym is) (certified OfFormulas (IsAcceptedFor names (with_heads (Classical fs) hs) bs) r now (many_at (entailment_at names) n at)
-      (subst (λ (ts : List Name). Tells (AreViewsOf (IsAcceptedClassical names (fs ++ hs) bs)) r now (many_at (entailment_at ts) n at)) words told))
-
-  pub theory_judged : (items : List Item) → kb ≡ DefaultTheory items → Tells (AreViewsOf (IsAcceptedDefault names (items ++ map Fact hs) bs)) r now (verdicts_at (terms_with names numbers items n) at) → IsJudgedFor kb
-  theory_judged items is told = subst IsJudgedFor (sym is) (certified OfDefaults (IsAcceptedFor names (with_heads (DefaultTheory items) hs) bs) r now (verdicts_at (terms_with names numbers items n) at) told)
-
-  pub rules_judged : (rules : List ProgramRule) → kb ≡ Program rules → Tells (AreViewsOf (IsAcceptedProgram names (rules ++ filter_map fact_of hs) bs)) r now (program_at texts count at) → IsJudgedFor kb
-  rules_judged rules is told = subst IsJudgedFor (sym is) (certified OfProgram (IsAcceptedFor names (with_heads (Program rules) hs) bs) r now (program_at names count at)
-      (subst (λ (ts : List Name). Tells (AreViewsOf (IsAcceptedProgram names (rules ++ filter_map fact_of hs) bs)) r now (program_at ts count at)) words told))
+  pub judged_as : {A : Type 0} (of : A → Certificate) (k : Kb) → kb ≡ k → (read : Reading A) → certificate_at texts numbers n k count at ≡ mapped_reading of read
+      → Tells (AreViewsOf (λ views a. IsAcceptedFor names (with_heads k hs) bs views (of a))) r now read → IsJudgedFor kb
+  judged_as of k is read same told =
+      subst IsJudgedFor (sym is) (subst (λ (ts : List Name). Tells (AreViewsOf (IsAcceptedFor names (with_heads k hs) bs)) r now (certificate_at ts numbers n k count at)) words
+      (subst (Tells (AreViewsOf (IsAcceptedFor names (with_heads k hs) bs)) r now) (sym same) (certified of (IsAcceptedFor names (with_heads k hs) bs) r now read told)))
 
 -- what the lines may name, as the code has it
 pub same_terms : (t : Terms) (names : List Name) (items : List Item) (n : ℕ) → t.atoms ≡ names → t.justs ≡ map (λ (d : Default). length d.justs) (defaults_of items) → t.beliefs ≡ n → t ≡ terms_with names t.numbers items n
@@ -110,26 +85,9 @@ module _ (m : System) (i x : ℕ) (kb : Kb) (ns numbers : List Name) (hs bs : Li
         }
 
 -- ---- both parts
-abbrev with_certificate : System → ℕ → Kb → List ℕ × At → Reading Shown
-with_certificate m i kb outputs = mapped_reading {B = Shown} (λ (cert : Certificate). (outputs.0, cert)) (certificate_of m i kb (length outputs.0) outputs.1)
-
-twice : {A : Type 0} (outputs : List ℕ) (of : A → Certificate) (r : Reading A) → mapped_reading {B = Shown} (λ (a : A). (outputs, of a)) r ≡ mapped_reading {B = Shown} (λ (cert : Certificate). (outputs, cert)) (mapped_reading of r)
-twice outputs of (Ok a) = refl
-twice outputs of (Err n) = refl
-
-in_parts : (m : System) (i : ℕ) (kb : Kb) (at : At) → shown_at m i kb at ≡ (outputs_at m i kb at >>= with_certificate m i kb)
-unfolding classical_at default_at models_at
-in_parts m i (Classical fs) at = after (state_at m i at)
-  where
-    after : (r : Reading ℕ) → (r >>= λ state. mapped_reading {B = Shown} (λ (es : List Entailment). (state.0 ∷ [], OfFormulas es)) (many_at (entailment_at (atoms_of m i)) (size (variables_of m i)) state.1)) ≡ (mapped_reading (λ (state : ℕ). state ∷ []) r >>= with_certificate m i (Classical fs))
-    after (Ok state) = twice (state.0 ∷ []) OfFormulas (many_at (entailment_at (atoms_of m i)) (size (variables_of m i)) state.1)
-    after (Err n) = refl
-in_parts m i (DefaultTheory items) at = twice (states_there m i at).0 OfDefaults (verdicts_at (terms_for m i items) (states_there m i at).1)
-in_parts m i (Program rules) at = twice (states_there m i at).0 OfProgram (program_at (atoms_of m i) (length (states_there m i at).0) (states_there m i at).1)
-
 module _ (m : System) (i : ℕ) (kb : Kb) (h : HasKb m i kb) (at : At) where
   to_parts : shown_of m i (slice_get m.contexts i) at ≡ (outputs_at m i kb at >>= with_certificate m i kb)
-  to_parts = ap (λ (o : Option Context). shown_of m i o at) h.is_it ∙ (ap (λ (k : Kb). shown_at m i k at) h.kb_is ∙ in_parts m i kb at)
+  to_parts = ap (λ (o : Option Context). shown_of m i o at) h.is_it ∙ ap (λ (k : Kb). shown_at m i k at) h.kb_is
 
   pub no_outputs : (e : ReportFault) → ReturnsReading e (outputs_at m i kb at) → ReturnsReading e (shown_of m i (slice_get m.contexts i) at)
   no_outputs e told = fault_same e (shown_of m i (slice_get m.contexts i) at) (outputs_at m i kb at >>= with_certificate m i kb) to_parts (fault_first e (outputs_at m i kb at) (with_certificate m i kb) told)

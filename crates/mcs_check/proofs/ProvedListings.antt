@@ -11,7 +11,7 @@ use Rattle.mcs_report.specs.Solutions.{IsWholeListing}
 use Rattle.mcs_proof_text.specs.Lines.{with_feed, text_of_lines}
 use Rattle.mcs_proof_text.specs.Answers.{Answer, answer_lines}
 use Rattle.mcs_proof_text.specs.Proofs.{HasAcceptedCertificate, proof_lines}
-use Rattle.mcs_proof_text.specs.Shapes.{IsInShape}
+use Rattle.mcs_proof_text.specs.Answers.{IsInShape}
 use Rattle.mcs_proof_text.proofs.LineLemmas.{lines_few}
 use Rattle.mcs_proof_text.proofs.ListingParts.{listing_parts}
 use Rattle.mcs_proof_text.proofs.ShapeLaws.{right_shape}

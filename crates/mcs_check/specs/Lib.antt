@@ -4,6 +4,5 @@ pub mod Collected
 pub mod Certified
 pub mod Answers
 pub mod Judging
-pub mod Parts
 pub mod Relisting
 pub mod Checked

@@ -1,6 +1,6 @@
 //! The answers of a report, judged while they are read.
 
-ghost use Rattle.std.specs.Prelude.{◌≡◌, ◌≤◌, ◌<◌, ◌++◌, [], ◌∷◌, length, map, IsTrue, IfOk};
+ghost use Rattle.std.specs.Prelude.{◌≡◌, ◌≤◌, ◌<◌, ◌++◌, length, map, IsTrue};
 ghost use Rattle.std.specs.Prelude.{MatchOption, slice_get};
 ghost use Rattle.std.specs.List.{AllByRecursion};
 ghost use Rattle.mcs_system.specs.Plain.{DefaultTheory, Fact};
@@ -9,21 +9,21 @@ ghost use Rattle.mcs_evidence.specs.Defaults.{IsAcceptedDefault};
 ghost use Rattle.mcs_asked.specs.Questions.{asked_beliefs};
 ghost use Rattle.mcs_asking.specs.Certificates.{IsAccepted};
 ghost use Rattle.mcs_certificate.specs.Questions.{AreViewsShown};
-ghost use Rattle.mcs_proof_lines.specs.Walks.{Gives};
 ghost use Rattle.mcs_proof_lines.specs.Verdicts.{verdicts_at};
+ghost use Rattle.mcs_proof_reader.specs.Answers.{certificate_of};
+ghost use Rattle.mcs_proof_text.specs.Kinds.{terms_with, certificate_at};
 ghost use Rattle.mcs_proof_reader.specs.Readers.{AreTexts};
 ghost use Rattle.mcs_steps.specs.Judging.{Judges};
 ghost use Rattle.mcs_judging.specs.Judging.{Tells, AreViewsOf};
 ghost use Rattle.mcs_check.specs.Judging.{HasKb, IsFirstWrong};
-ghost use Rattle.mcs_check.specs.Parts.{outputs_at, terms_with, certificate_at, certificate_of};
 
 use mcs_asked::Asked;
 use mcs_asking::{beliefs_of, heads_into};
-use mcs_base::{Active, Memory, Text, Vars};
+use mcs_base::{Active, Text, Vars};
 use mcs_certificate::{Question, are_parts};
 use mcs_judging::{Named, judge_classical, judge_program, judge_verdicts};
 use mcs_proof_lines::{Lines, ReportFault, Theory};
-use mcs_proof_reader::{Keep, Texts, just_counts, name_texts, take_state, take_states};
+use mcs_proof_reader::{Keep, Texts, just_counts, name_texts, take_outputs};
 use mcs_system::{Kb, System, TheoryItem};
 use std::alloc::Global;
 
@@ -36,41 +36,6 @@ pub(crate) struct Judged {
     pub active: Active,
     pub outputs: Vec<Vars>,
     pub is_right: bool,
-}
-
-/// The list of this one state.
-fn only(alloc: Global, state: Vars) -> Result<Vec<Vars>, Memory>
-    ensures { IfOk result (λ states. states.items ≡ state ∷ []) }
-{
-    let mut states = Vec::new(alloc);
-    states.push(state)?;
-    Ok(states)
-}
-
-/// Takes the states that an answer of a context with this knowledge base puts out: one if it is
-/// classical.
-fn take_outputs(
-    alloc: Global,
-    system: &System,
-    texts: &Texts,
-    context: u32,
-    kb: &Kb,
-    lines: &mut Lines<'_>,
-) -> Result<Vec<Vars>, ReportFault>
-    requires texts { AreTexts system.now texts.now }
-    requires context { context < length system.now.contexts }
-    ensures { Gives (λ outputs. outputs.items) result lines.new
-        (outputs_at system.now context (kb_of kb.now) lines.old) }
-{
-    let allowed = system.vars_of(context);
-    match kb {
-        Kb::Classical(_) => {
-            let state = take_state(system, texts, context, lines)?;
-            Ok(only(alloc, state)?)
-        }
-        Kb::DefaultTheory(_) => Ok(take_states(alloc, system, texts, allowed, lines)?),
-        Kb::Program(_) => Ok(take_states(alloc, system, texts, allowed, lines)?),
-    }
 }
 
 /// Reads the certificate of a default theory with these items, verdict by verdict, and returns the

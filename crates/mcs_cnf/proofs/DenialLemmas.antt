@@ -1,7 +1,7 @@
 -- The clauses of a formula whose denials are added one by one.
 use Rattle.std.proofs.Common.{◌≡◌, ℕ, ◌+◌, ◌≤◌, List, ◌++◌, length, refl, sym, ap, ◌∙◌, append_assoc, arith}
 use Rattle.mcs_system.specs.Denials.{denied, with_denials}
-use Rattle.mcs_system.specs.Plain.{Name, Formula, Truth, Falsity, Atom, Not, And, Or, Implies, Iff}
+use Rattle.mcs_system.specs.Plain.{Name, Formula, Truth, Falsity, Atom, Not, Joined}
 use Rattle.mcs_system.proofs.DenialLemmas.{denied_again}
 use Rattle.mcs_trace.specs.Clauses.{ClauseList}
 use Rattle.mcs_cnf.specs.ClauseLists.{taken, number, formula_clauses, not_clauses, IsAdded, IsOver}
@@ -18,10 +18,7 @@ over_denied names Truth over = over
 over_denied names Falsity over = over
 over_denied names (Atom n) over = over
 over_denied names (Not f) over = over_denied names f over
-over_denied names (And f g) over = over
-over_denied names (Or f g) over = over
-over_denied names (Implies f g) over = over
-over_denied names (Iff f g) over = over
+over_denied names (Joined c f g) over = over
 
 -- ---- how many occurrences a formula has, by which the recursion falls
 pub taken_least : (k : ℕ) (f : Formula) → taken 0 f ≤ taken k f
@@ -32,20 +29,14 @@ taken_least k f = omega (arith, taken_from 0 f, taken_from k f)
     taken_from k Falsity = omega arith
     taken_from k (Atom n) = omega arith
     taken_from k (Not f) = omega (arith, taken_from k f)
-    taken_from k (And f g) = omega (arith, taken_from k f, taken_from (taken k f) g, taken_from (taken 0 f) g)
-    taken_from k (Or f g) = omega (arith, taken_from k f, taken_from (taken k f) g, taken_from (taken 0 f) g)
-    taken_from k (Implies f g) = omega (arith, taken_from k f, taken_from (taken k f) g, taken_from (taken 0 f) g)
-    taken_from k (Iff f g) = omega (arith, taken_from k f, taken_from (taken k f) g, taken_from (taken 0 f) g)
+    taken_from k (Joined c f g) = omega (arith, taken_from k f, taken_from (taken k f) g, taken_from (taken 0 f) g)
 
 pub denied_least : (f : Formula) → taken 0 (denied f) ≤ taken 0 f
 denied_least Truth = omega arith
 denied_least Falsity = omega arith
 denied_least (Atom n) = omega arith
 denied_least (Not f) = omega (arith, denied_least f)
-denied_least (And f g) = omega arith
-denied_least (Or f g) = omega arith
-denied_least (Implies f g) = omega arith
-denied_least (Iff f g) = omega arith
+denied_least (Joined c f g) = omega arith
 
 -- ---- the code's loop
 pub one_more : (f g : Formula) (old new : ClauseList) (x n : ℕ) → f ≡ Not g → IsAdded (λ n. not_clauses n x) old new n → denials_added g new n ≡ denials_added f old x
@@ -60,10 +51,7 @@ denials_of names c (Not f) p =
     let n = taken c.vars p + 1 in
     ap (λ cs. denials_added f (record { vars = n; clauses = cs }) n) (append_assoc c.clauses (formula_clauses names c.vars p) (not_clauses n (number names c.vars p)))
     ∙ denials_of names c f (Not p)
-denials_of names c (And f g) p = refl
-denials_of names c (Or f g) p = refl
-denials_of names c (Implies f g) p = refl
-denials_of names c (Iff f g) p = refl
+denials_of names c (Joined _ f g) p = refl
 
 -- the list and the number of the whole formula
 module _ (names : List Name) (c c' : ClauseList) (f g core : Formula) (x : ℕ) (is : f ≡ Not g) (below : core ≡ denied g) (numbered : x ≡ number names c.vars core) (added : c' ≡ with_occurrences names c core) where

@@ -4,14 +4,15 @@ use Rattle.std.proofs.lemmas.Bool.{and_parts, and_from}
 use Rattle.std.proofs.lemmas.List.Folds.{list_all-append}
 use Rattle.std.proofs.Math.Bool.{or-false}
 use Rattle.std.proofs.lemmas.List.{length-map}
-use Rattle.mcs_system.specs.Plain.{Name, Formula, Truth, Falsity, Atom, Not, And, Or, Implies, Iff}
+use Rattle.mcs_system.specs.Plain.{Name, Formula, Truth, Falsity, Atom, Not, Joined}
+use Rattle.mcs_system.specs.Trees.{joined_value}
 use Rattle.mcs_system.specs.Logic.{holds, holds_all, both_or_neither, is_in}
 use Rattle.mcs_system.specs.Faults.{has_twins}
 use Rattle.mcs_trace.specs.Clauses.{clause_holds, all_hold}
-use Rattle.mcs_cnf.specs.ClauseLists.{clause_of, not_clauses, and_clauses, or_clauses, implies_clauses, iff_clauses, taken, number, formula_clauses, taken_by_all, list_clauses, IsOver, AreOver}
+use Rattle.mcs_cnf.specs.ClauseLists.{clause_of, not_clauses, joined_clauses, taken, number, formula_clauses, taken_by_all, list_clauses, IsOver, AreOver}
 use Rattle.mcs_cnf.specs.Meaning.{Extends, IsMeaning}
 use Rattle.mcs_cnf.proofs.NumberLemmas.{number_positive}
-use Rattle.mcs_cnf.proofs.Tables.{clause_of-holds, truth_table, falsity_table, not_table, and_table, or_table, implies_table, iff_table, same_values, values_same}
+use Rattle.mcs_cnf.proofs.Tables.{clause_of-holds, truth_table, falsity_table, not_table, joined_table, same_values, values_same}
 use Rattle.mcs_base.proofs.Clausal.{Reads, reads_append, reads_those, reads_same}
 use Rattle.mcs_cnf.proofs.Values.{values, reads_after, all_values, all_values_taken, atom_values, atoms_read-first, atoms_in_order-first}
 
@@ -28,10 +29,9 @@ module _ (v : ℕ → Bool) (names a : List Name) (extends : Extends names a v) 
   own_value k Falsity over r = r.0
   own_value k (Atom n) over r = extends n over
   own_value k (Not f) over r = ((reads_after v a k f (not (holds a f) ∷ [])).0 r).1.0
-  own_value k (And f g) over r = let later = ((reads_after v a k f (values a g ++ (holds a f && holds a g) ∷ [])).0 r).1 in ((reads_after v a (taken k f) g ((holds a f && holds a g) ∷ [])).0 later).1.0
-  own_value k (Or f g) over r = let later = ((reads_after v a k f (values a g ++ (holds a f || holds a g) ∷ [])).0 r).1 in ((reads_after v a (taken k f) g ((holds a f || holds a g) ∷ [])).0 later).1.0
-  own_value k (Implies f g) over r = let later = ((reads_after v a k f (values a g ++ (not (holds a f) || holds a g) ∷ [])).0 r).1 in ((reads_after v a (taken k f) g ((not (holds a f) || holds a g) ∷ [])).0 later).1.0
-  own_value k (Iff f g) over r = let later = ((reads_after v a k f (values a g ++ both_or_neither (holds a f) (holds a g) ∷ [])).0 r).1 in ((reads_after v a (taken k f) g (both_or_neither (holds a f) (holds a g) ∷ [])).0 later).1.0
+  own_value k (Joined c f g) over r =
+      let own : List Bool = joined_value c (holds a f) (holds a g) ∷ [] in
+      ((reads_after v a (taken k f) g own).0 ((reads_after v a k f (values a g ++ own)).0 r).1).1.0
 
   -- the clauses of the occurrences hold exactly where each occurrence has its value
   Says : ℕ → Formula → Type 0
@@ -88,14 +88,8 @@ module _ (v : ℕ → Bool) (names a : List Name) (extends : Extends names a v) 
       (λ h. (same_values (v (k + 1)) false (sym table ∙ h), tt), λ r. table ∙ values_same (v (k + 1)) false r.0)
   says k (Atom n) over = (λ h. tt, λ r. refl)
   says k (Not f) over = unary k f (not_clauses (taken k f + 1) (number names k f)) over (not_table v (taken k f + 1) (number names k f) (omega arith) (number_positive names k f)) (says k f over)
-  says k (And f g) over = binary (λ p q. p && q) k f g (and_clauses (taken (taken k f) g + 1) (number names k f) (number names (taken k f) g)) over.0 over.1
-      (and_table v (taken (taken k f) g + 1) (number names k f) (number names (taken k f) g) (omega arith) (number_positive names k f) (number_positive names (taken k f) g)) (says k f over.0) (says (taken k f) g over.1)
-  says k (Or f g) over = binary (λ p q. p || q) k f g (or_clauses (taken (taken k f) g + 1) (number names k f) (number names (taken k f) g)) over.0 over.1
-      (or_table v (taken (taken k f) g + 1) (number names k f) (number names (taken k f) g) (omega arith) (number_positive names k f) (number_positive names (taken k f) g)) (says k f over.0) (says (taken k f) g over.1)
-  says k (Implies f g) over = binary (λ p q. not p || q) k f g (implies_clauses (taken (taken k f) g + 1) (number names k f) (number names (taken k f) g)) over.0 over.1
-      (implies_table v (taken (taken k f) g + 1) (number names k f) (number names (taken k f) g) (omega arith) (number_positive names k f) (number_positive names (taken k f) g)) (says k f over.0) (says (taken k f) g over.1)
-  says k (Iff f g) over = binary both_or_neither k f g (iff_clauses (taken (taken k f) g + 1) (number names k f) (number names (taken k f) g)) over.0 over.1
-      (iff_table v (taken (taken k f) g + 1) (number names k f) (number names (taken k f) g) (omega arith) (number_positive names k f) (number_positive names (taken k f) g)) (says k f over.0) (says (taken k f) g over.1)
+  says k (Joined c f g) over = binary (joined_value c) k f g (joined_clauses c (taken (taken k f) g + 1) (number names k f) (number names (taken k f) g)) over.0 over.1
+      (joined_table c v (taken (taken k f) g + 1) (number names k f) (number names (taken k f) g) (omega arith) (number_positive names k f) (number_positive names (taken k f) g)) (says k f over.0) (says (taken k f) g over.1)
 
   unit-holds : (n : ℕ) → clause_holds v (clause_of (pos n ∷ [])) ≡ v n
   unit-holds n = clause_of-holds v (pos n ∷ []) ∙ or-false (v n)

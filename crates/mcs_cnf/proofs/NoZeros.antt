@@ -6,9 +6,9 @@ use Rattle.mcs_base.specs.Listings.{IsAscending}
 use Rattle.mcs_base.proofs.Numbers.{unsigned_abs-neg_ℤ}
 use Rattle.mcs_base.proofs.Clausal.{HasNoZero, HaveNoZero}
 use Rattle.mcs_base.proofs.Each.{all_append, all_weaker}
-use Rattle.mcs_system.specs.Plain.{Name, Formula, Truth, Falsity, Atom, Not, And, Or, Implies, Iff}
+use Rattle.mcs_system.specs.Plain.{Name, Formula, Truth, Falsity, Atom, Not, Joined, Connective, Conjunction, Disjunction, Implication, Equivalence}
 use Rattle.mcs_trace.specs.Clauses.{LiteralBefore}
-use Rattle.mcs_cnf.specs.ClauseLists.{clause_of, non, not_clauses, and_clauses, or_clauses, implies_clauses, iff_clauses, taken, number, formula_clauses, taken_by_all, list_clauses}
+use Rattle.mcs_cnf.specs.ClauseLists.{clause_of, non, not_clauses, and_clauses, or_clauses, implies_clauses, iff_clauses, joined_clauses, taken, number, formula_clauses, taken_by_all, list_clauses}
 use Rattle.mcs_cnf.proofs.ClauseLemmas.{all_clause, clause_listing}
 use Rattle.mcs_cnf.proofs.NumberLemmas.{taken_grows, atom_near, number_positive}
 use Rattle.mcs_cnf.proofs.ListLemmas.{all_take_grow}
@@ -49,6 +49,12 @@ module _ (P : ℕ → Type 0) where
       (clause _ (non_has n is, (is', (non_has y is'', tt))), (clause _ (is, (is', (is'', tt))), (clause _ (is, (non_has x is', (non_has y is'', tt))), tt))),
     )
 
+  joined_are : (c : Connective) (n x y : ℕ) → P n → P x → P y → AreClauses (joined_clauses c n x y)
+  joined_are Conjunction = and_are
+  joined_are Disjunction = or_are
+  joined_are Implication = implies_are
+  joined_are Equivalence = iff_are
+
   -- where each number from 1 to the most has P
   module _ (names : List Name) (most : ℕ) (known : length names < most) (each : (j : ℕ) → 0 < j → j ≤ most → P j) where
     number_near : (k : ℕ) (f : Formula) → taken k f ≤ most → number names k f ≤ most
@@ -56,10 +62,7 @@ module _ (P : ℕ → Type 0) where
     number_near k Falsity room = room
     number_near k (Atom n) room = omega (arith, atom_near names n)
     number_near k (Not f) room = room
-    number_near k (And f g) room = room
-    number_near k (Or f g) room = room
-    number_near k (Implies f g) room = room
-    number_near k (Iff f g) room = room
+    number_near k (Joined c f g) room = room
 
     number_has : (k : ℕ) (f : Formula) → taken k f ≤ most → P (number names k f)
     number_has k f room = each (number names k f) (number_positive names k f) (number_near k f room)
@@ -81,10 +84,7 @@ module _ (P : ℕ → Type 0) where
     formula_are k (Atom n) room = tt
     formula_are k (Not f) room = all_append IsClauseOf (formula_clauses names k f) _ (formula_are k f (omega arith))
         (not_are (taken k f + 1) (number names k f) (taken k f + 1) (each (taken k f + 1) (omega arith) room) (number_has k f (omega arith)) (each (taken k f + 1) (omega arith) room))
-    formula_are k (And f g) room = two_parts k f g (omega arith) and_clauses and_are (formula_are k f (first_room k f g (omega arith))) (formula_are (taken k f) g (omega arith))
-    formula_are k (Or f g) room = two_parts k f g (omega arith) or_clauses or_are (formula_are k f (first_room k f g (omega arith))) (formula_are (taken k f) g (omega arith))
-    formula_are k (Implies f g) room = two_parts k f g (omega arith) implies_clauses implies_are (formula_are k f (first_room k f g (omega arith))) (formula_are (taken k f) g (omega arith))
-    formula_are k (Iff f g) room = two_parts k f g (omega arith) iff_clauses iff_are (formula_are k f (first_room k f g (omega arith))) (formula_are (taken k f) g (omega arith))
+    formula_are k (Joined c f g) room = two_parts k f g (omega arith) (joined_clauses c) (joined_are c) (formula_are k f (first_room k f g (omega arith))) (formula_are (taken k f) g (omega arith))
 
     pub list_are : (k : ℕ) (fs : List Formula) → taken_by_all k fs ≤ most → AreClauses (list_clauses names k fs)
     list_are k [] room = tt

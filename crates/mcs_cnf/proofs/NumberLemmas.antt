@@ -1,6 +1,6 @@
 -- Numbers of formulas.
 use Rattle.std.proofs.Common.{◌≡◌, ℕ, ◌+◌, ◌<◌, ◌≤◌, Bool, true, false, ◌||◌, cond, List, [], ◌∷◌, length, arith, sym, true≢false}
-use Rattle.mcs_system.specs.Plain.{Name, Formula, Truth, Falsity, Atom, Not, And, Or, Implies, Iff}
+use Rattle.mcs_system.specs.Plain.{Name, Formula, Truth, Falsity, Atom, Not, Joined}
 use Rattle.mcs_system.specs.Logic.{same_name, is_in}
 use Rattle.mcs_cnf.specs.ClauseLists.{atom_number, taken, number, IsOver}
 
@@ -9,10 +9,7 @@ taken_grows k Truth = omega arith
 taken_grows k Falsity = omega arith
 taken_grows k (Atom n) = omega arith
 taken_grows k (Not f) = omega (arith, taken_grows k f)
-taken_grows k (And f g) = omega (arith, taken_grows k f, taken_grows (taken k f) g)
-taken_grows k (Or f g) = omega (arith, taken_grows k f, taken_grows (taken k f) g)
-taken_grows k (Implies f g) = omega (arith, taken_grows k f, taken_grows (taken k f) g)
-taken_grows k (Iff f g) = omega (arith, taken_grows k f, taken_grows (taken k f) g)
+taken_grows k (Joined c f g) = omega (arith, taken_grows k f, taken_grows (taken k f) g)
 
 pub atom_positive : (names : List Name) (n : Name) → 0 < atom_number names n
 atom_positive [] n = omega arith
@@ -43,19 +40,13 @@ number_positive names k Truth = omega arith
 number_positive names k Falsity = omega arith
 number_positive names k (Atom n) = atom_positive names n
 number_positive names k (Not f) = omega arith
-number_positive names k (And f g) = omega arith
-number_positive names k (Or f g) = omega arith
-number_positive names k (Implies f g) = omega arith
-number_positive names k (Iff f g) = omega arith
+number_positive names k (Joined c f g) = omega arith
 
 pub number_within : (names : List Name) (k : ℕ) (f : Formula) → IsOver names f → length names ≤ k → number names k f ≤ taken k f
 number_within names k Truth over room = omega arith
 number_within names k Falsity over room = omega arith
 number_within names k (Atom n) over room = omega (arith, atom_within names n over)
 number_within names k (Not f) over room = omega arith
-number_within names k (And f g) over room = omega arith
-number_within names k (Or f g) over room = omega arith
-number_within names k (Implies f g) over room = omega arith
-number_within names k (Iff f g) over room = omega arith
+number_within names k (Joined c f g) over room = omega arith
 
 pub ruleset numbers_fit = (taken_grows, number_positive, number_within)

@@ -1,7 +1,7 @@
 -- Formulas over names, and the names of a context.
 use Rattle.std.proofs.Common.{◌≡◌, ℕ, true, false, ◌||◌, List, ◌++◌, ◌↔◌, inl, inr, sym, ap, ◌∙◌, true≢false}
 use Rattle.std.proofs.lemmas.Bool.{or_cases}
-use Rattle.mcs_system.specs.Plain.{Name, Formula, Truth, Falsity, Atom, Not, And, Or, Implies, Iff, System}
+use Rattle.mcs_system.specs.Plain.{Name, Formula, Truth, Falsity, Atom, Not, Joined, System}
 use Rattle.mcs_system.specs.Logic.{same_name, is_in, atoms}
 use Rattle.mcs_system.specs.Faults.{has_twins}
 use Rattle.mcs_system.specs.Atoms.{first_names, atom_occurrences, atoms_of}
@@ -32,10 +32,7 @@ over_of names Truth h = tt
 over_of names Falsity h = tt
 over_of names (Atom n) h = h n (ap (λ b. b || false) (same_name-itself n))
 over_of names (Not f) h = over_of names f h
-over_of names (And f g) h = (over_of names f (among_left (atoms f) (atoms g) names h), over_of names g (among_right (atoms f) (atoms g) names h))
-over_of names (Or f g) h = (over_of names f (among_left (atoms f) (atoms g) names h), over_of names g (among_right (atoms f) (atoms g) names h))
-over_of names (Implies f g) h = (over_of names f (among_left (atoms f) (atoms g) names h), over_of names g (among_right (atoms f) (atoms g) names h))
-over_of names (Iff f g) h = (over_of names f (among_left (atoms f) (atoms g) names h), over_of names g (among_right (atoms f) (atoms g) names h))
+over_of names (Joined c f g) h = (over_of names f (among_left (atoms f) (atoms g) names h), over_of names g (among_right (atoms f) (atoms g) names h))
 
 of_over : (names : List Name) (f : Formula) → IsOver names f → Among (atoms f) names
 unfolding Among
@@ -46,10 +43,7 @@ of_over names (Atom m) over n member = elim (or_cases (same_name n m) false memb
   | inr none ↦ absurd (true≢false (sym none))
 ]
 of_over names (Not f) over n member = of_over names f over n member
-of_over names (And f g) over n member = among_both (atoms f) (atoms g) names (of_over names f over.0) (of_over names g over.1) n member
-of_over names (Or f g) over n member = among_both (atoms f) (atoms g) names (of_over names f over.0) (of_over names g over.1) n member
-of_over names (Implies f g) over n member = among_both (atoms f) (atoms g) names (of_over names f over.0) (of_over names g over.1) n member
-of_over names (Iff f g) over n member = among_both (atoms f) (atoms g) names (of_over names f over.0) (of_over names g over.1) n member
+of_over names (Joined c f g) over n member = among_both (atoms f) (atoms g) names (of_over names f over.0) (of_over names g over.1) n member
 
 pub over_atoms : (names : List Name) (f : Formula) → IsOver names f ↔ ((n : Name) → is_in n (atoms f) ≡ true → is_in n names ≡ true)
 unfolding Among

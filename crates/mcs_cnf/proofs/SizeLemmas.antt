@@ -3,10 +3,10 @@ use Rattle.std.proofs.Common.{◌≡◌, ℕ, ◌+◌, ◌*◌, ◌^◌, ◌<◌
 use Rattle.std.proofs.lemmas.List.Elements.{All-from_recursion}
 use Rattle.std.proofs.lemmas.List.Sums.{sum_by-append, sum_by-cons, sum_by-le}
 use Rattle.std.specs.List.{AllByRecursion, sum_by}
-use Rattle.mcs_system.specs.Plain.{Name, Formula, Truth, Falsity, Atom, Not, And, Or, Implies, Iff}
+use Rattle.mcs_system.specs.Plain.{Name, Formula, Truth, Falsity, Atom, Not, Joined, Connective, Conjunction, Disjunction, Implication, Equivalence}
 use Rattle.mcs_system.specs.Seen.{formula_size}
 use Rattle.mcs_trace.specs.Clauses.{IsClause}
-use Rattle.mcs_cnf.specs.ClauseLists.{clause_of, not_clauses, and_clauses, or_clauses, implies_clauses, iff_clauses, taken, number, formula_clauses, taken_by_all, list_clauses, clause_list}
+use Rattle.mcs_cnf.specs.ClauseLists.{clause_of, not_clauses, joined_clauses, taken, number, formula_clauses, taken_by_all, list_clauses, clause_list}
 use Rattle.mcs_cnf.proofs.NoZeros.{list_are}
 
 -- of all of them
@@ -18,10 +18,7 @@ size_positive Truth = omega arith
 size_positive Falsity = omega arith
 size_positive (Atom n) = omega arith
 size_positive (Not f) = omega arith
-size_positive (And f g) = omega arith
-size_positive (Or f g) = omega arith
-size_positive (Implies f g) = omega arith
-size_positive (Iff f g) = omega arith
+size_positive (Joined c f g) = omega arith
 
 -- where none is larger than this
 pub sizes_up_to : (most : ℕ) (fs : List Formula) → AllByRecursion (λ (f : Formula). formula_size f ≤ most) fs → sizes fs ≤ length fs * most
@@ -42,16 +39,19 @@ few_taken k Truth = omega arith
 few_taken k Falsity = omega arith
 few_taken k (Atom n) = omega arith
 few_taken k (Not f) = omega (arith, few_taken k f)
-few_taken k (And f g) = omega (arith, few_taken k f, few_taken (taken k f) g)
-few_taken k (Or f g) = omega (arith, few_taken k f, few_taken (taken k f) g)
-few_taken k (Implies f g) = omega (arith, few_taken k f, few_taken (taken k f) g)
-few_taken k (Iff f g) = omega (arith, few_taken k f, few_taken (taken k f) g)
+few_taken k (Joined c f g) = omega (arith, few_taken k f, few_taken (taken k f) g)
 
 few_taken_by_all : (k : ℕ) (fs : List Formula) → taken_by_all k fs ≤ k + sizes fs
 few_taken_by_all k [] = omega arith
 few_taken_by_all k (f ∷ fs) = omega (arith, sum_by-cons formula_size f fs, few_taken k f, few_taken_by_all (taken k f) fs)
 
 -- ---- clauses
+few_joined : (c : Connective) (n x y : ℕ) → length (joined_clauses c n x y) ≤ 4
+few_joined Conjunction n x y = omega arith
+few_joined Disjunction n x y = omega arith
+few_joined Implication n x y = omega arith
+few_joined Equivalence n x y = omega arith
+
 module _ (names : List Name) where
   -- of a formula of two parts
   few_with : (k : ℕ) (f g : Formula) (own : List (List ℤ)) → length own ≤ 4 → length (formula_clauses names k f) ≤ 4 * formula_size f
@@ -66,18 +66,9 @@ module _ (names : List Name) where
   few_clauses k Falsity = omega arith
   few_clauses k (Atom n) = omega arith
   few_clauses k (Not f) = omega (arith, few_clauses k f, length-append (formula_clauses names k f) (not_clauses (taken k f + 1) (number names k f)))
-  few_clauses k (And f g) =
-      let own = and_clauses (taken (taken k f) g + 1) (number names k f) (number names (taken k f) g) in
-      few_with k f g own (omega arith) (few_clauses k f) (few_clauses (taken k f) g)
-  few_clauses k (Or f g) =
-      let own = or_clauses (taken (taken k f) g + 1) (number names k f) (number names (taken k f) g) in
-      few_with k f g own (omega arith) (few_clauses k f) (few_clauses (taken k f) g)
-  few_clauses k (Implies f g) =
-      let own = implies_clauses (taken (taken k f) g + 1) (number names k f) (number names (taken k f) g) in
-      few_with k f g own (omega arith) (few_clauses k f) (few_clauses (taken k f) g)
-  few_clauses k (Iff f g) =
-      let own = iff_clauses (taken (taken k f) g + 1) (number names k f) (number names (taken k f) g) in
-      few_with k f g own (omega arith) (few_clauses k f) (few_clauses (taken k f) g)
+  few_clauses k (Joined c f g) =
+      let own = joined_clauses c (taken (taken k f) g + 1) (number names k f) (number names (taken k f) g) in
+      few_with k f g own (few_joined c (taken (taken k f) g + 1) (number names k f) (number names (taken k f) g)) (few_clauses k f) (few_clauses (taken k f) g)
 
   few_list_clauses : (k : ℕ) (fs : List Formula) → length (list_clauses names k fs) ≤ 5 * sizes fs
   few_list_clauses k [] = omega arith

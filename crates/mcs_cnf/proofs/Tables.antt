@@ -4,10 +4,10 @@ use Rattle.std.proofs.lemmas.Bool.Decides.{nat_tests}
 use Rattle.std.proofs.Math.Bool.{or_self_left}
 use Rattle.std.proofs.lemmas.Bool.{not-true, not_from_false}
 use Rattle.mcs_base.proofs.Booleans.{or_swap}
-use Rattle.mcs_system.specs.Logic.{both_or_neither}
+use Rattle.mcs_system.specs.Trees.{Connective, Conjunction, Disjunction, Implication, Equivalence, both_or_neither, joined_value}
 use Rattle.mcs_trace.specs.Clauses.{place, literal_holds, clause_holds, all_hold}
 use Rattle.mcs_trace.proofs.OrderLemmas.{place-injective}
-use Rattle.mcs_cnf.specs.ClauseLists.{with_literal, clause_of, non, truth_clauses, falsity_clauses, not_clauses, and_clauses, or_clauses, implies_clauses, iff_clauses}
+use Rattle.mcs_cnf.specs.ClauseLists.{with_literal, clause_of, non, truth_clauses, falsity_clauses, not_clauses, and_clauses, or_clauses, implies_clauses, iff_clauses, joined_clauses}
 
 -- ---- a clause holds where one of its literals does
 with_holds : (v : ℕ → Bool) (l : ℤ) (c : List ℤ) → clause_holds v (with_literal l c) ≡ (literal_holds v l || clause_holds v c)
@@ -64,6 +64,12 @@ pub iff_table : (v : ℕ → Bool) (n x y : ℕ) → 0 < n → 0 < x → 0 < y �
 iff_table v n x y some some' some'' =
     rw (clause_of-holds v (non n ∷ non x ∷ pos y ∷ []), clause_of-holds v (non n ∷ pos x ∷ non y ∷ []), clause_of-holds v (pos n ∷ pos x ∷ pos y ∷ []), clause_of-holds v (pos n ∷ non x ∷ non y ∷ []))
     (rw (non-holds v n some, non-holds v x some', non-holds v y some'') (grind arith))
+
+pub joined_table : (c : Connective) (v : ℕ → Bool) (n x y : ℕ) → 0 < n → 0 < x → 0 < y → all_hold v (joined_clauses c n x y) ≡ both_or_neither (v n) (joined_value c (v x) (v y))
+joined_table Conjunction = and_table
+joined_table Disjunction = or_table
+joined_table Implication = implies_table
+joined_table Equivalence = iff_table
 
 pub same_values : (p q : Bool) → both_or_neither p q ≡ true → p ≡ q
 same_values true q h = sym h

@@ -3,8 +3,9 @@ use Rattle.std.proofs.Common.{◌≡◌, ℕ, ◌+◌, Bool, true, false, not, �
 use Rattle.std.proofs.lemmas.Bool.{or_parts}
 use Rattle.std.proofs.Math.Bool.{or-true}
 use Rattle.mcs_base.proofs.Clausal.{Reads, reads_append}
-use Rattle.mcs_system.specs.Plain.{Name, Formula, Truth, Falsity, Atom, Not, And, Or, Implies, Iff}
-use Rattle.mcs_system.specs.Logic.{same_name, is_in, holds, both_or_neither}
+use Rattle.mcs_system.specs.Plain.{Name, Formula, Truth, Falsity, Atom, Not, Joined}
+use Rattle.mcs_system.specs.Trees.{joined_value}
+use Rattle.mcs_system.specs.Logic.{same_name, is_in, holds}
 use Rattle.mcs_system.specs.Faults.{has_twins}
 use Rattle.mcs_system.proofs.Sameness.{same_name-is, same_name-itself}
 use Rattle.mcs_cnf.specs.ClauseLists.{atom_number, taken, taken_by_all}
@@ -15,20 +16,14 @@ values a Truth = true ∷ []
 values a Falsity = false ∷ []
 values a (Atom n) = []
 values a (Not f) = values a f ++ not (holds a f) ∷ []
-values a (And f g) = values a f ++ (values a g ++ (holds a f && holds a g) ∷ [])
-values a (Or f g) = values a f ++ (values a g ++ (holds a f || holds a g) ∷ [])
-values a (Implies f g) = values a f ++ (values a g ++ (not (holds a f) || holds a g) ∷ [])
-values a (Iff f g) = values a f ++ (values a g ++ both_or_neither (holds a f) (holds a g) ∷ [])
+values a (Joined c f g) = values a f ++ (values a g ++ joined_value c (holds a f) (holds a g) ∷ [])
 
 pub values_taken : (a : List Name) (k : ℕ) (f : Formula) → taken k f ≡ k + length (values a f)
 values_taken a k Truth = refl
 values_taken a k Falsity = refl
 values_taken a k (Atom n) = omega arith
 values_taken a k (Not f) = omega (arith, values_taken a k f, length-append (values a f) (not (holds a f) ∷ []))
-values_taken a k (And f g) = omega (arith, values_taken a k f, values_taken a (taken k f) g, length-append {A = Bool})
-values_taken a k (Or f g) = omega (arith, values_taken a k f, values_taken a (taken k f) g, length-append {A = Bool})
-values_taken a k (Implies f g) = omega (arith, values_taken a k f, values_taken a (taken k f) g, length-append {A = Bool})
-values_taken a k (Iff f g) = omega (arith, values_taken a k f, values_taken a (taken k f) g, length-append {A = Bool})
+values_taken a k (Joined c f g) = omega (arith, values_taken a k f, values_taken a (taken k f) g, length-append {A = Bool})
 
 pub reads_after : (v : ℕ → Bool) (a : List Name) (k : ℕ) (f : Formula) (bs : List Bool) → Reads v k (values a f ++ bs) ↔ (Reads v k (values a f) × Reads v (taken k f) bs)
 reads_after v a k f bs =

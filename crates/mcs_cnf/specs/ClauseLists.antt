@@ -2,7 +2,8 @@
 use Rattle.std.specs.Prelude.{◌≡◌, ℕ, ◌+◌, ◌<◌, ◌≤◌, cond, nat_lt, nat_eq, IsTrue, List, [], ◌∷◌, ◌++◌, length, ℤ, pos, neg_ℤ}
 use Rattle.std.specs.Int.RustNames.{unsigned_abs}
 use Rattle.std.specs.List.{AllByRecursion}
-use Rattle.mcs_system.specs.Plain.{Name, Formula, Truth, Falsity, Atom, Not, And, Or, Implies, Iff}
+use Rattle.mcs_system.specs.Plain.{Name, Formula, Truth, Falsity, Atom, Not, Joined, Connective, Conjunction, Disjunction, Implication, Equivalence}
+use Rattle.mcs_system.specs.Trees.{AllLeaves}
 use Rattle.mcs_system.specs.Logic.{same_name, is_in}
 use Rattle.mcs_trace.specs.Clauses.{place, ClauseList}
 
@@ -44,12 +45,16 @@ abbrev pub iff_clauses : ℕ → ℕ → ℕ → List (List ℤ)
 iff_clauses n x y =
     clause_of (non n ∷ non x ∷ pos y ∷ []) ∷ clause_of (non n ∷ pos x ∷ non y ∷ []) ∷ clause_of (pos n ∷ pos x ∷ pos y ∷ []) ∷ clause_of (pos n ∷ non x ∷ non y ∷ []) ∷ []
 
+-- of two parts, by their connective
+abbrev pub joined_clauses : Connective → ℕ → ℕ → ℕ → List (List ℤ)
+joined_clauses Conjunction n x y = and_clauses n x y
+joined_clauses Disjunction n x y = or_clauses n x y
+joined_clauses Implication n x y = implies_clauses n x y
+joined_clauses Equivalence n x y = iff_clauses n x y
+
 -- of a formula of two parts
 abbrev pub own_clauses : Formula → ℕ → ℕ → ℕ → List (List ℤ)
-own_clauses (And f g) n x y = and_clauses n x y
-own_clauses (Or f g) n x y = or_clauses n x y
-own_clauses (Implies f g) n x y = implies_clauses n x y
-own_clauses (Iff f g) n x y = iff_clauses n x y
+own_clauses (Joined c f g) n x y = joined_clauses c n x y
 own_clauses f n x y = []
 
 -- ---- what is added to a list
@@ -78,10 +83,7 @@ taken k Truth = k + 1
 taken k Falsity = k + 1
 taken k (Atom n) = k
 taken k (Not f) = taken k f + 1
-taken k (And f g) = taken (taken k f) g + 1
-taken k (Or f g) = taken (taken k f) g + 1
-taken k (Implies f g) = taken (taken k f) g + 1
-taken k (Iff f g) = taken (taken k f) g + 1
+taken k (Joined c f g) = taken (taken k f) g + 1
 
 -- the formula's own number: the last one that it takes, or its atom's
 abbrev pub number : List Name → ℕ → Formula → ℕ
@@ -94,10 +96,7 @@ formula_clauses names k Truth = truth_clauses (k + 1)
 formula_clauses names k Falsity = falsity_clauses (k + 1)
 formula_clauses names k (Atom n) = []
 formula_clauses names k (Not f) = formula_clauses names k f ++ not_clauses (taken k f + 1) (number names k f)
-formula_clauses names k (And f g) = formula_clauses names k f ++ formula_clauses names (taken k f) g ++ and_clauses (taken (taken k f) g + 1) (number names k f) (number names (taken k f) g)
-formula_clauses names k (Or f g) = formula_clauses names k f ++ formula_clauses names (taken k f) g ++ or_clauses (taken (taken k f) g + 1) (number names k f) (number names (taken k f) g)
-formula_clauses names k (Implies f g) = formula_clauses names k f ++ formula_clauses names (taken k f) g ++ implies_clauses (taken (taken k f) g + 1) (number names k f) (number names (taken k f) g)
-formula_clauses names k (Iff f g) = formula_clauses names k f ++ formula_clauses names (taken k f) g ++ iff_clauses (taken (taken k f) g + 1) (number names k f) (number names (taken k f) g)
+formula_clauses names k (Joined c f g) = formula_clauses names k f ++ formula_clauses names (taken k f) g ++ joined_clauses c (taken (taken k f) g + 1) (number names k f) (number names (taken k f) g)
 
 -- ---- lists of formulas
 abbrev pub taken_by_all : ℕ → List Formula → ℕ
@@ -119,14 +118,7 @@ clause_list names fs = with_formulas names (record { vars = length names; clause
 
 -- ---- each atom of the formula is one of the names
 abbrev pub IsOver : List Name → Formula → Type 0
-IsOver names Truth = Unit {0}
-IsOver names Falsity = Unit {0}
-IsOver names (Atom n) = IsTrue (is_in n names)
-IsOver names (Not f) = IsOver names f
-IsOver names (And f g) = IsOver names f × IsOver names g
-IsOver names (Or f g) = IsOver names f × IsOver names g
-IsOver names (Implies f g) = IsOver names f × IsOver names g
-IsOver names (Iff f g) = IsOver names f × IsOver names g
+IsOver names f = AllLeaves (λ n. IsTrue (is_in n names)) f
 
 abbrev pub AreOver : List Name → List Formula → Type 0
 AreOver names fs = AllByRecursion (IsOver names) fs

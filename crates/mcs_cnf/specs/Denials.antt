@@ -1,6 +1,6 @@
 -- The clauses of the denials that a formula begins with.
 use Rattle.std.specs.Prelude.{ℕ, ◌+◌, ◌++◌}
-use Rattle.mcs_system.specs.Plain.{Formula, Truth, Falsity, Atom, Not, And, Or, Implies, Iff}
+use Rattle.mcs_system.specs.Plain.{Formula, Truth, Falsity, Atom, Not, Joined}
 use Rattle.mcs_trace.specs.Clauses.{ClauseList}
 use Rattle.mcs_cnf.specs.ClauseLists.{not_clauses}
 
@@ -10,7 +10,4 @@ denials_added Truth c x = (c, x)
 denials_added Falsity c x = (c, x)
 denials_added (Atom n) c x = (c, x)
 denials_added (Not f) c x = denials_added f (record { vars = c.vars + 1; clauses = c.clauses ++ not_clauses (c.vars + 1) x }) (c.vars + 1)
-denials_added (And f g) c x = (c, x)
-denials_added (Or f g) c x = (c, x)
-denials_added (Implies f g) c x = (c, x)
-denials_added (Iff f g) c x = (c, x)
+denials_added (Joined _ f g) c x = (c, x)

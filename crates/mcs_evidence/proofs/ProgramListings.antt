@@ -13,7 +13,7 @@ use Rattle.mcs_base.specs.Listings.{IsAmong}
 use Rattle.mcs_base.proofs.Booleans.{test_of, test_of-tells}
 use Rattle.mcs_base.proofs.Each.{all_from_among}
 use Rattle.mcs_base.proofs.ListingLemmas.{states_of_test, IsListing-same}
-use Rattle.mcs_system.specs.Plain.{Name, Formula, Truth, Falsity, Atom, Not, And, Or, Implies, Iff, ProgramRule, Program}
+use Rattle.mcs_system.specs.Plain.{Name, Formula, Truth, Falsity, Atom, Not, Joined, ProgramRule, Program}
 use Rattle.mcs_system.specs.Logic.{is_in, holds_all, true_names, IsAnswerSet, BeliefSet, Theory, Atoms, Believes, Accepts}
 use Rattle.mcs_system.specs.Views.{Shows, IsAcceptedView}
 use Rattle.mcs_system.specs.Faults.{has_twins}
@@ -77,10 +77,7 @@ believed a (Atom n) = is_in n a
 believed a Truth = false
 believed a Falsity = false
 believed a (Not f) = false
-believed a (And f g) = false
-believed a (Or f g) = false
-believed a (Implies f g) = false
-believed a (Iff f g) = false
+believed a (Joined c f g) = false
 
 believed-tells : (a : List Name) (p : Formula) → (believed a p ≡ true) ↔ Believes (Atoms a) p
 unfolding believed
@@ -88,10 +85,7 @@ believed-tells a (Atom n) = (λ h. h, λ h. h)
 believed-tells a Truth = (λ h. absurd (true≢false (sym h)), λ h. absurd h)
 believed-tells a Falsity = (λ h. absurd (true≢false (sym h)), λ h. absurd h)
 believed-tells a (Not f) = (λ h. absurd (true≢false (sym h)), λ h. absurd h)
-believed-tells a (And f g) = (λ h. absurd (true≢false (sym h)), λ h. absurd h)
-believed-tells a (Or f g) = (λ h. absurd (true≢false (sym h)), λ h. absurd h)
-believed-tells a (Implies f g) = (λ h. absurd (true≢false (sym h)), λ h. absurd h)
-believed-tells a (Iff f g) = (λ h. absurd (true≢false (sym h)), λ h. absurd h)
+believed-tells a (Joined c f g) = (λ h. absurd (true≢false (sym h)), λ h. absurd h)
 
 believes_same : (a b : List Name) → Same a b → (p : Formula) → Believes (Atoms a) p → Believes (Atoms b) p
 unfolding believed
@@ -102,10 +96,7 @@ believes_same a b same p h = (believed-tells b p).0 (at p ((believed-tells a p).
     at Truth h = h
     at Falsity h = h
     at (Not f) h = h
-    at (And f g) h = h
-    at (Or f g) h = h
-    at (Implies f g) h = h
-    at (Iff f g) h = h
+    at (Joined c f g) h = h
 
 shown_at : List Name → Option Formula → Bool
 shown_at a None = false

@@ -5,3 +5,4 @@ pub mod Supports
 pub mod Laws
 pub mod Pushing
 pub mod Added
+pub mod OneProof

@@ -1,27 +1,21 @@
 -- That each system has a listing of its projected equilibria, since each context has one of what it accepts.
-use Rattle.std.proofs.Common.{ℕ, List, [], ◌∷◌, map, inl, inr, ◌⊎◌}
+use Rattle.std.proofs.Common.{ℕ, List, map, inl, inr, ◌⊎◌}
 use Rattle.mcs_sets.specs.Orders.{StateBefore}
 use Rattle.mcs_base.specs.Listings.{IsListing, IsAmong}
 use Rattle.mcs_base.proofs.Among.{cases_among}
 use Rattle.mcs_base.proofs.Lists.{slice_get_below}
-use Rattle.mcs_system.specs.Plain.{Formula, Kb, Classical, DefaultTheory, Program, System}
-use Rattle.mcs_system.specs.Logic.{Entails, with_heads}
+use Rattle.mcs_system.specs.Plain.{Formula, Kb, OfKind, System}
+use Rattle.mcs_system.specs.Logic.{with_heads}
 use Rattle.mcs_system.specs.Systems.{variables_of, heads_into, IsAcceptedPart}
 use Rattle.mcs_system.specs.Views.{IsAcceptedView, beliefs_at, at_places}
 use Rattle.mcs_laws.proofs.Existence.{DecidesParts, states_listed}
 use Rattle.mcs_laws.proofs.Views.{view_listings}
-use Rattle.mcs_cnf.proofs.EntailmentLemmas.{one_view}
-use Rattle.mcs_system.proofs.Consequence.{cases_entails}
-use Rattle.mcs_base.proofs.Deciding.{places_where, has-places_where}
-use Rattle.mcs_evidence.proofs.DefaultListing.{default_theories_listed}
-use Rattle.mcs_evidence.proofs.ProgramListings.{program_views_listed}
+use Rattle.mcs_asking.proofs.KindItems.{listed_in}
 use Rattle.mcs_existence.specs.Laws.{StatesHaveAListing}
 
 -- what a knowledge base accepts
 views_listed : (kb : Kb) (beliefs : List Formula) → (outputs : List ℕ) × IsListing (IsAcceptedView kb beliefs) StateBefore outputs
-views_listed (Classical fs) beliefs = let view = places_where (Entails fs) (cases_entails fs) beliefs in (view ∷ [], one_view fs beliefs view (has-places_where (Entails fs) (cases_entails fs) beliefs))
-views_listed (DefaultTheory items) beliefs = default_theories_listed items beliefs
-views_listed (Program rules) beliefs = program_views_listed rules beliefs
+views_listed (OfKind k items) beliefs = listed_in k items beliefs
 
 pub parts_decided : (m : System) → DecidesParts m
 unfolding DecidesParts

@@ -1,102 +1,18 @@
 -- Which tokens of a text begin a belief: the first ones of the beliefs at its places, and no others.
-use Rattle.std.proofs.Common.{◌≡◌, ℕ, length, ◌+◌, Bool, true, false, Option, Some, None, List, [], ◌∷◌, ◌++◌, refl, sym, ap, subst, ◌∙◌, inl, inr, ◌⊎◌, true≢false}
+use Rattle.std.proofs.Common.{◌≡◌, Bool, true, false, Option, Some, None, List, [], ◌∷◌, ◌++◌, refl, sym, ap, subst, inl, inr, ◌⊎◌}
 use Rattle.std.specs.Prelude.{codes}
 use Rattle.std.specs.List.{flat_map, list_all}
-use Rattle.std.proofs.lemmas.Bool.{and_parts}
 use Rattle.mcs_base.specs.Listings.{IsAmong}
 use Rattle.mcs_base.specs.Numbers.{value_of_digits}
 use Rattle.mcs_base.proofs.Among.{among_either, flat_map_among}
 use Rattle.mcs_system.specs.Plain.{Name}
-use Rattle.mcs_grammar.specs.Written.{Written, True', False', Named, Denied, Grouped, Both, Either, Leads, Equals, WrittenDefault, WrittenItem, Fact, Rule, WrittenLiteral, WrittenRule, WrittenKb, Classical, DefaultTheory, Program, WrittenContext, WrittenPlace, WrittenRead, WrittenMarks, WrittenBridge, WrittenText}
-use Rattle.mcs_grammar.specs.Entries.{Token, Use, BeginsContext, BeginsBridge, NamesContext, NamesBridge, Weighs, SaysProgram, BeginsItem, NamesTarget, NamesSource, BeginsBelief, EndsRead, Entry, entry, with_first, with_last, formula_in, size_of, formula_entries, whole_entries, after_sign, default_entries, item_entries, atom_entry, further_heads, head_entries, optional, literal_entries, further_literals, body_entries, rule_entries, ended, kb_entries, context_entries, place_entries, read_entries, further_read, reads_entries, bridge_entries, text_entries, weight_entries, mark_entries, version_entries}
+use Rattle.mcs_grammar.specs.Written.{WrittenKb, OfKind, WrittenContext, WrittenPlace, WrittenRead, WrittenMarks, WrittenBridge, WrittenText}
+use Rattle.mcs_grammar.specs.Entries.{Token, Use, BeginsContext, BeginsBridge, NamesContext, NamesBridge, Weighs, BeginsItem, NamesTarget, NamesSource, BeginsBelief, EndsRead, Entry, entry, with_first, with_last, formula_in, whole_entries, optional, ended, kind_word, kind_uses, entries_in, kb_entries, context_entries, place_entries, read_entries, further_read, reads_entries, bridge_entries, text_entries, weight_entries, mark_entries, version_entries}
 use Rattle.mcs_faults.proofs.UsesLemmas.{IsPlaceOf, OfHead, OfRead}
-
--- ---- entries that begin no belief
-abbrev is_other : Use → Bool
-is_other (BeginsBelief c) = false
-is_other u = true
-
-not-among : (us : List Use) → list_all is_other us ≡ true → (c : Name) → ¬ IsAmong (BeginsBelief c) us
-not-among [] e c h = h
-not-among (u ∷ us) e c (inl same) = true≢false (sym (and_parts (is_other u) (list_all is_other us) e).0 ∙ ap is_other (sym same))
-not-among (u ∷ us) e c (inr h) = not-among us (and_parts (is_other u) (list_all is_other us) e).1 c h
-
-abbrev BeginNone : List Entry → Type 0
-BeginNone ms = (m : Entry) → IsAmong m ms → (c : Name) → ¬ IsAmong (BeginsBelief c) m.uses
-
-none-cons : (m : Entry) (ms : List Entry) → list_all is_other m.uses ≡ true → BeginNone ms → BeginNone (m ∷ ms)
-none-cons m ms e rest n (inl same) c h = not-among m.uses e c (subst (λ (x : Entry). IsAmong (BeginsBelief c) x.uses) same h)
-none-cons m ms e rest n (inr there) c h = rest n there c h
-
-none-nil : BeginNone []
-none-nil n there c h = there
-
-none-append : (ms ns : List Entry) → BeginNone ms → BeginNone ns → BeginNone (ms ++ ns)
-none-append ms ns f g m there c h = elim (among_either m ms ns there) [ inl here ↦ f m here c h | inr later ↦ g m later c h ]
-
-none-flat_map : {A : Type 0} (f : A → List Entry) → ((x : A) → BeginNone (f x)) → (xs : List A) → BeginNone (flat_map f xs)
-none-flat_map f each xs m there c h = let (x, inside, here) = flat_map_among f m xs there in each x m here c h
-
-none-first : (us : List Use) → list_all is_other us ≡ true → (ms : List Entry) → BeginNone ms → BeginNone (with_first us ms)
-none-first us e [] none m there c h = there
-none-first us e (x ∷ xs) none m (inl same) c h =
-    elim (among_either (BeginsBelief c) us x.uses (subst (λ (y : Entry). IsAmong (BeginsBelief c) y.uses) same h)) [ inl here ↦ not-among us e c here | inr later ↦ none x (inl refl) c later ]
-none-first us e (x ∷ xs) none m (inr there) c h = none m (inr there) c h
-
--- ---- formulas
-none-formula : (c : Name) (n opened : ℕ) (f : Written) → BeginNone (formula_entries c n opened f)
-none-formula c n opened True' = none-cons _ [] refl none-nil
-none-formula c n opened False' = none-cons _ [] refl none-nil
-none-formula c n opened (Named name) = none-cons _ [] refl none-nil
-none-formula c n opened (Denied f) = none-cons _ _ refl (none-formula c (n + 1) opened f)
-none-formula c n opened (Grouped f) = none-cons _ _ refl (none-append _ _ (none-formula c n (opened + 1) f) (none-cons _ [] refl none-nil))
-none-formula c n opened (Both f g) = none-append _ _ (none-formula c n opened f) (none-cons _ _ refl (none-formula c (n + size_of f + 1) opened g))
-none-formula c n opened (Either f g) = none-append _ _ (none-formula c n opened f) (none-cons _ _ refl (none-formula c (n + size_of f + 1) opened g))
-none-formula c n opened (Leads f g) = none-append _ _ (none-formula c n opened f) (none-cons _ _ refl (none-formula c (n + size_of f + 1) opened g))
-none-formula c n opened (Equals f g) = none-append _ _ (none-formula c n opened f) (none-cons _ _ refl (none-formula c (n + size_of f + 1) opened g))
+use Rattle.mcs_faults.proofs.ItemBegins.{is_other, not-among, BeginNone, none-cons, none-nil, none-append, none-flat_map, none-first, none-formula, none-optional}
+use Rattle.mcs_faults.proofs.KindItems.{word-other, none-in}
 
 -- ---- contexts
-none-after : (sign : Token) (c : Name) (f : Written) → BeginNone (after_sign sign c f)
-none-after sign c f = none-cons _ _ refl (none-formula c 0 0 f)
-
-none-default : (c : Name) (d : WrittenDefault) → BeginNone (default_entries c d)
-none-default c d =
-    none-append _ _ (none-formula c 0 0 d.pre)
-    (none-cons _ _ refl
-    (none-append _ _ (none-formula c 0 0 d.first_just)
-    (none-append _ _ (none-flat_map (after_sign (codes ",") c) (none-after (codes ",") c) d.justs)
-    (none-after (codes "/") c d.conclusion))))
-
-none-item : (c : Name) (i : WrittenItem) → BeginNone (item_entries c i)
-none-item c (Fact f) = none-formula c 0 0 f
-none-item c (Rule d) = none-default c d
-
-none-heads : (c : Name) (n : ℕ) (names : List Name) → BeginNone (further_heads c n names)
-none-heads c n [] = none-nil
-none-heads c n (a ∷ names) = none-cons (entry (codes "|") []) (atom_entry c (n + 1) a ∷ further_heads c (n + 1) names) refl (none-cons (atom_entry c (n + 1) a) (further_heads c (n + 1) names) refl (none-heads c (n + 1) names))
-
-none-head : (c : Name) (names : List Name) → BeginNone (head_entries c names)
-none-head c [] = none-nil
-none-head c (a ∷ names) = none-cons (atom_entry c 1 a) (further_heads c 1 names) refl (none-heads c 1 names)
-
-none-optional : (b : Bool) (token : Token) → BeginNone (optional b token)
-none-optional true token = none-cons _ [] refl none-nil
-none-optional false token = none-nil
-
-none-literal : (c : Name) (n : ℕ) (l : WrittenLiteral) → BeginNone (literal_entries c n l)
-none-literal c n l = none-append _ _ (none-optional l.denied (codes "not")) (none-cons _ [] refl none-nil)
-
-none-literals : (c : Name) (n : ℕ) (ls : List WrittenLiteral) → BeginNone (further_literals c n ls)
-none-literals c n [] = none-nil
-none-literals c n (l ∷ ls) = none-cons _ _ refl (none-append _ _ (none-literal c n l) (none-literals c (n + 1) ls))
-
-none-body : (c : Name) (n : ℕ) (ls : List WrittenLiteral) → BeginNone (body_entries c n ls)
-none-body c n [] = none-nil
-none-body c n (l ∷ ls) = none-append _ _ (none-literal c n l) (none-literals c (n + 1) ls)
-
-none-rule : (c : Name) (r : WrittenRule) → BeginNone (rule_entries c r)
-none-rule c r = none-append _ _ (none-head c r.head) (none-append _ _ (none-optional r.has_sign (codes ":-")) (none-body c (length r.head) r.body))
-
 none-ended : (c : Name) (ms : List Entry) → BeginNone ms → BeginNone (ended c ms)
 none-ended c ms none = none-append _ _ (none-first (BeginsItem c ∷ []) refl ms none) (none-cons _ [] refl none-nil)
 
@@ -106,9 +22,7 @@ none-braces kind items e none =
     none-cons kind (entry (codes "{") [] ∷ (items ++ last)) e (none-cons (entry (codes "{") []) (items ++ last) refl (none-append items last none (none-cons (entry (codes "}") []) [] refl none-nil)))
 
 none-kb : (c : Name) (kb : WrittenKb) → BeginNone (kb_entries c kb)
-none-kb c (Classical formulas) = none-braces (entry (codes "classical") []) _ refl (none-flat_map (λ f. ended c (whole_entries c f)) (λ f. none-ended c (whole_entries c f) (none-formula c 0 0 f)) formulas)
-none-kb c (DefaultTheory items) = none-braces (entry (codes "default") []) _ refl (none-flat_map (λ i. ended c (item_entries c i)) (λ i. none-ended c (item_entries c i) (none-item c i)) items)
-none-kb c (Program rules) = none-braces (entry (codes "program") (SaysProgram c ∷ [])) _ refl (none-flat_map (λ r. ended c (rule_entries c r)) (λ r. none-ended c (rule_entries c r) (none-rule c r)) rules)
+none-kb c (OfKind k items) = none-braces (entry (kind_word k) (kind_uses k c)) _ (word-other k c) (none-flat_map (λ i. ended c (entries_in k c i)) (λ i. none-ended c (entries_in k c i) (none-in k c i)) items)
 
 none-context : (c : WrittenContext) → BeginNone (context_entries c)
 none-context c = none-cons (entry (codes "context") (BeginsContext ∷ [])) (entry c.name (NamesContext c.name ∷ []) ∷ kb_entries c.name c.kb) refl (none-cons (entry c.name (NamesContext c.name ∷ [])) (kb_entries c.name c.kb) refl (none-kb c.name c.kb))

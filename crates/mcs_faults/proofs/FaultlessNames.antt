@@ -9,12 +9,12 @@ use Rattle.mcs_base.proofs.Distinct.{distinct_parts}
 use Rattle.mcs_base.proofs.Among.{among_left, get_among, among_get}
 use Rattle.mcs_base.proofs.Each.{all_among}
 use Rattle.mcs_base.proofs.Lists.{zip_map_same}
-use Rattle.mcs_system.specs.Plain.{Name}
+use Rattle.mcs_system.specs.Plain.{Name, ProgramKind}
 use Rattle.mcs_system.specs.Plain as plain
 use Rattle.mcs_system.specs.Faults.{is_atom, is_program, has_twins, reads_of, IsValid}
 use Rattle.mcs_system.proofs.ValidLemmas.{tests_pass, head_is_atom, belief_is_atom}
 use Rattle.mcs_system.proofs.NameLemmas.{no_twins, position-there}
-use Rattle.mcs_grammar.specs.Written.{Written, Named, WrittenKb, Classical, DefaultTheory, Program, WrittenContext, WrittenPlace, WrittenRead, WrittenBridge, WrittenText, IsNameWord, HasNames, IsPlace, IsWrittenBridge, IsText}
+use Rattle.mcs_grammar.specs.Written.{Written, Named, WrittenKb, OfKind, WrittenContext, WrittenPlace, WrittenRead, WrittenBridge, WrittenText, IsNameWord, HasNames, IsPlace, IsWrittenBridge, IsText}
 use Rattle.mcs_grammar.specs.Entries.{Use, NamesContext, NamesBridge, SaysProgram, NamesTarget, NamesSource, Entry, formula_in, whole_entries, text_entries, uses_of}
 use Rattle.mcs_grammar.specs.Saying.{context_in, SaysBridge, names_of, SaysSystem}
 use Rattle.mcs_grammar.specs.Faults.{AreDifferent, NoContext, Twin, NoAtom, Has}
@@ -75,9 +75,8 @@ module _ (t : WrittenText) (m : plain.System) (says : SaysSystem t m) (valid : I
 
 -- ---- what goes into a program or is read of one is an atom
 program-kb : (n : Name) (kb : WrittenKb) → IsProgramKb kb → is_program (Some (context_in (record { name = n; kb = kb }))) ≡ true
-program-kb n (Program rules) h = refl
-program-kb n (Classical formulas) h = absurd h
-program-kb n (DefaultTheory items) h = absurd h
+program-kb n (OfKind ProgramKind rules) h = refl
+program-kb n kb h = absurd h
 
 atom-is : (f : plain.Formula) → is_atom f ≡ true → (a : Name) × (f ≡ plain.Atom a)
 atom-is (plain.Atom a) e = (a, refl)

@@ -44,3 +44,7 @@ pub mod SpellsWhole
 pub mod WatchWithin
 pub mod Unambiguous
 pub mod ToldFaults
+pub mod ItemBegins
+pub mod ItemSizes
+pub mod ItemCounts
+pub mod KindItems

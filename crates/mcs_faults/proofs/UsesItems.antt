@@ -1,43 +1,27 @@
 -- How many items and defaults a text's tokens begin, told by its contexts.
-use Rattle.std.proofs.Common.{◌≡◌, ℕ, ◌+◌, Bool, true, false, cond, codes, List, [], ◌∷◌, ◌++◌, length, refl, sym, ap, ◌∙◌, inl, inr, ◌⊎◌, arith, true≢false}
+use Rattle.std.proofs.Common.{◌≡◌, ℕ, ◌+◌, Bool, false, cond, codes, List, [], ◌∷◌, ◌++◌, map, refl, sym, ap, ◌∙◌, arith}
 use Rattle.std.specs.Prelude.{count_by}
 use Rattle.std.specs.List.{flat_map, sum_by}
 use Rattle.std.proofs.lemmas.List.{length-map}
+use Rattle.std.proofs.lemmas.List.Folds.{fold-map}
 use Rattle.std.proofs.lemmas.List.Sums.{sum_by-cons}
 use Rattle.mcs_base.specs.Listings.{IsAmong}
-use Rattle.mcs_base.proofs.Sums.{count_by-cons, count_by-append, count_none, sum_by_same, sum_by_none, sum_by-ones, sum_by-cond, count_by-map, count_by-flat_map}
-use Rattle.mcs_base.proofs.Booleans.{cond-cond, cond-same}
+use Rattle.mcs_base.proofs.Sums.{count_by-cons, count_by-append, sum_by_same, sum_by_none, sum_by-ones, sum_by-cond, count_by-flat_map}
 use Rattle.mcs_base.proofs.Each.{all_among}
-use Rattle.mcs_system.specs.Plain.{Name}
+use Rattle.mcs_system.specs.Plain.{Name, Kind}
 use Rattle.mcs_system.specs.Logic.{same_name}
-use Rattle.mcs_system.specs.Faults.{is_default, default_count, item_count}
-use Rattle.mcs_grammar.specs.Written.{Written, WrittenItem, Fact, Rule, WrittenKb, Classical, DefaultTheory, Program, WrittenRule, IsRule, IsKb, WrittenContext, IsContext, WrittenBridge, WrittenText, IsText}
-use Rattle.mcs_grammar.specs.Entries.{Use, formula_in, BeginsItem, BeginsDefault, Entry, entry, with_first, whole_entries, item_entries, head_entries, optional, body_entries, rule_entries, ended, kb_entries, uses_of}
-use Rattle.mcs_grammar.specs.Saying.{item_in, rule_in, kb_in}
+use Rattle.mcs_system.specs.Faults.{default_count, item_count}
+use Rattle.mcs_grammar.specs.Written.{WrittenOf, IsWrittenIn, WrittenKb, OfKind, IsKb, WrittenContext, IsContext, WrittenBridge, WrittenText, IsText}
+use Rattle.mcs_grammar.specs.Entries.{Use, SaysProgram, BeginsItem, Entry, entry, with_first, ended, entries_in, kind_uses, kb_entries, uses_of}
+use Rattle.mcs_grammar.specs.Saying.{said_in, kb_in}
 use Rattle.mcs_grammar.specs.Faults.{begins_default_of, begins_item_of}
 use Rattle.mcs_account.proofs.UsesParts.{text_uses, sum_of}
-use Rattle.mcs_account.proofs.EntryLists.{formula-some, uses-flat_map, uses-end, uses-first, some-append}
-use Rattle.mcs_account.proofs.ContextUses.{formula_uses, later_formulas, default-all, in_formula, formula-in, rule-in, items-among}
-use Rattle.mcs_account.proofs.BridgeUses.{in_read}
+use Rattle.mcs_account.proofs.EntryLists.{uses-flat_map, uses-end, uses-first}
 use Rattle.mcs_faults.proofs.UsesCounts.{text-count, context-parts, bridge-parts}
 use Rattle.mcs_account.specs.Reading.{HasSome}
-
--- ---- what they are not
-default-no-formula : (c : Name) (u : Use) → in_formula u ≡ true → begins_default_of c u ≡ false
-default-no-formula c (BeginsDefault d) e = absurd (true≢false (sym e))
-default-no-formula c u e = refl
-
-default-no-read : (c : Name) (u : Use) → in_read u ≡ true → begins_default_of c u ≡ false
-default-no-read c (BeginsDefault d) e = absurd (true≢false (sym e))
-default-no-read c u e = refl
-
-item-no-formula : (c : Name) (u : Use) → in_formula u ≡ true → begins_item_of c u ≡ false
-item-no-formula c (BeginsItem d) e = absurd (true≢false (sym e))
-item-no-formula c u e = refl
-
-item-no-read : (c : Name) (u : Use) → in_read u ≡ true → begins_item_of c u ≡ false
-item-no-read c (BeginsItem d) e = absurd (true≢false (sym e))
-item-no-read c u e = refl
+use Rattle.mcs_account.proofs.Courses.{zero-add}
+use Rattle.mcs_faults.proofs.ItemCounts.{default-no-formula, default-no-read, item-no-formula, item-no-read}
+use Rattle.mcs_faults.proofs.KindItems.{word-none, default_in, defaults-of, parts-in, has-in}
 
 -- ---- the items of a context, each with its period
 module _ (p : Use → Bool) (n : Name) where
@@ -53,81 +37,38 @@ module _ (p : Use → Bool) (n : Name) where
       ∙ count_by-flat_map p (λ (x : A). uses_of (ended n (f x))) xs
       ∙ sum_by_same (λ (x : A). count_by p (uses_of (ended n (f x)))) w xs each
 
-  formula-none : (f : Written) → ((u : Use) → in_formula u ≡ true → p u ≡ false) → count_by p (formula_uses n f) ≡ 0
-  formula-none f none = count_none p (formula_uses n f) (λ u here. none u (formula-in n f u here))
+  -- where the first token's use is not counted
+  ended-none : (ms : List Entry) → p (BeginsItem n) ≡ false → count_by p (uses_of (ended n ms)) ≡ count_by p (uses_of ms)
+  ended-none [] e = refl
+  ended-none (m ∷ ms) e = ended-count (m ∷ ms) tt ∙ rw e (zero-add (count_by p (uses_of (m ∷ ms))))
 
-  rule-none : (r : WrittenRule) → ((u : Use) → in_formula u ≡ true → p u ≡ false) → count_by p (uses_of (rule_entries n r)) ≡ 0
-  rule-none r none = count_none p (uses_of (rule_entries n r)) (λ u here. none u (rule-in n r u here))
-
-  -- of an item: its first colon, where it is a default
-  item-parts : (i : WrittenItem) → ((u : Use) → in_formula u ≡ true → p u ≡ false) → count_by p (uses_of (item_entries n i)) ≡ cond (is_default (item_in i)) (cond (p (BeginsDefault n)) 1 0) 0
-  item-parts (Fact f) none = formula-none f none
-  item-parts (Rule d) none =
-      let whole = ap (count_by p) (default-all n d) ∙ count_by-append p (formula_uses n d.pre) (BeginsDefault n ∷ flat_map (formula_uses n) (later_formulas d)) in
-      let first = formula-none d.pre none in
-      let step = count_by-cons p (BeginsDefault n) (flat_map (formula_uses n) (later_formulas d)) in
-      let later = count_by-flat_map p (formula_uses n) (later_formulas d) ∙ sum_by_none (λ (f : Written). count_by p (formula_uses n f)) (later_formulas d) (λ f here. formula-none f none) in
+  -- the word of the kind, and then the items
+  kb-count : (k : Kind) (items : List (WrittenOf k)) (w : WrittenOf k → ℕ) → p (SaysProgram n) ≡ false → ((i : WrittenOf k) → IsAmong i items → count_by p (uses_of (ended n (entries_in k n i))) ≡ w i)
+      → count_by p (uses_of (kb_entries n (OfKind k items))) ≡ sum_by w items
+  kb-count k items w e each =
+      let rest : List Entry = flat_map (λ i. ended n (entries_in k n i)) items ++ entry (codes "}") [] ∷ [] in
+      let all = count_by-append p (kind_uses k n) (uses_of rest) in
+      let word = word-none p k n e in
+      let counted = items-count (entries_in k n) w items each in
       omega arith
-
-item-has : (c : Name) (i : WrittenItem) → HasSome (item_entries c i)
-item-has c (Fact f) = formula-some c 0 0 f
-item-has c (Rule d) = some-append (whole_entries c d.pre) _ (formula-some c 0 0 d.pre)
-
-rule-has : (c : Name) (r : WrittenRule) → IsRule r → HasSome (rule_entries c r)
-rule-has c r h = at r.head r.has_sign h.head_or_sign
-  where
-    rest : List Entry
-    rest = body_entries c (length r.head) r.body
-
-    signed : (sign : Bool) → sign ≡ true → HasSome (optional sign (codes ":-") ++ rest)
-    signed true e = tt
-    signed false e = absurd (true≢false (sym e))
-
-    at : (head : List Name) (sign : Bool) → (head ≡ [] → sign ≡ true) → HasSome (head_entries c head ++ (optional sign (codes ":-") ++ rest))
-    at [] sign e = signed sign (e refl)
-    at (a ∷ names) sign e = tt
 
 -- ---- defaults
 kb-defaults : (c n : Name) (kb : WrittenKb) → count_by (begins_default_of c) (uses_of (kb_entries n kb)) ≡ cond (same_name c n) (default_count (kb_in kb)) 0
-kb-defaults c n (Classical formulas) =
-    items-count (begins_default_of c) n (whole_entries n) (λ (f : Written). 0) formulas (λ f here. let all = ended-count (begins_default_of c) n (whole_entries n f) (formula-some n 0 0 f) in let none = formula-none (begins_default_of c) n f (default-no-formula c) in omega arith)
-    ∙ sum_by_none (λ (f : Written). 0) formulas (λ f here. refl) ∙ sym (cond-same (same_name c n) 0)
-kb-defaults c n (DefaultTheory items) =
-    items-count (begins_default_of c) n (item_entries n) (λ (i : WrittenItem). cond (same_name c n) (cond (is_default (item_in i)) 1 0) 0) items
-    (λ i here. let all = ended-count (begins_default_of c) n (item_entries n i) (item-has n i) in let one = item-parts (begins_default_of c) n i (default-no-formula c) in let turned = cond-cond (is_default (item_in i)) (same_name c n) 1 in omega arith)
-    ∙ sum_by-cond (same_name c n) (λ (i : WrittenItem). cond (is_default (item_in i)) 1 0) items
-    ∙ ap (λ (k : ℕ). cond (same_name c n) k 0) (sym (count_by-map is_default item_in items))
-kb-defaults c n (Program rules) = count_none (begins_default_of c) (uses_of (kb_entries n (Program rules))) none ∙ sym (cond-same (same_name c n) 0)
-  where
-    within : (u : Use) → (u ≡ BeginsItem n) ⊎ ((r : WrittenRule) × IsAmong r rules × IsAmong u (uses_of (rule_entries n r))) → begins_default_of c u ≡ false
-    within u (inl e) = ap (begins_default_of c) e
-    within u (inr (r, there, here)) = default-no-formula c u (rule-in n r u here)
-
-    none : (u : Use) → IsAmong u (uses_of (kb_entries n (Program rules))) → begins_default_of c u ≡ false
-    none u (inl e) = ap (begins_default_of c) e
-    none u (inr h) = within u (items-among n (rule_entries n) rules u h)
+kb-defaults c n (OfKind k items) =
+    kb-count (begins_default_of c) n k items (λ i. cond (same_name c n) (default_in k (said_in k i)) 0) refl (λ i here. ended-none (begins_default_of c) n (entries_in k n i) refl ∙ parts-in (begins_default_of c) k n i (default-no-formula c))
+    ∙ sum_by-cond (same_name c n) (λ i. default_in k (said_in k i)) items
+    ∙ ap (λ (m : ℕ). cond (same_name c n) m 0) (sym (defaults-of k (map (said_in k) items) ∙ fold-map (λ m i. m + default_in k i) (said_in k) 0 items))
 
 -- ---- items
 -- each counts once
-each-item : {A : Type 0} (c n : Name) (f : A → List Entry) (xs : List A) → ((x : A) → IsAmong x xs → HasSome (f x)) → ((x : A) → count_by (begins_item_of c) (uses_of (f x)) ≡ 0) → count_by (begins_item_of c) (uses_of (flat_map (λ x. ended n (f x)) xs ++ entry (codes "}") [] ∷ [])) ≡ cond (same_name c n) (length xs) 0
-each-item {A} c n f xs has none =
-    items-count (begins_item_of c) n f (λ (x : A). cond (same_name c n) 1 0) xs (λ x here. let all = ended-count (begins_item_of c) n (f x) (has x here) in let rest = none x in omega arith)
-    ∙ sum_by-cond (same_name c n) (λ (x : A). 1) xs
-    ∙ ap (λ (k : ℕ). cond (same_name c n) k 0) (sum_by-ones xs)
-
-nothing-in : (c n : Name) (i : WrittenItem) → count_by (begins_item_of c) (uses_of (item_entries n i)) ≡ 0
-nothing-in c n i = item-parts (begins_item_of c) n i (item-no-formula c) ∙ cond-same (is_default (item_in i)) 0
-
-pub kb-items : (c n : Name) (kb : WrittenKb) → IsKb kb → count_by (begins_item_of c) (uses_of (kb_entries n kb)) ≡ cond (same_name c n) (item_count (kb_in kb)) 0
-kb-items c n (Classical formulas) h =
-    each-item c n (whole_entries n) formulas (λ f here. formula-some n 0 0 f) (λ f. formula-none (begins_item_of c) n f (item-no-formula c))
-    ∙ ap (λ (k : ℕ). cond (same_name c n) k 0) (sym (length-map formulas formula_in))
-kb-items c n (DefaultTheory items) h =
-    each-item c n (item_entries n) items (λ i here. item-has n i) (nothing-in c n)
-    ∙ ap (λ (k : ℕ). cond (same_name c n) k 0) (sym (length-map items item_in))
-kb-items c n (Program rules) h =
-    each-item c n (rule_entries n) rules (λ r here. rule-has n r (all_among IsRule rules r h here)) (λ r. rule-none (begins_item_of c) n r (item-no-formula c))
-    ∙ ap (λ (k : ℕ). cond (same_name c n) k 0) (sym (length-map rules rule_in))
+kb-items : (c n : Name) (kb : WrittenKb) → IsKb kb → count_by (begins_item_of c) (uses_of (kb_entries n kb)) ≡ cond (same_name c n) (item_count (kb_in kb)) 0
+kb-items c n (OfKind k items) h =
+    kb-count (begins_item_of c) n k items (λ i. cond (same_name c n) 1 0) refl (λ i here.
+    let all = ended-count (begins_item_of c) n (entries_in k n i) (has-in k n i (all_among (IsWrittenIn k) items i h here)) in
+    let none : count_by (begins_item_of c) (uses_of (entries_in k n i)) ≡ 0 = parts-in (begins_item_of c) k n i (item-no-formula c) in
+    omega arith)
+    ∙ sum_by-cond (same_name c n) (λ i. 1) items
+    ∙ ap (λ (m : ℕ). cond (same_name c n) m 0) (sum_by-ones items ∙ sym (length-map items (said_in k)))
 
 -- ---- of a text
 sum-total : (c : Name) (count : WrittenKb → ℕ) (xs : List WrittenContext) → sum_by (λ (x : WrittenContext). cond (same_name c x.name) (count x.kb) 0) xs ≡ sum_of c count xs

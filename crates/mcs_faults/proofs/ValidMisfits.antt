@@ -8,10 +8,10 @@ use Rattle.mcs_base.specs.Words.{is_word, is_reserved}
 use Rattle.mcs_base.proofs.Among.{map_among, any_none}
 use Rattle.mcs_base.proofs.Booleans.{not_refuted}
 use Rattle.mcs_base.proofs.Each.{all_among}
-use Rattle.mcs_system.specs.Plain.{Name, Context, Read, Bridge, System}
+use Rattle.mcs_system.specs.Plain.{Name, DefaultKind, ProgramKind, Context, Read, Bridge, System}
 use Rattle.mcs_system.specs.Plain as plain
 use Rattle.mcs_system.specs.Faults.{reads_of, is_atom, is_program, is_unjustified, has_unjustified, has_misfit, has_misfits}
-use Rattle.mcs_grammar.specs.Written.{WrittenItem, Fact, Rule, WrittenKb, Classical, DefaultTheory, Program, WrittenContext, WrittenPlace, IsPlace, WrittenRead, IsWrittenBridge, WrittenText, IsText}
+use Rattle.mcs_grammar.specs.Written.{WrittenItem, Fact, Rule, WrittenKb, OfKind, WrittenContext, WrittenPlace, IsPlace, WrittenRead, IsWrittenBridge, WrittenText, IsText}
 use Rattle.mcs_grammar.specs.Entries.{SaysProgram, formula_in, context_entries, text_entries, uses_of}
 use Rattle.mcs_grammar.specs.Saying.{item_in, kb_in, SaysPlace, SaysSystem, names_of}
 use Rattle.mcs_grammar.specs.Faults.{NoAtom}
@@ -25,8 +25,7 @@ use Rattle.mcs_grammar.proofs.SaidSystem.{read-written, context-written, bridge-
 
 -- ---- justifications
 pub kb-justified : (kb : WrittenKb) → has_unjustified (kb_in kb) ≡ false
-kb-justified (Classical formulas) = refl
-kb-justified (DefaultTheory items) = any_none is_unjustified (map item_in items) each
+kb-justified (OfKind DefaultKind items) = any_none is_unjustified (map item_in items) each
   where
     one : (i : WrittenItem) → is_unjustified (item_in i) ≡ false
     one (Fact f) = refl
@@ -34,13 +33,12 @@ kb-justified (DefaultTheory items) = any_none is_unjustified (map item_in items)
 
     each : (x : plain.Item) → IsAmong x (map item_in items) → is_unjustified x ≡ false
     each x h = let (i, there, is) = map_among item_in x items h in ap is_unjustified is ∙ one i
-kb-justified (Program rules) = refl
+kb-justified kb = refl
 
 -- ---- atoms
 program-kb : (n : Name) (kb : WrittenKb) → is_program (Some (record { name = n; kb = kb_in kb })) ≡ true → IsProgramKb kb
-program-kb n (Classical formulas) e = absurd (true≢false (sym e))
-program-kb n (DefaultTheory items) e = absurd (true≢false (sym e))
-program-kb n (Program rules) e = tt
+program-kb n (OfKind ProgramKind rules) e = tt
+program-kb n kb e = absurd (true≢false (sym e))
 
 -- a place of a program has an atom
 module _ (t : WrittenText) (none : NoFaults (text_entries t)) where

@@ -3,11 +3,11 @@ use Rattle.std.proofs.Common.{ℕ, ◌≤◌, List, [], ◌∷◌, ◌++◌, map
 use Rattle.std.proofs.lemmas.List.{length-map}
 use Rattle.std.specs.Prelude.{slice_range}
 use Rattle.std.specs.List.{AllByRecursion, flat_map}
-use Rattle.mcs_system.specs.Plain.{Name, Context}
+use Rattle.mcs_system.specs.Plain.{Name, DefaultKind, Context}
 use Rattle.mcs_system.specs.Justifications.{IsJustifiedUpTo, KbIsJustifiedUpTo}
 use Rattle.mcs_tokens.specs.declared.scan.Span.{Span}
 use Rattle.mcs_tokens.proofs.Unique.{spans_few}
-use Rattle.mcs_grammar.specs.Written.{Written, WrittenDefault, WrittenItem, Fact, Rule, WrittenKb, Classical, DefaultTheory, Program, WrittenContext}
+use Rattle.mcs_grammar.specs.Written.{Written, WrittenDefault, WrittenItem, Fact, Rule, WrittenKb, OfKind, WrittenContext}
 use Rattle.mcs_grammar.specs.Entries.{Token, Use, BeginsItem, BeginsDefault, Entry, entry, formula_in, with_first, whole_entries, after_sign, default_entries, item_entries, ended, kb_entries, context_entries, bridge_entries, version_entries, text_entries}
 use Rattle.mcs_grammar.specs.Saying.{default_said, item_in, kb_in, context_in}
 use Rattle.mcs_grammar.specs.Texts.{SpelledDefaultsAreShort}
@@ -45,9 +45,8 @@ module _ (n : ℕ) where
       (item_justified c i (omega (arith, few, both, own)), items_justified c is (omega (arith, few, both)))
 
   kb_justified : (c : Name) (kb : WrittenKb) → length (kb_entries c kb) ≤ n → KbIsJustifiedUpTo n (kb_in kb)
-  kb_justified c (Classical formulas) few = tt
-  kb_justified c (DefaultTheory items) few = items_justified c items (omega (arith, few, length-append {A = Entry}))
-  kb_justified c (Program rules) few = tt
+  kb_justified c (OfKind DefaultKind items) few = items_justified c items (omega (arith, few, length-append {A = Entry}))
+  kb_justified c kb few = tt
 
   contexts_justified : (cs : List WrittenContext) → length (flat_map context_entries cs) ≤ n → AllByRecursion (λ (c : Context). KbIsJustifiedUpTo n c.kb) (map context_in cs)
   contexts_justified [] few = tt

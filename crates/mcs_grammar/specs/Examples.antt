@@ -1,9 +1,9 @@
 -- Worked texts, small enough to be read at a glance.
 use Rattle.std.specs.Prelude.{ℕ, true, false, nat_eq, cond, List, [], ◌∷◌, codes, Some, None}
 use Rattle.mcs_system.specs.Plain as plain
-use Rattle.mcs_system.specs.Plain.{plain_rule}
+use Rattle.mcs_system.specs.Plain.{Disjunction, ProgramKind, plain_rule}
 use Rattle.mcs_grammar.specs.Entries.{Token}
-use Rattle.mcs_grammar.specs.Written.{Named, Denied, Grouped, Either, Program, WrittenContext, WrittenMarks, no_marks, WrittenPlace, WrittenBridge, WrittenText}
+use Rattle.mcs_grammar.specs.Written.{Denial, Named, Prefixed, Grouped, Joins, OfKind, WrittenContext, WrittenMarks, no_marks, WrittenPlace, WrittenBridge, WrittenText}
 
 -- the tokens of a text in which one blank stands between any two of them
 abbrev pub byte_onto : ℕ → List Token → List Token
@@ -22,7 +22,7 @@ abbrev pub fact : List ℕ → WrittenMarks → WrittenBridge
 fact name marks = record { name = name; marks = marks; head = place; reads = [] }
 
 abbrev pub empty_program : WrittenContext
-empty_program = record { name = codes "c"; kb = Program [] }
+empty_program = record { name = codes "c"; kb = OfKind ProgramKind [] }
 
 abbrev pub of_weight : List ℕ → WrittenMarks
 of_weight digits = record { keep = false; closed = false; weight = Some digits }
@@ -65,7 +65,7 @@ lone_rule = record {
   name = codes "r";
   marks = record { keep = true; closed = false; weight = Some (codes "3") };
   head = place;
-  reads = record { denied = true; place = record { context = codes "d"; belief = Grouped (Either (Named (codes "b")) (Denied (Named (codes "b")))) } } ∷ [];
+  reads = record { denied = true; place = record { context = codes "d"; belief = Grouped (Joins Disjunction (Named (codes "b")) (Prefixed Denial (Named (codes "b")))) } } ∷ [];
 }
 
 abbrev pub lone_tokens : List Token

@@ -5,30 +5,12 @@ use Rattle.mcs_base.specs.Numbers.{value_of_digits}
 use Rattle.mcs_system.specs.Plain as plain
 use Rattle.mcs_system.specs.Plain.{Name}
 use Rattle.mcs_system.specs.Logic.{same_name}
-use Rattle.mcs_grammar.specs.Written.{WrittenDefault, WrittenItem, Fact, Rule, WrittenLiteral, WrittenRule, WrittenKb, Classical, DefaultTheory, Program, WrittenContext, WrittenPlace, WrittenRead, WrittenBridge, WrittenText}
-use Rattle.mcs_grammar.specs.Entries.{formula_in}
-
-abbrev pub default_said : WrittenDefault → plain.Default
-default_said d = record { pre = formula_in d.pre; justs = formula_in d.first_just ∷ map formula_in d.justs; conclusion = formula_in d.conclusion }
-
-abbrev pub item_in : WrittenItem → plain.Item
-item_in (Fact f) = plain.Fact (formula_in f)
-item_in (Rule d) = plain.Rule (default_said d)
-
--- the atoms of the literals that are, or are not, denied
-abbrev pub positive_atoms : List WrittenLiteral → List Name
-positive_atoms ls = map (λ (l : WrittenLiteral). l.atom) (filter (λ (l : WrittenLiteral). not l.denied) ls)
-
-abbrev pub negative_atoms : List WrittenLiteral → List Name
-negative_atoms ls = map (λ (l : WrittenLiteral). l.atom) (filter (λ (l : WrittenLiteral). l.denied) ls)
-
-abbrev pub rule_in : WrittenRule → plain.ProgramRule
-rule_in r = record { head = r.head; pos = positive_atoms r.body; neg = negative_atoms r.body }
+pub use Rattle.mcs_grammar.specs.Items.{default_said, item_in, positive_atoms, negative_atoms, rule_in, said_in}
+use Rattle.mcs_grammar.specs.Items.{formula_in}
+use Rattle.mcs_grammar.specs.Written.{WrittenKb, OfKind, WrittenContext, WrittenPlace, WrittenRead, WrittenBridge, WrittenText}
 
 abbrev pub kb_in : WrittenKb → plain.Kb
-kb_in (Classical formulas) = plain.Classical (map formula_in formulas)
-kb_in (DefaultTheory items) = plain.DefaultTheory (map item_in items)
-kb_in (Program rules) = plain.Program (map rule_in rules)
+kb_in (OfKind k items) = plain.OfKind k (map (said_in k) items)
 
 abbrev pub context_in : WrittenContext → plain.Context
 context_in c = record { name = c.name; kb = kb_in c.kb }

@@ -8,7 +8,7 @@ use Rattle.mcs_sets.proofs.SetLemmas.{has-common}
 use Rattle.mcs_sets.proofs.Lattice.{in_common, in_union, within_antisymmetric, union_within}
 use Rattle.mcs_base.specs.Listings.{IsAmong}
 use Rattle.mcs_base.proofs.Each.{all_among, all_from_among, all_by_test}
-use Rattle.mcs_system.specs.Plain.{Name, Kb, Classical, DefaultTheory, Program, ProgramRule, Context, Read, Bridge, System}
+use Rattle.mcs_system.specs.Plain.{Name, Kb, Classical, Program, ProgramRule, Context, Read, Bridge, System}
 use Rattle.mcs_system.specs.Logic.{BeliefSet, Theory, Atoms, Believes}
 use Rattle.mcs_system.specs.Imports.{rules_into}
 use Rattle.mcs_system.specs.Systems.{variables, variables_of, applicable, believed_at, heads_into, BelievesIn, IsVariable}
@@ -77,24 +77,22 @@ module _ (m : System) where
   -- ---- what contexts derive
   derived_set : (i : ℕ) (cone names : List Name) (kb : Kb) (x τ : ℕ) → Derives m i cone names kb x τ → (d : BeliefSet) × Tells m i d τ × IsDerivedSet cone names kb (heads_into m i x) d
   derived_set i cone names (Classical fs) x τ h = (Theory (fs ++ heads_into m i x), h, refl)
-  derived_set i cone names (DefaultTheory items) x τ h = absurd h
   derived_set i cone names (Program rules) x τ (a, is, tells) = (Atoms a, tells, (a, refl, is))
+  derived_set i cone names kb x τ h = absurd h
 
   has_bodies : (cones : List ℕ) → HaveCones m cones → (i : ℕ) (c : Context) → slice_get m.contexts i ≡ Some c → HasBodies (atoms_at m cones i) c.kb
   has_bodies cones have i c is = at c.kb refl
     where
       at : (kb : Kb) → c.kb ≡ kb → HasBodies (atoms_at m cones i) kb
-      at (Classical fs) e = tt
-      at (DefaultTheory items) e = tt
       at (Program rules) e = (have i c rules is e).bodies
+      at kb e = tt
 
   is_of_cone : (cones : List ℕ) → HaveCones m cones → (i v : ℕ) (c : Context) (r : Read) → slice_get m.contexts i ≡ Some c → IsVariable m v r → r.context ≡ i → IsOfCone (atoms_at m cones i) c.kb r.belief
   is_of_cone cones have i v c r is var own = at c.kb refl
     where
       at : (kb : Kb) → c.kb ≡ kb → IsOfCone (atoms_at m cones i) kb r.belief
-      at (Classical fs) e = tt
-      at (DefaultTheory items) e = tt
       at (Program rules) e = λ n is_atom. (have i c rules is e).read v r n var own is_atom
+      at kb e = tt
 
   -- what a context tells contains v exactly where the belief set believes the variable
   told_has : (i v τ : ℕ) (r : Read) (d : BeliefSet) → Tells m i d τ → IsVariable m v r → r.context ≡ i → (has τ v ≡ true) ↔ Believes d r.belief

@@ -11,12 +11,14 @@ use Rattle.std.specs.declared.cmp.Ordering.{Ordering}
 use Rattle.std.specs.declared.cmp.Ordering.TheVariants.{Less, Equal, Greater}
 use Rattle.mcs_sets.specs.Sets.{common}
 use Rattle.mcs_base.proofs.Written.{slice_get-slice_set, length-slice_set}
-use Rattle.mcs_system.specs.Plain.{Formula, Item, ProgramRule, Kb, DefaultTheory, Program, Context, System}
+use Rattle.mcs_system.specs.Plain.{Formula, ProgramRule, ProgramKind, Kb, Program, Context, System}
+use Rattle.mcs_system.specs.Codes.{same_items}
 use Rattle.mcs_system.specs.Atoms.{atoms_of}
 use Rattle.mcs_system.specs.Imports.{rules_into}
 use Rattle.mcs_system.specs.Logic.{Accepts, with_heads, true_names}
 use Rattle.mcs_system.specs.Seen.{kb_of}
 use Rattle.mcs_system.specs.Systems.{IsAcceptedPart}
+use Rattle.mcs_system.specs.declared.formula.Formula as code_formula
 use Rattle.mcs_system.specs.declared.knowledge.Kb as code_kb
 use Rattle.mcs_system.specs.declared.knowledge.Kb.TheVariants as code
 use Rattle.mcs_system.specs.declared.knowledge.ProgRule.{ProgRule}
@@ -46,7 +48,7 @@ pub cone_for : (m : System) (i : ℕ) (rules : List ProgramRule) (cone : Cone) �
 cone_for m i rules cone (c, is, kb) of_these = record {
   of_program = λ others (d, there, kb'). (
       let same : c ≡ d = same_Some c d (sym is ∙ there) in
-      let one : rules ≡ others = (let e : Program rules ≡ Program others = sym kb ∙ ap (λ (e : Context). e.kb) same ∙ kb' in cc) in
+      let one : rules ≡ others = same_items ProgramKind rules others (sym kb ∙ ap (λ (e : Context). e.kb) same ∙ kb') in
       subst (λ (rs : List ProgramRule). IsConeOf m i rs cone) one of_these);
   or_none = inl (rules, (c, is, kb));
 }
@@ -58,12 +60,14 @@ no_cone m i cone c is other none = record {
 }
 
 pub no_program : (k : code_kb.Kb) → ((rs : Vec ProgRule Global) → ¬ (k ≡ code.Program rs)) → (rules : List ProgramRule) → ¬ (kb_of k ≡ Program rules)
-no_program (code.Classical fs) other rules is = cc
-no_program (code.DefaultTheory items) other rules is = cc
 no_program (code.Program rs) other rules is = other rs refl
+no_program k other rules is = cc
 
-pub no_default : (m : System) (i : ℕ) (c : Context) (items : List Item) → IsPlain m → slice_get m.contexts i ≡ Some c → c.kb ≡ DefaultTheory items → ⊥
-no_default m i c items plain is kb = true≢false (sym (plain i c is) ∙ ap is_plain kb)
+-- a plain context is classical or a program
+pub not_plain : (k : code_kb.Kb) → ((fs : Vec code_formula.Formula Global) → ¬ (k ≡ code.Classical fs)) → ((rs : Vec ProgRule Global) → ¬ (k ≡ code.Program rs)) → is_plain (kb_of k) ≡ false
+not_plain (code.Classical fs) none other = absurd (none fs refl)
+not_plain (code.Program rs) none other = absurd (other rs refl)
+not_plain k none other = refl
 
 -- what is accepted depends on the rules into the context
 pub part_with : (m : System) (i x τ : ℕ) → IsAcceptedPart m i (common x (rules_into m i)) τ → IsAcceptedPart m i x τ

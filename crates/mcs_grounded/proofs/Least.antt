@@ -5,7 +5,7 @@ use Rattle.std.specs.List.{AllByRecursion, list_any}
 use Rattle.mcs_base.specs.Listings.{IsAmong}
 use Rattle.mcs_base.proofs.Among.{among_filter, filter_among}
 use Rattle.mcs_base.proofs.Each.{all_among}
-use Rattle.mcs_system.specs.Plain.{Name, Formula, Atom, ProgramRule, Kb, Classical, DefaultTheory, Program}
+use Rattle.mcs_system.specs.Plain.{Name, Formula, Atom, ProgramRule, Kb, Classical, Program}
 use Rattle.mcs_system.specs.Logic.{is_in, BeliefSet, Theory, Atoms, Believes, Accepts, with_heads, satisfies, IsAnswerSet}
 use Rattle.mcs_system.proofs.NameLemmas.{is_in-among, is_in-filter}
 use Rattle.mcs_evidence.proofs.Models.{all_in, any_in, all_in_each, all_in_from, any_in_from, none_in, none_in_from, satisfies_from, satisfies_head}
@@ -86,20 +86,18 @@ module _ (cone : List Name) (rules : List ProgramRule) (normal : AreNormal rules
 -- ---- what a context derives, as a belief set
 abbrev pub IsDerivedSet : List Name → List Name → Kb → List Formula → BeliefSet → Type 0
 IsDerivedSet cone names (Classical fs) hs d = d ≡ Theory (fs ++ hs)
-IsDerivedSet cone names (DefaultTheory items) hs d = ⊥
 IsDerivedSet cone names (Program rules) hs d = (a : List Name) × (d ≡ Atoms a) × IsAnswerSet (reduced names (rules_for cone rules) hs) a
+IsDerivedSet cone names kb hs d = ⊥
 
 -- the bodies of the rules for the cone are within it
 abbrev pub HasBodies : List Name → Kb → Type 0
-HasBodies cone (Classical fs) = Unit {0}
-HasBodies cone (DefaultTheory items) = Unit {0}
 HasBodies cone (Program rules) = AllByRecursion (IsBodyWithin cone) (rules_for cone rules)
+HasBodies cone kb = Unit {0}
 
 -- a belief of a program is an atom of the cone
 abbrev pub IsOfCone : List Name → Kb → Formula → Type 0
-IsOfCone cone (Classical fs) p = Unit {0}
-IsOfCone cone (DefaultTheory items) p = Unit {0}
 IsOfCone cone (Program rules) p = (n : Name) → p ≡ Atom n → is_in n cone ≡ true
+IsOfCone cone kb p = Unit {0}
 
 pub derived_below : (cone a against : List Name) (kb : Kb) (hs hs' : List Formula) → is_plain kb ≡ true → HasBodies cone kb → ((f : Formula) → IsAmong f hs → IsAmong f hs')
     → ((n : Name) → is_in n cone ≡ true → is_in n a ≡ true → is_in n against ≡ true)
@@ -107,13 +105,13 @@ pub derived_below : (cone a against : List Name) (kb : Kb) (hs hs' : List Formul
 derived_below cone a against (Classical fs) hs hs' plain bodies more above d (Theory g) is of_f p h =
     (same_consequences g (fs ++ hs') p of_f).1 (follows_from_more (fs ++ hs) (fs ++ hs') p (append_more fs hs hs' more) (subst (λ (e : BeliefSet). Believes e p) is h))
 derived_below cone a against (Classical fs) hs hs' plain bodies more above d (Atoms g) is of_f p h = absurd of_f
-derived_below cone a against (DefaultTheory items) hs hs' plain bodies more above d f is of_f p h = absurd is
 derived_below cone a against (Program rules) hs hs' plain bodies more above d (Theory g) is of_f p h = absurd of_f
 derived_below cone a against (Program rules) hs hs' plain bodies more above d (Atoms g) (c, is, of_c) of_f p h = at p (subst (λ (e : BeliefSet). Believes e p) is h)
   where
     at : (p : Formula) → Believes (Atoms c) p → Believes (Atoms g) p
     at (Atom n) h = bounded_below cone rules (normal_rules rules plain) bodies a against hs hs' more above c g of_c of_f n h
     at p h = absurd h
+derived_below cone a against kb hs hs' plain bodies more above d f is of_f p h = absurd is
 
 pub derived_above : (cone a against : List Name) (kb : Kb) (hs hs' : List Formula) → is_plain kb ≡ true → HasBodies cone kb → ((f : Formula) → IsAmong f hs' → IsAmong f hs)
     → ((n : Name) → is_in n against ≡ true → is_in n a ≡ true)
@@ -121,10 +119,10 @@ pub derived_above : (cone a against : List Name) (kb : Kb) (hs hs' : List Formul
 derived_above cone a against (Classical fs) hs hs' plain bodies more below d (Theory g) is of_f p known h =
     subst (λ (e : BeliefSet). Believes e p) (sym is) (follows_from_more (fs ++ hs') (fs ++ hs) p (append_more fs hs' hs more) ((same_consequences g (fs ++ hs') p of_f).0 h))
 derived_above cone a against (Classical fs) hs hs' plain bodies more below d (Atoms g) is of_f p known h = absurd of_f
-derived_above cone a against (DefaultTheory items) hs hs' plain bodies more below d f is of_f p known h = absurd is
 derived_above cone a against (Program rules) hs hs' plain bodies more below d (Theory g) is of_f p known h = absurd of_f
 derived_above cone a against (Program rules) hs hs' plain bodies more below d (Atoms g) (c, is, of_c) of_f p known h = subst (λ (e : BeliefSet). Believes e p) (sym is) (at p known h)
   where
     at : (p : Formula) → ((n : Name) → p ≡ Atom n → is_in n cone ≡ true) → Believes (Atoms g) p → Believes (Atoms c) p
     at (Atom n) known h = bounded_above cone rules (normal_rules rules plain) bodies a against hs hs' more below c g of_c of_f n (known n refl) h
     at p known h = absurd h
+derived_above cone a against kb hs hs' plain bodies more below d f is of_f p known h = absurd is

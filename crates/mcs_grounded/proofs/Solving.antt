@@ -2,7 +2,8 @@
 use Rattle.std.proofs.Common.{◌≡◌, ℕ, List, ◌++◌, refl, sym, ap, ◌∙◌, subst}
 use Rattle.std.proofs.lemmas.Option.{same_Some}
 use Rattle.std.specs.BTreeMap.{IsEmpty}
-use Rattle.mcs_system.specs.Plain.{Name, Formula, Kb, Classical, Context, System}
+use Rattle.mcs_system.specs.Plain.{Name, Formula, ClassicalKind, Kb, Classical, Context, System}
+use Rattle.mcs_system.specs.Codes.{same_items}
 use Rattle.mcs_system.specs.Atoms.{atoms_of}
 use Rattle.mcs_system.specs.Logic.{Theory, with_heads}
 use Rattle.mcs_system.specs.Systems.{variables_of, heads_into, IsAcceptedPart}
@@ -29,7 +30,7 @@ module _ (m : System) (i : ℕ) (fs : List Formula) (classical : IsClassicalAt m
   same_formulas : (gs : List Formula) → IsClassicalAt m i gs → fs ≡ gs
   same_formulas gs (d, there, kb') = let (c, is, kb) = classical in
       let same : c ≡ d = same_Some c d (sym is ∙ there) in
-      let e : Classical fs ≡ Classical gs = sym kb ∙ ap (λ (e : Context). e.kb) same ∙ kb' in cc
+      same_items ClassicalKind fs gs (sym kb ∙ ap (λ (e : Context). e.kb) same ∙ kb')
 
   -- the clauses of the formulas, and nothing found
   pub solver_made : (s : Solver) (names : List Name) → names ≡ atoms_of m i → s.clauses ≡ clause_list names fs

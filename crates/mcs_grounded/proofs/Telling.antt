@@ -5,7 +5,7 @@ use Rattle.mcs_sets.specs.Sets.{has, common, union, Within}
 use Rattle.mcs_sets.proofs.SetLemmas.{has-empty, has-such_that, has-common}
 use Rattle.mcs_sets.proofs.Lattice.{in_common, in_union, within_antisymmetric, within_union_left, within_union_right}
 use Rattle.mcs_base.proofs.Lists.{slice_get_below}
-use Rattle.mcs_system.specs.Plain.{Name, Kb, Classical, DefaultTheory, Program, Read, System}
+use Rattle.mcs_system.specs.Plain.{Name, Kb, Classical, Program, Read, System}
 use Rattle.mcs_system.specs.Logic.{BeliefSet, Theory, Atoms}
 use Rattle.mcs_system.specs.Imports.{rules_into}
 use Rattle.mcs_system.specs.Systems.{variables, variables_of, is_of_context, applicable, heads_into, IsVariable}
@@ -36,8 +36,8 @@ module _ (m : System) where
 
   derives_own : (i : ℕ) (cone names : List Name) (kb : Kb) (x τ : ℕ) → Derives m i cone names kb x τ → Within τ (variables_of m i)
   derives_own i cone names (Classical fs) x τ d = tells_own i τ (Theory (fs ++ heads_into m i x)) d
-  derives_own i cone names (DefaultTheory items) x τ d = absurd d
   derives_own i cone names (Program rules) x τ (a, answer, tells) = tells_own i τ (Atoms a) tells
+  derives_own i cone names kb x τ d = absurd d
 
   module _ (σ : ℕ) (cones sets : List ℕ) where
     told_own : (x i τ : ℕ) → i < length m.contexts → IsTold m σ cones sets x i τ → Within τ (variables_of m i)

@@ -2,7 +2,7 @@
 use Rattle.std.specs.Prelude.{◌≡◌, ℕ, ◌<◌, IsTrue, ◌↔◌, List, ◌++◌, filter, length, get_or, ◌⊎◌, Some, slice_get}
 use Rattle.std.specs.List.{AllByRecursion, list_any, filter_map}
 use Rattle.mcs_sets.specs.Sets.{has, common, Within}
-use Rattle.mcs_system.specs.Plain.{Name, Atom, ProgramRule, Kb, Classical, DefaultTheory, Program, Context, Read, Bridge, System}
+use Rattle.mcs_system.specs.Plain.{Name, Atom, ProgramRule, Kb, Classical, Program, Context, Read, Bridge, System}
 use Rattle.mcs_system.specs.Atoms.{atoms_of}
 use Rattle.mcs_system.specs.Imports.{rules_into}
 use Rattle.mcs_system.specs.Logic.{is_in, true_names, reduct, fact_of, BeliefSet, Theory, Atoms, Believes, IsAnswerSet}
@@ -32,8 +32,8 @@ Tells m i b τ = (v : ℕ) → IsTrue (has τ v) ↔ ((r : Read) × IsVariable m
 -- what follows with the heads of x; or, of a program, what is in the answer set of the rules for the cone, reduced by the names, with these heads
 abbrev pub Derives : System → ℕ → List Name → List Name → Kb → ℕ → ℕ → Type 0
 Derives m i cone names (Classical formulas) x τ = Tells m i (Theory (formulas ++ heads_into m i x)) τ
-Derives m i cone names (DefaultTheory items) x τ = ⊥
 Derives m i cone names (Program rules) x τ = (a : List Name) × IsAnswerSet (reduct names (rules_for cone rules) ++ filter_map fact_of (heads_into m i x)) a × Tells m i (Atoms a) τ
+Derives m i cone names kb x τ = ⊥
 
 -- the atoms of context i at the places of the i-th of these sets
 abbrev pub atoms_at : System → List ℕ → ℕ → List Name

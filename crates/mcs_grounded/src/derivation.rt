@@ -41,12 +41,12 @@ fn told(
         Kb::Classical(formulas) => {
             ask(alloc, system, context, formulas, &mut found[place], rules)
         }
-        Kb::DefaultTheory(_) => unreachable!(),
         Kb::Program(_) => {
             let start = places_at(&derivation.places.heads, rules.common(into).members());
             let atoms = least_model(&derivation.cones[place].rules, against[place], start);
             Ok(numbers_at(&derivation.places.reads, variables.members(), atoms))
         }
+        _ => unreachable!(),
     }
 }
 

@@ -6,7 +6,7 @@ use Rattle.mcs_base.specs.Words.{most_name_bytes}
 use Rattle.mcs_system.specs.declared.limit.Limit.TheVariants.{FormulaSize}
 use Rattle.mcs_base.proofs.Among.{map_among, among_either, flat_map_among}
 use Rattle.mcs_system.specs.Faults.{IsValid}
-use Rattle.mcs_system.specs.Plain.{Formula, Truth, Falsity, Atom, Not, And, Or, Implies, Iff, Default, Item, Kb, Read, System}
+use Rattle.mcs_system.specs.Plain.{Formula, Truth, Falsity, Atom, Not, Joined, Default, Item, Kind, ClassicalKind, DefaultKind, ItemOf, Kb, Read, System}
 use Rattle.mcs_system.specs.Plain as plain
 use Rattle.mcs_system.proofs.ValidLemmas.{limit_kept}
 use Rattle.mcs_writer.specs.Canonical.{canonical_text}
@@ -18,6 +18,8 @@ use Rattle.mcs_grammar.specs.Written.{Written, WrittenContext, WrittenPlace, Wri
 use Rattle.mcs_writer.proofs.CanonicalGrammar.{canonical-right}
 use Rattle.mcs_writer.proofs.CanonicalSays.{primary-said, canonical-says}
 use Rattle.mcs_writer.proofs.CanonicalWritten.{primary_written, formula_written, with_justs, item_written, kb_written, context_written, read_written, reads_written, bridge_written, canonical_written}
+use Rattle.mcs_account.specs.Items.{formulas_in}
+use Rattle.mcs_writer.proofs.KindItems.{written_in}
 use Rattle.mcs_faults.proofs.FaultlessSizes.{some-large}
 use Rattle.mcs_faults.proofs.FaultlessTexts.{no-faults}
 use Rattle.mcs_grammar.proofs.Spelled.{AreShort, tokens-of-text}
@@ -32,20 +34,11 @@ depth-small Truth = omega arith
 depth-small Falsity = omega arith
 depth-small (Atom n) = omega arith
 depth-small (Not f) = let a = depth-small f in omega arith
-depth-small (And f g) = let a = depth-small f in let b = depth-small g in omega arith
-depth-small (Or f g) = let a = depth-small f in let b = depth-small g in omega arith
-depth-small (Implies f g) = let a = depth-small f in let b = depth-small g in omega arith
-depth-small (Iff f g) = let a = depth-small f in let b = depth-small g in omega arith
+depth-small (Joined c f g) = let a = depth-small f in let b = depth-small g in omega arith
 
 whole-small : (f : Formula) → depth_of (formula_written f) < size_of (formula_written f)
-whole-small Truth = omega arith
-whole-small Falsity = omega arith
-whole-small (Atom n) = omega arith
-whole-small (Not f) = depth-small (Not f)
-whole-small (And f g) = let a = depth-small f in let b = depth-small g in omega arith
-whole-small (Or f g) = let a = depth-small f in let b = depth-small g in omega arith
-whole-small (Implies f g) = let a = depth-small f in let b = depth-small g in omega arith
-whole-small (Iff f g) = let a = depth-small f in let b = depth-small g in omega arith
+whole-small (Joined c f g) = let a = depth-small f in let b = depth-small g in omega arith
+whole-small f = depth-small f
 
 -- ---- each formula that is written is written of a formula
 abbrev IsWhole : Written → Type 0
@@ -73,13 +66,17 @@ whole-item (plain.Fact f) w (inl e) = (f, e)
 whole-item (plain.Fact f) w (inr none) = absurd none
 whole-item (plain.Rule d) w h = whole-justs d d.justs w h
 
+-- a line a kind
+whole-in : (k : Kind) (i : ItemOf k) (w : Written) → IsAmong w (formulas_in k (written_in k i)) → IsWhole w
+whole-in ClassicalKind f w h = whole-item (plain.Fact f) w h
+whole-in DefaultKind i w h = whole-item i w h
+whole-in k i w h = absurd h
+
 whole-kb : (kb : Kb) (w : Written) → IsAmong w (kb_formulas (kb_written kb)) → IsWhole w
-whole-kb (plain.Classical formulas) w h = whole-of formulas w h
-whole-kb (plain.DefaultTheory items) w h =
-    let (x, there, among) = flat_map_among item_formulas w (map item_written items) h in
-    let (i, inside, is) = map_among item_written x items there in
-    whole-item i w (subst (λ y. IsAmong w (item_formulas y)) is among)
-whole-kb (plain.Program rules) w h = absurd h
+whole-kb (plain.OfKind k items) w h =
+    let (x, there, among) = flat_map_among (formulas_in k) w (map (written_in k) items) h in
+    let (i, inside, is) = map_among (written_in k) x items there in
+    whole-in k i w (subst (λ y. IsAmong w (formulas_in k y)) is among)
 
 -- and each belief as a primary
 abbrev IsPrimary : Written → Type 0

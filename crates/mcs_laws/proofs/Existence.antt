@@ -7,7 +7,7 @@ use Rattle.mcs_sets.specs.Orders.{StateBefore}
 use Rattle.mcs_sets.proofs.SetLemmas.{same_set}
 use Rattle.mcs_base.specs.Listings.{IsListing, IsAmong}
 use Rattle.mcs_base.proofs.ListingLemmas.{states_of_test, IsListing-same, all_among}
-use Rattle.mcs_system.specs.Plain.{Formula, Kb, Classical, DefaultTheory, Program, Context, System}
+use Rattle.mcs_system.specs.Plain.{Formula, Kb, Classical, Context, System}
 use Rattle.mcs_system.specs.Logic.{IsClassical}
 use Rattle.mcs_system.specs.Systems.{variables, variables_of, all_rules, heads_into, acting_at, Follows, IsProjectedEquilibrium, IsAcceptedPart, IsConsistent}
 use Rattle.mcs_laws.specs.Laws.{ClassicalStatesHaveAListing, ConsistencyIsListed}
@@ -47,8 +47,7 @@ states_listed m r1 r2 decides =
 -- ---- classical contexts
 classical_formulas : (k : Kb) → IsClassical k → (fs : List Formula) × (k ≡ Classical fs)
 classical_formulas (Classical fs) h = (fs, refl)
-classical_formulas (DefaultTheory items) h = absurd h
-classical_formulas (Program rules) h = absurd h
+classical_formulas kb h = absurd h
 
 pub classical_decided : (m : System) → AllByRecursion (λ (c : Context). IsClassical c.kb) m.contexts → DecidesParts m
 unfolding DecidesParts

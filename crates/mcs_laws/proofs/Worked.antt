@@ -2,7 +2,7 @@
 use Rattle.std.proofs.Common.{◌≡◌, Bool, true, false, not, ◌&&◌, ◌||◌, cond, List, [], ◌∷◌, codes, refl, sym, ap, ◌∙◌, subst, true≢false}
 use Rattle.std.proofs.lemmas.Bool.{and_parts, not_from_true, not_from_false}
 use Rattle.std.specs.List.{list_all}
-use Rattle.mcs_system.specs.Plain.{Name, Truth, Falsity, Atom, Not, And, Or, Implies, Iff, ProgramRule}
+use Rattle.mcs_system.specs.Plain.{Name, Truth, Falsity, Atom, Not, Joined, ProgramRule}
 use Rattle.mcs_system.specs.Logic.{same_name, is_in, holds, Entails, Theory, Atoms, satisfies, reduct, IsAnswerSet}
 use Rattle.mcs_base.proofs.Deciding.{only_test, test_with_implied}
 use Rattle.mcs_system.proofs.Sameness.{same_name-is}
@@ -165,10 +165,7 @@ programs_believe_atoms names Truth = (λ h. absurd h, λ (n, is, inside). cc)
 programs_believe_atoms names Falsity = (λ h. absurd h, λ (n, is, inside). cc)
 programs_believe_atoms names (Atom k) = (λ h. (k, refl, h), λ (n, is, inside). let same : n ≡ k = cc in subst (λ (x : Name). is_in x names ≡ true) same inside)
 programs_believe_atoms names (Not f) = (λ h. absurd h, λ (n, is, inside). cc)
-programs_believe_atoms names (And f g) = (λ h. absurd h, λ (n, is, inside). cc)
-programs_believe_atoms names (Or f g) = (λ h. absurd h, λ (n, is, inside). cc)
-programs_believe_atoms names (Implies f g) = (λ h. absurd h, λ (n, is, inside). cc)
-programs_believe_atoms names (Iff f g) = (λ h. absurd h, λ (n, is, inside). cc)
+programs_believe_atoms names (Joined c f g) = (λ h. absurd h, λ (n, is, inside). cc)
 
 pub kinds_accept_their_sort : KindsAcceptTheirSort
 kinds_accept_their_sort = (λ fs ns h. h, λ is ns h. h, λ rs fs h. h)

@@ -9,7 +9,7 @@ use Rattle.std.proofs.Math.IntN.{neg_ℤ-neg_ℤ}
 use Rattle.std.specs.Int.RustNames.{unsigned_abs}
 use Rattle.mcs_base.proofs.Numbers.{unsigned_abs-neg_ℤ}
 use Rattle.mcs_system.specs.Denials.{denied}
-use Rattle.mcs_system.specs.Plain.{Name, Formula, Truth, Falsity, Atom, Not, And, Or, Implies, Iff}
+use Rattle.mcs_system.specs.Plain.{Name, Formula, Truth, Falsity, Atom, Not, Joined}
 use Rattle.mcs_system.specs.Logic.{is_in, holds, both_or_neither}
 use Rattle.mcs_trace.specs.Clauses.{ClauseList, IsLiteral, IsClauseList, literal_holds, clause_holds, all_hold}
 use Rattle.mcs_trace.proofs.OrderLemmas.{read_literal}
@@ -145,10 +145,7 @@ module _ (names : List Name) where
   turned_literal Falsity old new l is = is
   turned_literal (Atom n) old new l is = is
   turned_literal (Not f) old new l is = subst (IsLiteralOf names (Not f) old new) (turned_more f l) (not_literal f old new (turned_by f l) (turned_literal f old new l is))
-  turned_literal (And f g) old new l is = is
-  turned_literal (Or f g) old new l is = is
-  turned_literal (Implies f g) old new l is = is
-  turned_literal (Iff f g) old new l is = is
+  turned_literal (Joined c f g) old new l is = is
 
   -- of a formula whose first denials deny another one
   pub denial_literal : (f g core : Formula) (old new : ClauseList) (l m : ℤ) → f ≡ Not g → core ≡ denied g → IsLiteralOf names core old new l → m ≡ turned_by f (to_z w64 (of_z w64 l)) → IsLiteralOf names f old new m

@@ -1,7 +1,8 @@
 -- Literals that stand for formulas. A denial has the opposite literal of what it denies.
 use Rattle.std.specs.Prelude.{◌≡◌, ℕ, ◌+◌, ◌≤◌, Bool, false, cond, not, ◌&&◌, ◌||◌, IsTrue, List, ℤ, neg_ℤ}
 use Rattle.std.specs.Int.RustNames.{unsigned_abs}
-use Rattle.mcs_system.specs.Plain.{Name, Formula, Truth, Falsity, Atom, Not, And, Or, Implies, Iff}
+use Rattle.mcs_system.specs.Plain.{Name, Formula, Truth, Falsity, Atom, Not, Joined}
+use Rattle.mcs_system.specs.Trees.{joined_value}
 use Rattle.mcs_system.specs.Logic.{holds, both_or_neither}
 use Rattle.mcs_trace.specs.Clauses.{ClauseList, IsLiteral, IsClauseList, literal_holds, all_hold}
 use Rattle.mcs_cnf.specs.ClauseLists.{IsThere}
@@ -14,10 +15,7 @@ is_turned Truth = false
 is_turned Falsity = false
 is_turned (Atom n) = false
 is_turned (Not f) = not (is_turned f)
-is_turned (And f g) = false
-is_turned (Or f g) = false
-is_turned (Implies f g) = false
-is_turned (Iff f g) = false
+is_turned (Joined c f g) = false
 
 -- the literal of a formula, from that of what its first denials deny
 abbrev pub turned_by : Formula → ℤ → ℤ
@@ -25,14 +23,8 @@ turned_by f l = cond (is_turned f) (neg_ℤ l) l
 
 -- what a formula of two parts makes of their values
 abbrev pub sign_of : Formula → Bool → Bool → Bool
-sign_of Truth p q = p && q
-sign_of Falsity p q = p && q
-sign_of (Atom n) p q = p && q
-sign_of (Not f) p q = p && q
-sign_of (And f g) p q = p && q
-sign_of (Or f g) p q = p || q
-sign_of (Implies f g) p q = not p || q
-sign_of (Iff f g) p q = both_or_neither p q
+sign_of (Joined c f g) p q = joined_value c p q
+sign_of f p q = p && q
 
 -- one variable more, and clauses that say that its literal is true exactly where the test is
 pub record IsGate (test : (ℕ → Bool) → Bool) (old new : ClauseList) (l : ℤ) : Type 0 where

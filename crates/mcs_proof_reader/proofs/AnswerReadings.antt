@@ -10,29 +10,33 @@ use Rattle.mcs_sets.specs.Orders.{StateBefore}
 use Rattle.mcs_base.specs.Listings.{IsAscending}
 use Rattle.mcs_system.specs.Plain.{Name, Formula, ProgramRule, Item, Kb, Classical, DefaultTheory, Program, Context, System}
 use Rattle.mcs_system.specs.Naming.{IsSystemNamed}
-use Rattle.mcs_system.specs.Faults.{IsValid, default_count}
+use Rattle.mcs_system.specs.Faults.{IsValid}
 use Rattle.mcs_system.specs.Atoms.{atoms_of}
 use Rattle.mcs_system.specs.Systems.{variables_of}
-use Rattle.mcs_system.proofs.ValidLemmas.{few_atoms, few_defaults}
+use Rattle.mcs_system.proofs.ValidLemmas.{few_atoms}
 use Rattle.mcs_cnf.specs.Entailments.{Entailment}
 use Rattle.mcs_evidence.specs.Defaults.{Verdict, defaults_of}
 use Rattle.mcs_evidence.specs.Programs.{ModelShown, ProgramShown}
-use Rattle.mcs_asking.specs.Certificates.{OfFormulas, OfDefaults, OfProgram}
+use Rattle.mcs_asking.specs.Certificates.{Certificate, OfFormulas, OfDefaults, OfProgram}
+use Rattle.mcs_asking.specs.Kinds.{part_count}
+use Rattle.mcs_asking.proofs.KindItems.{few_parts}
 use Rattle.mcs_asking.proofs.KindLemmas.{defaults_counted}
 use Rattle.mcs_spelling.specs.Words.{after_prefix, step_of, guarded}
 use Rattle.mcs_spelling.specs.Parts.{AreTellable}
 use Rattle.mcs_proof_text.specs.Lines.{SmallerLine, NoneLine, line_text, question_text, output_text}
 use Rattle.mcs_proof_text.specs.Answers.{Answer, trace_lines, model_lines, all_entailment_lines, set_lines, program_lines, certificate_lines, answer_lines}
-use Rattle.mcs_proof_text.specs.Shapes.{IsEither, AreMany, AreVerdicts, IsCertificate, IsInShape}
+use Rattle.mcs_proof_text.specs.Answers.{IsInShape}
+use Rattle.mcs_proof_text.specs.Kinds.{IsCertificate, terms_with}
+use Rattle.mcs_proof_text.specs.Shapes.{IsEither, AreMany, AreVerdicts}
 use Rattle.mcs_proof_lines.specs.Walks.{At, Reading, ◌>>=◌, taken_at, advanced, fault_at, mapped_reading, many_at, entailment_at, expect_at}
-use Rattle.mcs_proof_lines.specs.Verdicts.{verdicts_at}
+use Rattle.mcs_proof_lines.specs.Verdicts.{Terms, verdicts_at}
 use Rattle.mcs_proof_lines.specs.Programs.{program_at}
 use Rattle.mcs_proof_lines.specs.Readings.{here, Stops, Anything, ReadsLines, ReadsLine, one_line, Image, AreBoth, both_lines, word_of, IsLineOfOtherKind, IsPassing}
 use Rattle.mcs_proof_lines.proofs.Readings.{picked, reads_line, reads_same}
 use Rattle.mcs_proof_lines.proofs.ReadingSequences.{both, reads_made, reads_both}
 use Rattle.mcs_proof_lines.proofs.WordReadings.{word_line}
-use Rattle.mcs_proof_reader.specs.Questions.{state_after, comes_after, next_question, state_in_words}
-use Rattle.mcs_proof_reader.specs.Answers.{Shown, terms_for, states_there, classical_at, default_at, models_at, shown_at, shown_of, answer_at, question_in}
+use Rattle.mcs_proof_reader.specs.Questions.{ten, state_after, comes_after, next_question, state_in_words}
+use Rattle.mcs_proof_reader.specs.Answers.{Shown, states_there, state_at, with_certificate, shown_at, shown_of, answer_at, question_in}
 use Rattle.mcs_proof_reader.proofs.EvidenceReadings.{told, reads_either, either_begins, reads_several, some_either}
 use Rattle.mcs_proof_lines.proofs.Justs.{justs_in}
 use Rattle.mcs_proof_reader.proofs.AbsenceReadings.{made_paired}
@@ -60,6 +64,15 @@ module _ {A : Type 0} (word : List ℕ) (x : A) where
 
 done_line : ReadsLine (λ (u : Unit {0}). Unit {0}) (λ u. codes "done") (word_of (codes "done"))
 done_line = word_line (codes "done")
+
+-- ---- a certificate of a kind
+of_kind : {A : Type 0} (outputs : List ℕ) (of : A → Certificate) (r : Reading A) → mapped_reading {B = Shown} (λ (a : A). (outputs, of a)) r ≡ mapped_reading {B = Shown} (λ (cert : Certificate). (outputs, cert)) (mapped_reading of r)
+of_kind outputs of (Ok a) = refl
+of_kind outputs of (Err n) = refl
+
+-- what the lines of a default theory's certificate may name
+abbrev terms_for : System → ℕ → List Item → Terms
+terms_for m i items = terms_with (atoms_of m i) ten items (size (variables_of m i))
 
 -- ---- what a context is said to put out
 abbrev pub shown_lines : System → ℕ → Shown → List (List ℕ)
@@ -94,11 +107,14 @@ module _ (m : System) (valid : IsValid m) (named : IsSystemNamed m) (i : ℕ) (l
   some_several : (es : List Entailment) × AreMany (IsEither names) beliefs es
   some_several = some_many (IsEither names) (some_either names few tells) beliefs
 
-  classical_same : (at : At) → mapped_reading as_classical (both (λ σ. many_at (entailment_at names) beliefs) (picked (state_in_words m own None) at)) ≡ classical_at m i at
-  unfolding classical_at
-  classical_same at = chained as_classical (λ σ. many_at (entailment_at names) beliefs) (picked (state_in_words m own None) at)
-
   module _ (fs : List Formula) where
+    classical_same : (at : At) → mapped_reading as_classical (both (λ σ. many_at (entailment_at names) beliefs) (picked (state_in_words m own None) at)) ≡ shown_at m i (Classical fs) at
+    classical_same at = chained as_classical (λ σ. many_at (entailment_at names) beliefs) (picked (state_in_words m own None) at) ∙ by_state (state_at m i at)
+      where
+        by_state : (r : Reading ℕ) → (r >>= λ state. mapped_reading {B = Shown} (λ (es : List Entailment). (state.0 ∷ [], OfFormulas es)) (many_at (entailment_at names) beliefs state.1)) ≡ (mapped_reading (λ (state : ℕ). state ∷ []) r >>= with_certificate m i (Classical fs))
+        by_state (Ok state) = of_kind (state.0 ∷ []) OfFormulas (many_at (entailment_at names) beliefs state.1)
+        by_state (Err n) = refl
+
     to_classical : (s : Shown) → Image as_classical (AreBoth (IsPassing (λ σ. Within σ own) (state_after None)) (λ σ. AreMany (IsEither names) beliefs)) s → IsShownFor m i (Classical fs) s
     to_classical s (se, is, known) = subst (IsShownFor m i (Classical fs)) (sym is) (((known.0.0, tt), (tt, tt)), (refl, known.1))
 
@@ -109,15 +125,14 @@ module _ (m : System) (valid : IsValid m) (named : IsSystemNamed m) (i : ℕ) (l
         single [] within one = absurd (omega (arith, one))
         single (σ ∷ []) within one = ((σ, es), refl, ((within.0, refl), are))
         single (σ ∷ (τ ∷ σs)) within one = absurd (omega (arith, one))
-    from_classical (outputs, OfDefaults vs) (states, cert) = absurd cert
-    from_classical (outputs, OfProgram p) (states, cert) = absurd cert
+    from_classical (outputs, cert) (states, shape) = absurd shape
 
-    reads_classical : ReadsLines (IsShownFor m i (Classical fs)) (shown_lines m i) Stops (classical_at m i)
+    reads_classical : ReadsLines (IsShownFor m i (Classical fs)) (shown_lines m i) Stops (shown_at m i (Classical fs))
     reads_classical =
         let line = reads_line (IsPassing (λ σ. Within σ own) (state_after None)) (output_text m) (state_in_words m own None) (state_line m valid named i None) in
         let pair = reads_both (IsPassing (λ σ. Within σ own) (state_after None)) _ Anything (picked (state_in_words m own None)) (λ σ. AreMany (IsEither names) beliefs) (λ σ. told names all_entailment_lines) Stops (λ σ. many_at (entailment_at names) beliefs) line (λ σ is. several) (λ σ is. some_several) (λ σ es more is are end. tt) in
         let made_of = reads_made _ _ Stops _ as_classical (shown_lines m i) pair (λ se is. refl) in
-        reads_same _ (IsShownFor m i (Classical fs)) _ (shown_lines m i) Stops _ (classical_at m i) made_of to_classical from_classical (λ s is. refl) classical_same
+        reads_same _ (IsShownFor m i (Classical fs)) _ (shown_lines m i) Stops _ (shown_at m i (Classical fs)) made_of to_classical from_classical (λ s is. refl) classical_same
 
   -- defaults
   module _ (items : List Item) (few_rules : length (map justs_in (defaults_of items)) ≤ 10) where
@@ -127,9 +142,9 @@ module _ (m : System) (valid : IsValid m) (named : IsSystemNamed m) (i : ℕ) (l
     abbrev AreSets : List Verdict → Type 0
     AreSets = AreVerdicts names items beliefs
 
-    default_same : (at : At) → mapped_reading as_default (both (λ ss. verdicts_at (terms_for m i items)) (read_states m valid named i at)) ≡ default_at m i items at
-    unfolding default_at
+    default_same : (at : At) → mapped_reading as_default (both (λ ss. verdicts_at (terms_for m i items)) (read_states m valid named i at)) ≡ shown_at m i (DefaultTheory items) at
     default_same at = made_paired as_default (states_there m i at).0 (verdicts_at (terms_for m i items) (states_there m i at).1)
+        ∙ of_kind (states_there m i at).0 OfDefaults (verdicts_at (terms_for m i items) (states_there m i at).1)
 
     sets_other : (vs : List Verdict) (more : List (List ℕ)) → AreSets vs → IsLineOfOtherKind (after_prefix (codes "state ")) (told names (set_lines 0) vs ++ more)
     unfolding line_text after_prefix
@@ -141,15 +156,14 @@ module _ (m : System) (valid : IsValid m) (named : IsSystemNamed m) (i : ℕ) (l
 
     from_default : (s : Shown) → IsShownFor m i (DefaultTheory items) s → Image as_default (AreBoth (AreStatesAfter m i None) (λ ss. AreSets)) s
     from_default (outputs, OfDefaults vs) (states, are) = ((outputs, vs), refl, (states_are m i outputs states.0 states.1, are))
-    from_default (outputs, OfFormulas es) (states, cert) = absurd cert
-    from_default (outputs, OfProgram p) (states, cert) = absurd cert
+    from_default (outputs, cert) (states, shape) = absurd shape
 
-    reads_default : ReadsLines (IsShownFor m i (DefaultTheory items)) (shown_lines m i) Stops (default_at m i items)
+    reads_default : ReadsLines (IsShownFor m i (DefaultTheory items)) (shown_lines m i) Stops (shown_at m i (DefaultTheory items))
     reads_default =
         let pair = reads_both (AreStatesAfter m i None) _ (IsLineOfOtherKind (after_prefix (codes "state "))) (read_states m valid named i) (λ ss. AreSets) (λ ss. told names (set_lines 0)) Stops (λ ss. verdicts_at (terms_for m i items)) (reads_states m valid named i)
         (λ ss is. reads_verdicts names few tells items (map justs_in (defaults_of items)) refl few_rules beliefs) (λ ss is. some_verdicts names few tells items (map justs_in (defaults_of items)) refl few_rules beliefs) (λ ss vs more is are end. sets_other vs more are) in
         let made_of = reads_made _ _ Stops _ as_default (shown_lines m i) pair (λ sv is. refl) in
-        reads_same _ (IsShownFor m i (DefaultTheory items)) _ (shown_lines m i) Stops _ (default_at m i items) made_of to_default from_default (λ s is. refl) default_same
+        reads_same _ (IsShownFor m i (DefaultTheory items)) _ (shown_lines m i) Stops _ (shown_at m i (DefaultTheory items)) made_of to_default from_default (λ s is. refl) default_same
 
   -- programs
   module _ (rules : List ProgramRule) where
@@ -159,9 +173,9 @@ module _ (m : System) (valid : IsValid m) (named : IsSystemNamed m) (i : ℕ) (l
     abbrev IsOf : List ℕ → ProgramShown → Type 0
     IsOf ss = IsProgramOf names few tells (length ss)
 
-    models_same : (at : At) → mapped_reading as_models (both (λ ss. program_at names (length ss)) (read_states m valid named i at)) ≡ models_at m i at
-    unfolding models_at
+    models_same : (at : At) → mapped_reading as_models (both (λ ss. program_at names (length ss)) (read_states m valid named i at)) ≡ shown_at m i (Program rules) at
     models_same at = made_paired as_models (states_there m i at).0 (program_at names (length (states_there m i at).0) (states_there m i at).1)
+        ∙ of_kind (states_there m i at).0 OfProgram (program_at names (length (states_there m i at).0) (states_there m i at).1)
 
     program_other : (ss : List ℕ) (p : ProgramShown) (more : List (List ℕ)) → IsLineOfOtherKind (after_prefix (codes "state ")) (told names program_lines p ++ more)
     unfolding line_text after_prefix
@@ -178,29 +192,28 @@ module _ (m : System) (valid : IsValid m) (named : IsSystemNamed m) (i : ℕ) (l
 
     from_models : (s : Shown) → IsShownFor m i (Program rules) s → Image as_models (AreBoth (AreStatesAfter m i None) IsOf) s
     from_models (outputs, OfProgram p) (states, are) = ((outputs, p), refl, (states_are m i outputs states.0 states.1, record { one_each = are.one_each; models = are.models; smaller = are.smaller; rest = are.rest }))
-    from_models (outputs, OfFormulas es) (states, cert) = absurd cert
-    from_models (outputs, OfDefaults vs) (states, cert) = absurd cert
+    from_models (outputs, cert) (states, shape) = absurd shape
 
-    reads_models : ReadsLines (IsShownFor m i (Program rules)) (shown_lines m i) Stops (models_at m i)
+    reads_models : ReadsLines (IsShownFor m i (Program rules)) (shown_lines m i) Stops (shown_at m i (Program rules))
     reads_models =
         let pair = reads_both (AreStatesAfter m i None) _ (IsLineOfOtherKind (after_prefix (codes "state "))) (read_states m valid named i) IsOf (λ ss. told names program_lines) Stops (λ ss. program_at names (length ss)) (reads_states m valid named i)
         (λ ss is. reads_program names few tells (length ss)) (λ ss is. some_program names few tells (length ss)) (λ ss p more is are end. program_other ss p more) in
         let made_of = reads_made _ _ Stops _ as_models (shown_lines m i) pair (λ sp is. refl) in
-        reads_same _ (IsShownFor m i (Program rules)) _ (shown_lines m i) Stops _ (models_at m i) made_of to_models from_models (λ s is. refl) models_same
+        reads_same _ (IsShownFor m i (Program rules)) _ (shown_lines m i) Stops _ (shown_at m i (Program rules)) made_of to_models from_models (λ s is. refl) models_same
 
   -- by the context's kind
-  reads_kind : (kb : Kb) → default_count kb ≤ 10 → ReadsLines (IsShownFor m i kb) (shown_lines m i) Stops (shown_at m i kb)
-  reads_kind (Classical fs) few_defaults = reads_classical fs
-  reads_kind (DefaultTheory items) few_defaults = reads_default items (let c = defaults_counted items in let long = length-map (defaults_of items) justs_in in omega (arith, few_defaults, c, long))
-  reads_kind (Program rules) few_defaults = reads_models rules
+  reads_kind : (kb : Kb) → part_count kb ≤ 10 → ReadsLines (IsShownFor m i kb) (shown_lines m i) Stops (shown_at m i kb)
+  reads_kind (Classical fs) few_parts = reads_classical fs
+  reads_kind (DefaultTheory items) few_parts = reads_default items (let c = defaults_counted items in let long = length-map (defaults_of items) justs_in in omega (arith, few_parts, c, long))
+  reads_kind (Program rules) few_parts = reads_models rules
 
-  some_kind : (kb : Kb) → default_count kb ≤ 10 → (s : Shown) × IsShownFor m i kb s
-  some_kind (Classical fs) few_defaults = (as_classical (0, some_several.0), ((((λ k member. absurd (no_member_of_none 0 refl k member)), tt), (tt, tt)), (refl, some_several.1)))
-  some_kind (DefaultTheory items) few_defaults =
-      let few_rules : length (map justs_in (defaults_of items)) ≤ 10 = (let c = defaults_counted items in let long = length-map (defaults_of items) justs_in in omega (arith, few_defaults, c, long)) in
+  some_kind : (kb : Kb) → part_count kb ≤ 10 → (s : Shown) × IsShownFor m i kb s
+  some_kind (Classical fs) few_parts = (as_classical (0, some_several.0), ((((λ k member. absurd (no_member_of_none 0 refl k member)), tt), (tt, tt)), (refl, some_several.1)))
+  some_kind (DefaultTheory items) few_parts =
+      let few_rules : length (map justs_in (defaults_of items)) ≤ 10 = (let c = defaults_counted items in let long = length-map (defaults_of items) justs_in in omega (arith, few_parts, c, long)) in
       let (vs, are) = some_verdicts names few tells items (map justs_in (defaults_of items)) refl few_rules beliefs in
       (([], OfDefaults vs), ((tt, tt), are))
-  some_kind (Program rules) few_defaults =
+  some_kind (Program rules) few_parts =
       let (p, is) = some_program names few tells 0 in
       (([], OfProgram p), ((tt, tt), record { one_each = is.one_each; models = is.models; smaller = is.smaller; rest = is.rest }))
 
@@ -229,7 +242,7 @@ module _ (m : System) (valid : IsValid m) (named : IsSystemNamed m) (last : Opti
       let c = is.0.0.0 in
       let there : slice_get m.contexts q.0 ≡ Some c = is.0.0.1 in
       let less = slice_get_within m.contexts q.0 c there in
-      reads_same (IsShownFor m q.0 c.kb) (IsShownOf q) (shown_lines m q.0) (shown_lines m q.0) Stops (shown_at m q.0 c.kb) (read_shown q) (reads_kind m valid named q.0 less c.kb (few_defaults m valid q.0 c there))
+      reads_same (IsShownFor m q.0 c.kb) (IsShownOf q) (shown_lines m q.0) (shown_lines m q.0) Stops (shown_at m q.0 c.kb) (read_shown q) (reads_kind m valid named q.0 less c.kb (few_parts m valid q.0 c there))
       (λ s shown. (c, there, shown)) (λ s (d, is', shown). subst (λ (k : Context). IsShownFor m q.0 k.kb s) (one_context q d c is' there) shown) (λ s shown. refl) (λ at. ap (λ (o : Option Context). shown_of m q.0 o at) (sym there))
 
   some_shown : (q : Question) → IsNext q → (s : Shown) × IsShownOf q s
@@ -237,7 +250,7 @@ module _ (m : System) (valid : IsValid m) (named : IsSystemNamed m) (last : Opti
       let c = is.0.0.0 in
       let there : slice_get m.contexts q.0 ≡ Some c = is.0.0.1 in
       let less = slice_get_within m.contexts q.0 c there in
-      let (s, shown) = some_kind m valid named q.0 less c.kb (few_defaults m valid q.0 c there) in
+      let (s, shown) = some_kind m valid named q.0 less c.kb (few_parts m valid q.0 c there) in
       (s, (c, there, shown))
 
   abbrev Rest : Type 0

@@ -10,9 +10,9 @@ use Rattle.std.specs.Str.{bytes_eq}
 use Rattle.mcs_base.specs.Words.{is_word_byte, is_word, is_reserved, most_name_bytes}
 use Rattle.mcs_base.specs.declared.keyword.Keyword.TheVariants as keywords
 use Rattle.mcs_base.proofs.WordLemmas.{EndsWord, keyword_word, name_is_word}
-use Rattle.mcs_system.specs.Plain.{Name, Formula, Truth, Falsity, Atom, Not, And, Or, Implies, Iff}
+use Rattle.mcs_system.specs.Plain.{Name, Formula, Truth, Falsity, Atom, Not, Joined, Connective, Conjunction, Disjunction, Implication, Equivalence}
 use Rattle.mcs_system.specs.Naming.{IsName, IsNamedFormula}
-use Rattle.mcs_system.specs.Texts.{primary, in_parentheses}
+use Rattle.mcs_system.specs.Texts.{connective_sign, primary, in_parentheses}
 use Rattle.mcs_spelling.specs.Words.{after_prefix}
 use Rattle.mcs_spelling.proofs.LiteralTexts.{after_front}
 use Rattle.mcs_proof_text.proofs.PlainTexts.{all_word}
@@ -56,14 +56,14 @@ other_word k n reserved named = false_from_ne_true (bytes_eq n k) (λ e.
 
 -- ---- signs
 abbrev Sign : Type 0
-Sign = (Formula → Formula → Formula) × List ℕ
+Sign = Connective × List ℕ
 
-abbrev or_else : Option (List ℕ) → (Formula → Formula → Formula) → Option Sign → Option Sign
-or_else None sign other = other
-or_else (Some rest) sign other = Some (sign, rest)
+abbrev or_else : Option (List ℕ) → Connective → Option Sign → Option Sign
+or_else None c other = other
+or_else (Some rest) c other = Some (c, rest)
 
 abbrev sign_in : List ℕ → Option Sign
-sign_in bytes = or_else (after_prefix (codes " & ") bytes) And (or_else (after_prefix (codes " | ") bytes) Or (or_else (after_prefix (codes " -> ") bytes) Implies (or_else (after_prefix (codes " <-> ") bytes) Iff None)))
+sign_in bytes = or_else (after_prefix (codes " & ") bytes) Conjunction (or_else (after_prefix (codes " | ") bytes) Disjunction (or_else (after_prefix (codes " -> ") bytes) Implication (or_else (after_prefix (codes " <-> ") bytes) Equivalence None)))
 
 -- ---- formulas
 abbrev Found : Type 0
@@ -72,8 +72,8 @@ Found = Option (Formula × List ℕ)
 abbrev negated : Formula × List ℕ → Formula × List ℕ
 negated fr = (Not fr.0, fr.1)
 
-abbrev closed : (Formula → Formula → Formula) → Formula → Formula × List ℕ → Found
-closed sign f gr = option_map (λ rest. (sign f gr.0, rest)) (after_prefix (codes ")") gr.1)
+abbrev closed : Connective → Formula → Formula × List ℕ → Found
+closed c f gr = option_map (λ rest. (Joined c f gr.0, rest)) (after_prefix (codes ")") gr.1)
 
 abbrev signed : (List ℕ → Found) → Formula → Sign → Found
 signed p f s = option_and_then (closed s.0 f) (p s.1)
@@ -94,20 +94,14 @@ depth Truth = 1
 depth Falsity = 1
 depth (Atom n) = 1
 depth (Not f) = depth f + 1
-depth (And f g) = depth f + depth g + 1
-depth (Or f g) = depth f + depth g + 1
-depth (Implies f g) = depth f + depth g + 1
-depth (Iff f g) = depth f + depth g + 1
+depth (Joined c f g) = depth f + depth g + 1
 
 some_depth : (f : Formula) → 0 < depth f
 some_depth Truth = omega arith
 some_depth Falsity = omega arith
 some_depth (Atom n) = omega arith
 some_depth (Not f) = omega arith
-some_depth (And f g) = omega arith
-some_depth (Or f g) = omega arith
-some_depth (Implies f g) = omega arith
-some_depth (Iff f g) = omega arith
+some_depth (Joined c f g) = omega arith
 
 no_mark : (b m : ℕ) → is_word_byte b ≡ true → is_word_byte m ≡ false → nat_eq b m ≡ false
 no_mark b m word plain = false_from_ne_true (nat_eq b m) (λ e. (let same : b ≡ m = grind (arith, nat_tests) in true≢false (sym word ∙ (ap is_word_byte same ∙ plain))))
@@ -140,55 +134,38 @@ regroup p sign q r =
 abbrev IsFound : Formula → Type 0
 IsFound f = (n : ℕ) (r : List ℕ) → depth f ≤ n → IsNamedFormula f → EndsWord r → formula_in n (primary f ++ r) ≡ Some (f, r)
 
-pair_found : (sign : Formula → Formula → Formula) (s : List ℕ) (f g : Formula) (n : ℕ) (r : List ℕ) → EndsWord (s ++ (primary g ++ (41 ∷ r))) → ((x : List ℕ) → sign_in (s ++ x) ≡ Some (sign, x))
+pair_found : (c : Connective) (s : List ℕ) (f g : Formula) (n : ℕ) (r : List ℕ) → EndsWord (s ++ (primary g ++ (41 ∷ r))) → ((x : List ℕ) → sign_in (s ++ x) ≡ Some (c, x))
     → formula_in n (primary f ++ (s ++ (primary g ++ (41 ∷ r)))) ≡ Some (f, s ++ (primary g ++ (41 ∷ r))) → formula_in n (primary g ++ (41 ∷ r)) ≡ Some (g, 41 ∷ r)
-    → formula_in (suc n) (in_parentheses (primary f) s (primary g) ++ r) ≡ Some (sign f g, r)
-pair_found sign s f g n r ends signs left right =
+    → formula_in (suc n) (in_parentheses (primary f) s (primary g) ++ r) ≡ Some (Joined c f g, r)
+pair_found c s f g n r ends signs left right =
     let rest = s ++ (primary g ++ (41 ∷ r)) in
     ap (formula_in (suc n)) (regroup (primary f) s (primary g) r)
     ∙ (ap (option_and_then (two (formula_in n))) left
     ∙ (ap (option_and_then (signed (formula_in n) f)) (signs (primary g ++ (41 ∷ r)))
-    ∙ (ap (option_and_then (closed sign f)) right ∙ ap (option_map (λ rest. (sign f g, rest))) (after_front (codes ")") r))))
+    ∙ (ap (option_and_then (closed c f)) right ∙ ap (option_map (λ rest. (Joined c f g, rest))) (after_front (codes ")") r))))
 
 not_found : (f : Formula) → IsFound f → IsFound (Not f)
 not_found f again zero r deep named ends = absurd (omega (arith, deep))
 not_found f again (suc n) r deep named ends = ap (option_map negated) (again n r (omega (arith, deep)) named ends)
 
-and_sign : (x : List ℕ) → sign_in (codes " & " ++ x) ≡ Some (And, x)
+sign_read : (c : Connective) (x : List ℕ) → sign_in (connective_sign c ++ x) ≡ Some (c, x)
 unfolding after_prefix
-and_sign x = ap (λ (o : Option (List ℕ)). or_else o And (or_else (after_prefix (codes " | ") (codes " & " ++ x)) Or (or_else (after_prefix (codes " -> ") (codes " & " ++ x)) Implies (or_else (after_prefix (codes " <-> ") (codes " & " ++ x)) Iff None)))) (after_front (codes " & ") x)
+sign_read Conjunction x = ap (λ (o : Option (List ℕ)). or_else o Conjunction (or_else (after_prefix (codes " | ") (codes " & " ++ x)) Disjunction (or_else (after_prefix (codes " -> ") (codes " & " ++ x)) Implication (or_else (after_prefix (codes " <-> ") (codes " & " ++ x)) Equivalence None)))) (after_front (codes " & ") x)
+sign_read Disjunction x = ap (λ (o : Option (List ℕ)). or_else o Disjunction (or_else (after_prefix (codes " -> ") (codes " | " ++ x)) Implication (or_else (after_prefix (codes " <-> ") (codes " | " ++ x)) Equivalence None))) (after_front (codes " | ") x)
+sign_read Implication x = ap (λ (o : Option (List ℕ)). or_else o Implication (or_else (after_prefix (codes " <-> ") (codes " -> " ++ x)) Equivalence None)) (after_front (codes " -> ") x)
+sign_read Equivalence x = ap (λ (o : Option (List ℕ)). or_else o Equivalence None) (after_front (codes " <-> ") x)
 
-and_found : (f g : Formula) → IsFound f → IsFound g → IsFound (And f g)
-and_found f g first second zero r deep named ends = absurd (omega (arith, deep))
-and_found f g first second (suc n) r deep named ends =
-    pair_found And (codes " & ") f g n r refl and_sign (first n (codes " & " ++ (primary g ++ (41 ∷ r))) (omega (arith, deep)) named.0 refl) (second n (41 ∷ r) (omega (arith, deep)) named.1 refl)
+sign_ends : (c : Connective) (x : List ℕ) → EndsWord (connective_sign c ++ x)
+sign_ends Conjunction x = refl
+sign_ends Disjunction x = refl
+sign_ends Implication x = refl
+sign_ends Equivalence x = refl
 
-or_sign : (x : List ℕ) → sign_in (codes " | " ++ x) ≡ Some (Or, x)
-unfolding after_prefix
-or_sign x = ap (λ (o : Option (List ℕ)). or_else o Or (or_else (after_prefix (codes " -> ") (codes " | " ++ x)) Implies (or_else (after_prefix (codes " <-> ") (codes " | " ++ x)) Iff None))) (after_front (codes " | ") x)
-
-or_found : (f g : Formula) → IsFound f → IsFound g → IsFound (Or f g)
-or_found f g first second zero r deep named ends = absurd (omega (arith, deep))
-or_found f g first second (suc n) r deep named ends =
-    pair_found Or (codes " | ") f g n r refl or_sign (first n (codes " | " ++ (primary g ++ (41 ∷ r))) (omega (arith, deep)) named.0 refl) (second n (41 ∷ r) (omega (arith, deep)) named.1 refl)
-
-implies_sign : (x : List ℕ) → sign_in (codes " -> " ++ x) ≡ Some (Implies, x)
-unfolding after_prefix
-implies_sign x = ap (λ (o : Option (List ℕ)). or_else o Implies (or_else (after_prefix (codes " <-> ") (codes " -> " ++ x)) Iff None)) (after_front (codes " -> ") x)
-
-implies_found : (f g : Formula) → IsFound f → IsFound g → IsFound (Implies f g)
-implies_found f g first second zero r deep named ends = absurd (omega (arith, deep))
-implies_found f g first second (suc n) r deep named ends =
-    pair_found Implies (codes " -> ") f g n r refl implies_sign (first n (codes " -> " ++ (primary g ++ (41 ∷ r))) (omega (arith, deep)) named.0 refl) (second n (41 ∷ r) (omega (arith, deep)) named.1 refl)
-
-iff_sign : (x : List ℕ) → sign_in (codes " <-> " ++ x) ≡ Some (Iff, x)
-unfolding after_prefix
-iff_sign x = ap (λ (o : Option (List ℕ)). or_else o Iff None) (after_front (codes " <-> ") x)
-
-iff_found : (f g : Formula) → IsFound f → IsFound g → IsFound (Iff f g)
-iff_found f g first second zero r deep named ends = absurd (omega (arith, deep))
-iff_found f g first second (suc n) r deep named ends =
-    pair_found Iff (codes " <-> ") f g n r refl iff_sign (first n (codes " <-> " ++ (primary g ++ (41 ∷ r))) (omega (arith, deep)) named.0 refl) (second n (41 ∷ r) (omega (arith, deep)) named.1 refl)
+joined_found : (c : Connective) (f g : Formula) → IsFound f → IsFound g → IsFound (Joined c f g)
+joined_found c f g first second zero r deep named ends = absurd (omega (arith, deep))
+joined_found c f g first second (suc n) r deep named ends =
+    let rest : List ℕ = primary g ++ (41 ∷ r) in
+    pair_found c (connective_sign c) f g n r (sign_ends c rest) (sign_read c) (first n (connective_sign c ++ rest) (omega (arith, deep)) named.0 (sign_ends c rest)) (second n (41 ∷ r) (omega (arith, deep)) named.1 refl)
 
 word_at : (n : ℕ) (v r : List ℕ) → 1 ≤ n → IsTrue (is_word v) → EndsWord r → formula_in n (v ++ r) ≡ Some (formula_of_word v, r)
 word_at zero v r some is ends = absurd (omega (arith, some))
@@ -199,10 +176,7 @@ found Truth = λ n r deep named ends. word_at n (codes "true") r deep refl ends
 found Falsity = λ n r deep named ends. word_at n (codes "false") r deep refl ends
 found (Atom m) = λ n r deep named ends. word_at n m r deep (name_is_word m named) ends ∙ ap (λ (f : Formula). Some (f, r)) (atom_found m named)
 found (Not f) = not_found f (found f)
-found (And f g) = and_found f g (found f) (found g)
-found (Or f g) = or_found f g (found f) (found g)
-found (Implies f g) = implies_found f g (found f) (found g)
-found (Iff f g) = iff_found f g (found f) (found g)
+found (Joined c f g) = joined_found c f g (found f) (found g)
 
 pub same_primary : (f g : Formula) (r s : List ℕ) → IsNamedFormula f → IsNamedFormula g → EndsWord r → EndsWord s → primary f ++ r ≡ primary g ++ s → (f ≡ g) × (r ≡ s)
 same_primary f g r s nf ng er es e =

@@ -15,7 +15,7 @@ use Rattle.mcs_spelling.specs.Words.{after_prefix}
 use Rattle.mcs_spelling.proofs.LiteralTexts.{after_front, after_is}
 use Rattle.mcs_proof_text.specs.Lines.{text_of_lines}
 use Rattle.mcs_proof_text.specs.Answers.{Answer, answer_lines}
-use Rattle.mcs_proof_text.specs.Shapes.{IsInShape}
+use Rattle.mcs_proof_text.specs.Answers.{IsInShape}
 use Rattle.mcs_proof_text.specs.Reports.{IsLineFeedFree, IsEndLine, IsListingPart, AnswerBefore, report_lines, IsReport, SpellsReport, BeginsReport, IsFirstLineFault}
 use Rattle.mcs_proof_lines.specs.Walks.{At, Reading, ◌>>=◌, head_line, expect_at}
 use Rattle.mcs_proof_lines.specs.Readings.{here, Anything, BeginsLines, ReadsLines, one_line, AreBoth, both_lines, word_of, itself, ComesNext}

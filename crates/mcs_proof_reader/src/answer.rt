@@ -1,13 +1,14 @@
 //! The answers of a report, read one at a time.
 
 ghost use Rattle.std.specs.Prelude.{◌≡◌, ◌≤◌, ◌<◌, ◌∷◌, [], map, length, slice_get, IfOk};
-ghost use Rattle.mcs_system.specs.Faults.{default_count};
 ghost use Rattle.mcs_system.specs.Seen.{item_of, kb_of};
-ghost use Rattle.mcs_cnf.specs.Entailments.{entailment_of};
-ghost use Rattle.mcs_evidence.specs.Defaults.{defaults_of};
-ghost use Rattle.mcs_asking.specs.Certificates.{OfFormulas};
+ghost use Rattle.mcs_evidence.specs.Defaults.{defaults_of, verdicts_of};
+ghost use Rattle.mcs_asking.specs.Certificates.{plain_of};
+ghost use Rattle.mcs_asking.specs.Kinds.{part_count};
+ghost use Rattle.mcs_proof_lines.specs.Verdicts.{verdicts_at};
+ghost use Rattle.mcs_proof_text.specs.Kinds.{terms_with};
 ghost use Rattle.mcs_proof_lines.specs.Walks.{Gives};
-ghost use Rattle.mcs_proof_reader.specs.Answers.{state_at, classical_at, default_at, models_at};
+ghost use Rattle.mcs_proof_reader.specs.Answers.{certificate_of, outputs_at, state_at};
 ghost use Rattle.mcs_proof_reader.specs.Answers.{shown_at, shown_of};
 ghost use Rattle.mcs_proof_reader.specs.Keeping.{IsWholeAnswer, TakesAndKeeps};
 ghost use Rattle.mcs_proof_reader.specs.Readers.{shown_of_code, AreTexts};
@@ -15,12 +16,12 @@ ghost use Rattle.mcs_proof_reader.specs.Readers.{shown_of_code, AreTexts};
 use crate::question::{next_state, take_states};
 use crate::texts::{Texts, just_counts, name_texts};
 use mcs_asking::AnswerCert;
-use mcs_base::{Active, Memory, Vars};
+use mcs_base::{Active, Memory, Text, Vars};
 use mcs_proof_lines::{
     Lines, ReportFault, Theory, out_of_place, take_entailments, take_program, take_verdicts,
 };
 use mcs_system::{Kb, System, TheoryItem};
-use mcs_trace::{ClassicalCert, DefaultCert, Entail};
+use mcs_trace::{ClassicalCert, DefaultCert};
 use std::alloc::Global;
 
 /// An answer of a report: the number of its first line (counted from 1), the question, the states
@@ -52,22 +53,13 @@ struct Shown {
     cert: AnswerCert,
 }
 
-/// One state with the certificate of a classical context.
-fn one_output(alloc: Global, state: Vars, entails: Vec<Entail>) -> Result<Shown, Memory>
-    ensures { IfOk result (λ s. shown_of_code s
-        ≡ (state ∷ [], OfFormulas (map entailment_of entails.items))) }
+/// The list of this one state.
+fn only(alloc: Global, state: Vars) -> Result<Vec<Vars>, Memory>
+    ensures { IfOk result (λ states. states.items ≡ state ∷ []) }
 {
-    let mut outputs = Vec::new(alloc);
-    match outputs.push(state) {
-        Ok(()) => Ok(Shown {
-            outputs,
-            cert: AnswerCert::Classical(ClassicalCert { entails }),
-        }),
-        Err(refused) => {
-            drop(entails);
-            Err(Memory::from(refused))
-        }
-    }
+    let mut states = Vec::new(alloc);
+    states.push(state)?;
+    Ok(states)
 }
 
 /// Takes the state of a classical context. The texts are those of the system.
@@ -90,87 +82,91 @@ pub fn take_state(
     }
 }
 
-/// Takes the state and the certificate of a classical context.
-#[tactic(auto, unfolding(crate::specs::Answers::classical_at))]
-fn take_classical(
+/// Takes the states that an answer of a context with this knowledge base puts out: one if it is
+/// classical. The texts are those of the system.
+pub fn take_outputs(
     alloc: Global,
     system: &System,
     texts: &Texts,
     context: u32,
+    kb: &Kb,
     lines: &mut Lines<'_>,
-) -> Result<Shown, ReportFault>
+) -> Result<Vec<Vars>, ReportFault>
     requires context { context < length system.now.contexts }
     requires texts { AreTexts system.now texts.now }
-    ensures { Gives shown_of_code result lines.new (classical_at system.now context lines.old) }
+    ensures { Gives (λ outputs. outputs.items) result lines.new
+        (outputs_at system.now context (kb_of kb.now) lines.old) }
 {
+    let Kb::Classical(_) = kb else {
+        let allowed = system.vars_of(context);
+        return Ok(take_states(alloc, system, texts, allowed, lines)?);
+    };
     let state = take_state(system, texts, context, lines)?;
-    let atoms = name_texts(alloc, system.atoms_of(context))?;
-    let count = system.vars_of(context).count() as usize;
-    let entails = take_entailments(alloc, &atoms, count, lines)?;
-    Ok(one_output(alloc, state, entails)?)
+    Ok(only(alloc, state)?)
 }
 
-/// Takes the states and the certificate of a default theory.
-#[tactic(auto, unfolding(crate::specs::Answers::default_at))]
-fn take_default(
+/// Takes the certificate of a default theory, where there are so many beliefs.
+fn take_sets(
     alloc: Global,
-    system: &System,
-    texts: &Texts,
-    context: u32,
+    names: &[Text],
+    numbers: &[Text],
     items: &[TheoryItem],
+    beliefs: usize,
     lines: &mut Lines<'_>,
-) -> Result<Shown, ReportFault>
-    requires context { context < length system.now.contexts }
-    requires texts { AreTexts system.now texts.now }
+) -> Result<DefaultCert, ReportFault>
+    requires atoms { length names.now ≤ 64 }
+    requires numbers { length numbers.now ≤ 64 }
     requires few { length (defaults_of (map item_of items.now)) ≤ 10 }
-    ensures { Gives shown_of_code result lines.new
-        (default_at system.now context (map item_of items.now) lines.old) }
+    ensures { Gives verdicts_of result lines.new
+        (verdicts_at (terms_with names.now numbers.now (map item_of items.now) beliefs)
+        lines.old) }
 {
-    let allowed = system.vars_of(context);
-    let outputs = take_states(alloc, system, texts, allowed, lines)?;
-    let atoms = name_texts(alloc, system.atoms_of(context))?;
     let justs = just_counts(alloc, items)?;
     let theory = Theory {
-        atoms: &atoms,
-        numbers: &texts.numbers,
+        atoms: names,
+        numbers,
         justs: &justs,
-        beliefs: allowed.count() as usize,
+        beliefs,
     };
-    match take_verdicts(alloc, &theory, lines) {
-        Ok(sets) => Ok(Shown {
-            outputs,
-            cert: AnswerCert::Default(DefaultCert { sets }),
-        }),
-        Err(fault) => Err(fault),
-    }
+    let sets = take_verdicts(alloc, &theory, lines)?;
+    Ok(DefaultCert { sets })
 }
 
-/// Takes the states and the certificate of a program.
-#[tactic(auto, unfolding(crate::specs::Answers::models_at))]
-fn take_models(
+/// Takes the certificate of an answer with so many outputs, by the kind of the context.
+fn take_certificate(
     alloc: Global,
     system: &System,
     texts: &Texts,
     context: u32,
+    kb: &Kb,
+    count: usize,
     lines: &mut Lines<'_>,
-) -> Result<Shown, ReportFault>
+) -> Result<AnswerCert, ReportFault>
     requires context { context < length system.now.contexts }
     requires texts { AreTexts system.now texts.now }
-    ensures { Gives shown_of_code result lines.new (models_at system.now context lines.old) }
+    requires few { part_count (kb_of kb.now) ≤ 10 }
+    ensures { Gives plain_of result lines.new
+        (certificate_of system.now context (kb_of kb.now) count lines.old) }
 {
-    let allowed = system.vars_of(context);
-    let outputs = take_states(alloc, system, texts, allowed, lines)?;
     let atoms = name_texts(alloc, system.atoms_of(context))?;
-    match take_program(alloc, &atoms, outputs.len(), lines) {
-        Ok(cert) => Ok(Shown {
-            outputs,
-            cert: AnswerCert::Program(cert),
-        }),
-        Err(fault) => Err(fault),
+    let beliefs = system.vars_of(context).count() as usize;
+    match kb {
+        Kb::Classical(_) => {
+            let entails = take_entailments(alloc, &atoms, beliefs, lines)?;
+            Ok(AnswerCert::Classical(ClassicalCert { entails }))
+        }
+        Kb::DefaultTheory(items) => {
+            let cert = take_sets(alloc, &atoms, &texts.numbers, items, beliefs, lines)?;
+            Ok(AnswerCert::Default(cert))
+        }
+        Kb::Program(_) => {
+            let cert = take_program(alloc, &atoms, count, lines)?;
+            Ok(AnswerCert::Program(cert))
+        }
     }
 }
 
-/// Takes the states and the certificate of the context, by its kind.
+/// Takes the states and the certificate of the context.
 fn take_shown(
     alloc: Global,
     system: &System,
@@ -181,14 +177,14 @@ fn take_shown(
 ) -> Result<Shown, ReportFault>
     requires context { context < length system.now.contexts }
     requires texts { AreTexts system.now texts.now }
-    requires few { default_count (kb_of kb.now) ≤ 10 }
+    requires few { part_count (kb_of kb.now) ≤ 10 }
     ensures { Gives shown_of_code result lines.new
         (shown_at system.now context (kb_of kb.now) lines.old) }
 {
-    match kb {
-        Kb::Classical(_) => take_classical(alloc, system, texts, context, lines),
-        Kb::DefaultTheory(items) => take_default(alloc, system, texts, context, items, lines),
-        Kb::Program(_) => take_models(alloc, system, texts, context, lines),
+    let outputs = take_outputs(alloc, system, texts, context, kb, lines)?;
+    match take_certificate(alloc, system, texts, context, kb, outputs.len(), lines) {
+        Ok(cert) => Ok(Shown { outputs, cert }),
+        Err(fault) => Err(fault),
     }
 }
 

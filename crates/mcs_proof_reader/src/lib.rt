@@ -8,7 +8,7 @@ mod question;
 mod report;
 mod texts;
 
-pub use answer::{ReportAnswer, take_answer, take_state};
+pub use answer::{ReportAnswer, take_answer, take_outputs, take_state};
 pub use keep::Keep;
 pub use question::take_states;
 pub use report::{KeptReport, Report, read_kept, read_report};

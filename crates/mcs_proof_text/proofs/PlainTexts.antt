@@ -7,10 +7,10 @@ use Rattle.mcs_base.specs.Words.{is_letter, is_word_byte, is_word}
 use Rattle.mcs_base.proofs.Each.{all_append, all_among, all_get}
 use Rattle.mcs_base.proofs.Among.{flat_map_among, filter_among}
 use Rattle.mcs_base.proofs.WordLemmas.{name_is_word, letter_is_word_byte}
-use Rattle.mcs_system.specs.Plain.{Name, Formula, Truth, Falsity, Atom, Not, And, Or, Implies, Iff, Context, Read, Bridge, System}
+use Rattle.mcs_system.specs.Plain.{Name, Formula, Truth, Falsity, Atom, Not, Joined, Connective, Conjunction, Disjunction, Implication, Equivalence, Context, Read, Bridge, System}
 use Rattle.mcs_system.specs.Naming.{IsName, IsNamedFormula, IsNamedContext, IsNamedBridge, IsSystemNamed}
 use Rattle.mcs_system.specs.Systems.{occurrences, context_variables, variables}
-use Rattle.mcs_system.specs.Texts.{primary, name_of_context, belief_text}
+use Rattle.mcs_system.specs.Texts.{connective_sign, primary, name_of_context, belief_text}
 use Rattle.mcs_system.proofs.VariableLemmas.{firsts_among}
 
 abbrev pub Plain : ℕ → Type 0
@@ -38,15 +38,18 @@ other_plain b comma brace feed = (((λ e. true≢false (sym (ap (λ (x : ℕ). n
 parens_plain : (p s q : List ℕ) → AllByRecursion Plain p → AllByRecursion Plain s → AllByRecursion Plain q → AllByRecursion Plain (codes "(" ++ (p ++ (s ++ (q ++ codes ")"))))
 parens_plain p s q ap' as' aq = (other_plain 40 refl refl refl, all_append Plain p (s ++ (q ++ codes ")")) ap' (all_append Plain s (q ++ codes ")") as' (all_append Plain q (codes ")") aq (other_plain 41 refl refl refl, tt))))
 
+sign_plain : (c : Connective) → AllByRecursion Plain (connective_sign c)
+sign_plain Conjunction = (other_plain 32 refl refl refl, (other_plain 38 refl refl refl, (other_plain 32 refl refl refl, tt)))
+sign_plain Disjunction = (other_plain 32 refl refl refl, (other_plain 124 refl refl refl, (other_plain 32 refl refl refl, tt)))
+sign_plain Implication = (other_plain 32 refl refl refl, (other_plain 45 refl refl refl, (other_plain 62 refl refl refl, (other_plain 32 refl refl refl, tt))))
+sign_plain Equivalence = (other_plain 32 refl refl refl, (other_plain 60 refl refl refl, (other_plain 45 refl refl refl, (other_plain 62 refl refl refl, (other_plain 32 refl refl refl, tt)))))
+
 primary_plain : (f : Formula) → IsNamedFormula f → AllByRecursion Plain (primary f)
 primary_plain Truth named = word_bytes_plain (codes "true") refl
 primary_plain Falsity named = word_bytes_plain (codes "false") refl
 primary_plain (Atom n) named = name_plain n named
 primary_plain (Not f) named = (other_plain 126 refl refl refl, primary_plain f named)
-primary_plain (And f g) named = parens_plain (primary f) (codes " & ") (primary g) (primary_plain f named.0) (other_plain 32 refl refl refl, (other_plain 38 refl refl refl, (other_plain 32 refl refl refl, tt))) (primary_plain g named.1)
-primary_plain (Or f g) named = parens_plain (primary f) (codes " | ") (primary g) (primary_plain f named.0) (other_plain 32 refl refl refl, (other_plain 124 refl refl refl, (other_plain 32 refl refl refl, tt))) (primary_plain g named.1)
-primary_plain (Implies f g) named = parens_plain (primary f) (codes " -> ") (primary g) (primary_plain f named.0) (other_plain 32 refl refl refl, (other_plain 45 refl refl refl, (other_plain 62 refl refl refl, (other_plain 32 refl refl refl, tt)))) (primary_plain g named.1)
-primary_plain (Iff f g) named = parens_plain (primary f) (codes " <-> ") (primary g) (primary_plain f named.0) (other_plain 32 refl refl refl, (other_plain 60 refl refl refl, (other_plain 45 refl refl refl, (other_plain 62 refl refl refl, (other_plain 32 refl refl refl, tt))))) (primary_plain g named.1)
+primary_plain (Joined c f g) named = parens_plain (primary f) (connective_sign c) (primary g) (primary_plain f named.0) (sign_plain c) (primary_plain g named.1)
 
 -- ---- of a system
 module _ (m : System) (named : IsSystemNamed m) where

@@ -5,7 +5,7 @@ use Rattle.std.proofs.lemmas.Option.{slice_get_within}
 use Rattle.std.specs.List.{AllByRecursion, filter_map}
 use Rattle.mcs_sets.specs.Sets.{members, size, Within}
 use Rattle.mcs_base.proofs.Each.{all_append, all_from_among, all_get, all_map}
-use Rattle.mcs_system.specs.Plain.{Name, Formula, Item, Fact, Kb, Classical, DefaultTheory, Program, Context, System}
+use Rattle.mcs_system.specs.Plain.{Name, Formula, Item, Fact, ClassicalKind, DefaultKind, ProgramKind, Kb, OfKind, Context, System}
 use Rattle.mcs_system.specs.Logic.{fact_of, with_heads}
 use Rattle.mcs_system.specs.Atoms.{atoms_of}
 use Rattle.mcs_system.specs.Systems.{variables_of, heads_into}
@@ -23,7 +23,7 @@ use Rattle.mcs_asking.proofs.AnswerLemmas.{accepted_right}
 use Rattle.mcs_asking.proofs.CoverLemmas.{few_beliefs}
 use Rattle.mcs_proof_text.specs.Lines.{line_text, output_text}
 use Rattle.mcs_proof_text.specs.Answers.{Answer, certificate_lines, answer_lines}
-use Rattle.mcs_proof_text.specs.Shapes.{IsCertificate}
+use Rattle.mcs_proof_text.specs.Kinds.{IsCertificate}
 use Rattle.mcs_proof_text.specs.Proofs.{RightAnswersAreInShape}
 use Rattle.mcs_proof_text.proofs.TraceShapes.{either_shapes}
 use Rattle.mcs_proof_text.proofs.DefaultShapes.{verdicts_shape}
@@ -36,28 +36,23 @@ module _ (names : List Name) (few : length names ≤ 64) (most : ℕ) (least : m
   certificate_shape : (kb : Kb) (cert : Certificate) → IsSmallKb kb → item_count kb ≤ 4096 → KbIsJustifiedUpTo most kb
       → length (certificate_lines cert) ≤ 2 ^ 28
       → IsAcceptedFor names (with_heads kb heads) beliefs views cert → IsCertificate names kb (length beliefs) outputs cert
-  certificate_shape (Classical fs) (OfFormulas es) small_fs items justified short accepted =
+  certificate_shape (OfKind ClassicalKind fs) (OfFormulas es) small_fs items justified short accepted =
       let size = sizes_up_to 512 (fs ++ heads) (all_append IsSmall fs heads small_fs small) in
       let count = length-append fs heads in
       (omega (arith, ap length accepted.only), either_shapes names few (fs ++ heads) beliefs es (omega arith) small_asked short accepted.shown.entailments)
-  certificate_shape (Classical fs) (OfDefaults vs) small_fs items justified short accepted = absurd accepted
-  certificate_shape (Classical fs) (OfProgram p) small_fs items justified short accepted = absurd accepted
-  certificate_shape (DefaultTheory theory) (OfFormulas es) small_items items justified short accepted = absurd accepted
-  certificate_shape (DefaultTheory theory) (OfDefaults vs) small_items items justified short accepted =
+  certificate_shape (OfKind DefaultKind theory) (OfDefaults vs) small_items items justified short accepted =
       let told : List Item = theory ++ map Fact heads in
       let count : length told ≡ length theory + length heads = length-append theory (map Fact heads) ∙ ap (λ n. length theory + n) (length-map heads Fact) in
       let small_told = all_append IsSmallItem theory (map Fact heads) small_items (all_map Fact IsSmall IsSmallItem (λ f h. h) heads small) in
       let few_justs = all_append (IsJustifiedUpTo most) theory (map Fact heads) justified (all_map Fact IsSmall (IsJustifiedUpTo most) (λ f h. tt) heads small) in
       verdicts_shape names few told theory (defaults_with theory heads) (omega arith) small_told most least few_justs beliefs views vs small_asked short accepted
-  certificate_shape (DefaultTheory theory) (OfProgram p) small_items items justified short accepted = absurd accepted
-  certificate_shape (Program rules) (OfFormulas es) small_rules items justified short accepted = absurd accepted
-  certificate_shape (Program rules) (OfDefaults vs) small_rules items justified short accepted = absurd accepted
-  certificate_shape (Program rules) (OfProgram p) small_rules items justified short accepted =
+  certificate_shape (OfKind ProgramKind rules) (OfProgram p) small_rules items justified short accepted =
       let added = added_rules heads in
       let count = length-append rules (filter_map fact_of heads) in
       let small_told = all_append IsSmallRule rules (filter_map fact_of heads) small_rules added.0 in
       let size = sizes_up_to 512 beliefs small_asked in
       program_shape names (rules ++ filter_map fact_of heads) few (omega (arith, added.1)) small_told beliefs views outputs p (omega arith) same many short accepted
+  certificate_shape kb cert small_kb items justified short accepted = absurd accepted
 
 -- ---- the answer
 -- outputs and the lines of the certificate are among its lines

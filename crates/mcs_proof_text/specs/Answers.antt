@@ -1,14 +1,18 @@
--- An answer with its certificate, and its lines.
-use Rattle.std.specs.Prelude.{ℕ, ◌+◌, List, [], ◌∷◌, ◌++◌, map, codes}
-use Rattle.std.specs.List.{flat_map}
-use Rattle.mcs_system.specs.Plain.{System}
+-- An answer with its certificate, its lines, and what they may be.
+use Rattle.std.specs.Prelude.{◌≡◌, ℕ, List, ◌∷◌, [], ◌++◌, map, codes, Some, slice_get}
+use Rattle.std.specs.List.{AllByRecursion}
+use Rattle.mcs_sets.specs.Sets.{size, Within}
+use Rattle.mcs_sets.specs.Orders.{StateBefore}
+use Rattle.mcs_base.specs.Listings.{IsAscending}
+use Rattle.mcs_system.specs.Plain.{Context, System}
 use Rattle.mcs_system.specs.Atoms.{atoms_of}
-use Rattle.mcs_trace.specs.Traces.{Inference}
-use Rattle.mcs_cnf.specs.Entailments.{Entailment, Yes, No}
-use Rattle.mcs_evidence.specs.Defaults.{Absence, Unsupported, Blocked, Verdict, Fails, Applied, Ungrounded, Extension}
-use Rattle.mcs_evidence.specs.Programs.{ModelShown, ProgramShown}
-use Rattle.mcs_asking.specs.Certificates.{Certificate, OfFormulas, OfDefaults, OfProgram}
-use Rattle.mcs_proof_text.specs.Lines.{Line, YesLine, NoLine, StepLine, SetLine, UnsupportedLine, BlockedLine, AppliedLine, UngroundedLine, ExtensionLine, ModelLine, SmallerLine, NoneLine, line_text, question_text, output_text}
+use Rattle.mcs_system.specs.Imports.{rules_into}
+use Rattle.mcs_system.specs.Systems.{variables_of}
+use Rattle.mcs_asking.specs.Certificates.{Certificate}
+use Rattle.mcs_proof_text.specs.Lines.{line_text, question_text, output_text}
+pub use Rattle.mcs_proof_text.specs.EvidenceLines.{trace_lines, entailment_lines, all_entailment_lines, absence_lines, verdict_lines, set_lines, model_lines, program_lines}
+pub use Rattle.mcs_proof_text.specs.Kinds.{certificate_lines}
+use Rattle.mcs_proof_text.specs.Kinds.{IsCertificate}
 
 -- what context i is said to accept with the heads of the rules of x: the states that are put out, and why
 pub record Answer : Type 0 where
@@ -17,45 +21,16 @@ pub record Answer : Type 0 where
   pub outputs : List ℕ
   pub cert : Certificate
 
--- ---- the lines of the parts
-abbrev pub trace_lines : List Inference → List Line
-trace_lines steps = map StepLine steps
-
-abbrev pub entailment_lines : Entailment → List Line
-entailment_lines (Yes steps) = YesLine ∷ trace_lines steps
-entailment_lines (No places) = NoLine places ∷ []
-
-abbrev pub all_entailment_lines : List Entailment → List Line
-all_entailment_lines es = flat_map entailment_lines es
-
-abbrev pub absence_lines : Absence → List Line
-absence_lines (Unsupported number e) = UnsupportedLine number ∷ entailment_lines e
-absence_lines (Blocked number just e) = BlockedLine number just ∷ entailment_lines e
-
-abbrev pub verdict_lines : Verdict → List Line
-verdict_lines (Fails absence) = absence_lines absence
-verdict_lines (Applied number pre justs) = AppliedLine number ∷ (entailment_lines pre ++ all_entailment_lines justs)
-verdict_lines (Ungrounded closed pres) = UngroundedLine closed ∷ all_entailment_lines pres
-verdict_lines (Extension order pres justs outside outputs) =
-    ExtensionLine order ∷ (all_entailment_lines pres ++ (all_entailment_lines justs ++ (flat_map absence_lines outside ++ all_entailment_lines outputs)))
-
--- of the sets of defaults from number k on
-abbrev pub set_lines : ℕ → List Verdict → List Line
-set_lines k [] = []
-set_lines k (v ∷ vs) = SetLine k ∷ (verdict_lines v ++ set_lines (k + 1) vs)
-
-abbrev pub model_lines : ModelShown → List Line
-model_lines m = ModelLine m.model ∷ trace_lines m.minimal
-
-abbrev pub program_lines : ProgramShown → List Line
-program_lines p = flat_map model_lines p.models ++ (map SmallerLine p.smaller ++ NoneLine ∷ trace_lines p.rest)
-
-abbrev pub certificate_lines : Certificate → List Line
-certificate_lines (OfFormulas es) = all_entailment_lines es
-certificate_lines (OfDefaults vs) = set_lines 0 vs
-certificate_lines (OfProgram p) = program_lines p
-
 -- ---- the lines of the answer, as bytes without line feeds
 abbrev pub answer_lines : System → Answer → List (List ℕ)
 answer_lines m a =
     question_text m a.context a.active ∷ (map (output_text m) a.outputs ++ (map (line_text (atoms_of m a.context)) (certificate_lines a.cert) ++ codes "done" ∷ []))
+
+-- an answer of a context of the system: rules into it, states of it in strictly ascending order, a certificate of its kind
+pub record IsInShape (m : System) (a : Answer) : Type 0 where
+  pub context : Context
+  pub is_it : slice_get m.contexts a.context ≡ Some context
+  pub rules : Within a.active (rules_into m a.context)
+  pub states : AllByRecursion (λ σ. Within σ (variables_of m a.context)) a.outputs
+  pub ascending : IsAscending StateBefore a.outputs
+  pub cert : IsCertificate (atoms_of m a.context) context.kb (size (variables_of m a.context)) a.outputs a.cert

@@ -1,5 +1,7 @@
 pub mod Lines
-pub mod Answers
+pub mod EvidenceLines
 pub mod Shapes
+pub mod Kinds
+pub mod Answers
 pub mod Reports
 pub mod Proofs

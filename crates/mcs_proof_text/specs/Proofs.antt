@@ -11,7 +11,7 @@ use Rattle.mcs_system.specs.Levels.{IsQuestionAt}
 use Rattle.mcs_asking.specs.Certificates.{IsAccepted}
 use Rattle.mcs_proof_text.specs.Answers.{Answer, answer_lines}
 use Rattle.mcs_proof_text.specs.Reports.{AnswerBefore, most_report_bytes}
-use Rattle.mcs_proof_text.specs.Shapes.{IsInShape}
+use Rattle.mcs_proof_text.specs.Answers.{IsInShape}
 
 -- the certificate of the answer is accepted
 abbrev pub HasAcceptedCertificate : System → Answer → Type 0

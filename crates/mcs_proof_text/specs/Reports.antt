@@ -8,7 +8,7 @@ use Rattle.mcs_report.specs.Solutions.{IsWholeListing}
 use Rattle.mcs_spelling.specs.Lines.{complete_lines}
 use Rattle.mcs_proof_text.specs.Lines.{text_of_lines}
 use Rattle.mcs_proof_text.specs.Answers.{Answer, answer_lines}
-use Rattle.mcs_proof_text.specs.Shapes.{IsInShape}
+use Rattle.mcs_proof_text.specs.Answers.{IsInShape}
 
 -- ---- the listing part
 abbrev pub IsLineFeedFree : List ℕ → Type 0

@@ -1,20 +1,13 @@
--- What the lines of an answer may be: which numbers, sets and traces may stand where. What they claim is another matter.
+-- What the lines of a certificate may be: which numbers, sets and traces may stand where. What they claim is another matter.
 use Rattle.std.specs.Prelude.{◌≡◌, ℕ, ◌+◌, ◌^◌, ◌<◌, ◌≤◌, List, [], length, Some, slice_get}
 use Rattle.std.specs.List.{AllByRecursion, AllZip}
 use Rattle.mcs_sets.specs.Sets.{minus, members, size, Within}
-use Rattle.mcs_sets.specs.Orders.{StateBefore}
-use Rattle.mcs_base.specs.Listings.{IsAscending}
-use Rattle.mcs_system.specs.Plain.{Name, Default, Item, Kb, Classical, DefaultTheory, Program, Context, System}
-use Rattle.mcs_system.specs.Atoms.{atoms_of}
-use Rattle.mcs_system.specs.Imports.{rules_into}
-use Rattle.mcs_system.specs.Systems.{variables_of}
+use Rattle.mcs_system.specs.Plain.{Name, Default, Item}
 use Rattle.mcs_trace.specs.Traces.{Inference}
 use Rattle.mcs_spelling.specs.Parts.{IsTraceStep}
 use Rattle.mcs_cnf.specs.Entailments.{Entailment, Yes, No}
 use Rattle.mcs_evidence.specs.Defaults.{Absence, Unsupported, Blocked, HasOneForEach, Verdict, Fails, Applied, Ungrounded, Extension, defaults_of, IsNumbered, defaults_in, negated_justs, all_defaults}
 use Rattle.mcs_evidence.specs.Programs.{ModelShown, ProgramShown, IsInRange}
-use Rattle.mcs_asking.specs.Certificates.{Certificate, OfFormulas, OfDefaults, OfProgram}
-use Rattle.mcs_proof_text.specs.Answers.{Answer}
 
 -- ---- traces
 -- one step or more
@@ -104,25 +97,3 @@ pub record IsProgramShape (names : List Name) (outputs : List ℕ) (p : ProgramS
   pub models : AllByRecursion (IsModel names) p.models
   pub smaller : AllByRecursion (IsInRange names) p.smaller
   pub rest : IsTrace p.rest
-
--- ---- answers
--- a certificate for a knowledge base with so many beliefs and these states
-abbrev pub IsCertificate : List Name → Kb → ℕ → List ℕ → Certificate → Type 0
-IsCertificate names (Classical formulas) beliefs outputs (OfFormulas es) = (length outputs ≡ 1) × AreMany (IsEither names) beliefs es
-IsCertificate names (Classical formulas) beliefs outputs (OfDefaults vs) = ⊥
-IsCertificate names (Classical formulas) beliefs outputs (OfProgram p) = ⊥
-IsCertificate names (DefaultTheory items) beliefs outputs (OfFormulas es) = ⊥
-IsCertificate names (DefaultTheory items) beliefs outputs (OfDefaults vs) = AreVerdicts names items beliefs vs
-IsCertificate names (DefaultTheory items) beliefs outputs (OfProgram p) = ⊥
-IsCertificate names (Program rules) beliefs outputs (OfFormulas es) = ⊥
-IsCertificate names (Program rules) beliefs outputs (OfDefaults vs) = ⊥
-IsCertificate names (Program rules) beliefs outputs (OfProgram p) = IsProgramShape names outputs p
-
--- an answer of a context of the system: rules into it, states of it in strictly ascending order, a certificate of its kind
-pub record IsInShape (m : System) (a : Answer) : Type 0 where
-  pub context : Context
-  pub is_it : slice_get m.contexts a.context ≡ Some context
-  pub rules : Within a.active (rules_into m a.context)
-  pub states : AllByRecursion (λ σ. Within σ (variables_of m a.context)) a.outputs
-  pub ascending : IsAscending StateBefore a.outputs
-  pub cert : IsCertificate (atoms_of m a.context) context.kb (size (variables_of m a.context)) a.outputs a.cert

@@ -5,7 +5,7 @@ use Rattle.std.specs.List.{AllByRecursion, list_all}
 use Rattle.mcs_base.specs.Listings.{IsAmong}
 use Rattle.mcs_base.proofs.Among.{among_either, among_left, among_right}
 use Rattle.mcs_base.proofs.Each.{all_among, all_from_among}
-use Rattle.mcs_system.specs.Plain.{Name, Formula, Atom, ProgramRule, Kb, Classical, DefaultTheory, Program}
+use Rattle.mcs_system.specs.Plain.{Name, Formula, Atom, ProgramRule, Kb, Classical, Program}
 use Rattle.mcs_system.specs.Logic.{is_in, BeliefSet, Theory, Atoms, Believes, Accepts, SameModels, Entails, with_heads, IsAnswerSet}
 use Rattle.mcs_system.proofs.Consequence.{member_follows, follows_through}
 use Rattle.mcs_system.proofs.NameLemmas.{is_in-among}
@@ -47,10 +47,10 @@ module _ (a : List Name) (kb : Kb) (hs hs' : List Formula) (more : (f : Formula)
       at (Classical fs) plain (Theory e) (Theory g) of_b of_c = within_formulas fs e g of_b of_c
       at (Classical fs) plain (Theory e) (Atoms d) of_b of_c = absurd of_c
       at (Classical fs) plain (Atoms c) d of_b of_c = absurd of_b
-      at (DefaultTheory items) plain b c of_b of_c = absurd (true≢false (sym plain))
       at (Program rules) plain (Theory e) d of_b of_c = absurd of_b
       at (Program rules) plain (Atoms c) (Theory g) of_b of_c = absurd of_c
       at (Program rules) plain (Atoms c) (Atoms d) of_b of_c = all_from_among (λ n. is_in n d ≡ true) c (λ n among. within_programs rules (normal_rules rules plain) c d of_b of_c n ((is_in-among n c).1 among))
+      at kb plain b c of_b of_c = absurd (true≢false (sym plain))
 
   -- and all that the one believes the other does
   pub believes_more : is_plain kb ≡ true → (b c : BeliefSet) → Accepts (with_heads (kb_reduct a kb) hs) b → Accepts (with_heads (kb_reduct a kb) hs') c → (p : Formula) → Believes b p → Believes c p
@@ -60,11 +60,11 @@ module _ (a : List Name) (kb : Kb) (hs hs' : List Formula) (more : (f : Formula)
       at (Classical fs) plain (Theory e) (Theory g) of_b of_c p h = follows_through g e p (within_formulas fs e g of_b of_c) h
       at (Classical fs) plain (Theory e) (Atoms d) of_b of_c p h = absurd of_c
       at (Classical fs) plain (Atoms c) d of_b of_c p h = absurd of_b
-      at (DefaultTheory items) plain b c of_b of_c p h = absurd (true≢false (sym plain))
       at (Program rules) plain (Theory e) d of_b of_c p h = absurd of_b
       at (Program rules) plain (Atoms c) (Theory g) of_b of_c p h = absurd of_c
       at (Program rules) plain (Atoms c) (Atoms d) of_b of_c (Atom n) h = within_programs rules (normal_rules rules plain) c d of_b of_c n h
       at (Program rules) plain (Atoms c) (Atoms d) of_b of_c p h = absurd h
+      at kb plain b c of_b of_c p h = absurd (true≢false (sym plain))
 
 -- where one lies within the other and both are of one sort, what it believes the other does
 pub within_believes : (a : List Name) (kb : Kb) (hs hs' : List Formula) (b c : BeliefSet) → is_plain kb ≡ true → Accepts (with_heads (kb_reduct a kb) hs) b → Accepts (with_heads (kb_reduct a kb) hs') c
@@ -72,14 +72,14 @@ pub within_believes : (a : List Name) (kb : Kb) (hs hs' : List Formula) (b c : B
 within_believes a (Classical fs) hs hs' (Theory e) (Theory g) plain of_b of_c within p h = follows_through g e p within h
 within_believes a (Classical fs) hs hs' (Theory e) (Atoms d) plain of_b of_c within p h = absurd of_c
 within_believes a (Classical fs) hs hs' (Atoms c) d plain of_b of_c within p h = absurd of_b
-within_believes a (DefaultTheory items) hs hs' b c plain of_b of_c within p h = absurd (true≢false (sym plain))
 within_believes a (Program rules) hs hs' (Theory e) d plain of_b of_c within p h = absurd of_b
 within_believes a (Program rules) hs hs' (Atoms c) (Theory g) plain of_b of_c within p h = absurd of_c
 within_believes a (Program rules) hs hs' (Atoms c) (Atoms d) plain of_b of_c within (Atom n) h = all_among (λ k. is_in k d ≡ true) c n within ((is_in-among n c).0 h)
 within_believes a (Program rules) hs hs' (Atoms c) (Atoms d) plain of_b of_c within p h = absurd h
+within_believes a kb hs hs' b c plain of_b of_c within p h = absurd (true≢false (sym plain))
 
 -- ---- something is accepted
 pub accepts_some : (a : List Name) (kb : Kb) (hs : List Formula) → is_plain kb ≡ true → (b : BeliefSet) × Accepts (with_heads (kb_reduct a kb) hs) b
 accepts_some a (Classical fs) hs plain = (Theory (fs ++ hs), λ x. refl)
-accepts_some a (DefaultTheory items) hs plain = absurd (true≢false (sym plain))
 accepts_some a (Program rules) hs plain = let (c, least) = least_exists a rules hs (normal_rules rules plain) in (Atoms c, answer_of a rules hs c least)
+accepts_some a kb hs plain = absurd (true≢false (sym plain))

@@ -2,7 +2,7 @@
 use Rattle.std.proofs.Common.{◌≡◌, ℕ, zero, suc, Bool, true, false, not, cond, List, [], ◌∷◌, map, filter, Some, ◌↔◌, arith, refl, ap, ◌∙◌, subst, slice_get}
 use Rattle.std.specs.Cmp.{both_ways}
 use Rattle.mcs_base.proofs.Each.{all_among, all_from_among}
-use Rattle.mcs_system.specs.Plain.{Name, Truth, Atom, Formula, ProgramRule, Kb, Classical, DefaultTheory, Program, Context, Read, System}
+use Rattle.mcs_system.specs.Plain.{Name, Truth, Atom, Formula, ProgramRule, Kb, Program, Context, Read, System}
 use Rattle.mcs_system.specs.Logic.{is_in, BeliefSet, Theory, Atoms, Believes, without_negation, reduct}
 use Rattle.mcs_system.specs.Systems.{applicable, heads_into, BelievesIn, IsEquilibrium, IsProjection}
 use Rattle.mcs_system.proofs.Consequence.{member_follows}
@@ -57,9 +57,8 @@ reduct_same a d (r ∷ rules) same =
     at false rest = ap (λ (rs : List ProgramRule). without_negation r ∷ rs) rest
 
 kb_same : (kb : Kb) (b c : BeliefSet) → Alike b c → kb_reduct (names_believed b) kb ≡ kb_reduct (names_believed c) kb
-kb_same (Classical fs) b c alike = refl
-kb_same (DefaultTheory items) b c alike = refl
 kb_same (Program rules) b c alike = ap Program (reduct_same (names_believed b) (names_believed c) rules (same_names b c alike))
+kb_same kb b c alike = refl
 
 -- ---- states
 abbrev pub AreAlike : List BeliefSet → List BeliefSet → Type 0

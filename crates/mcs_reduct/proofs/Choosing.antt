@@ -6,7 +6,7 @@ use Rattle.mcs_base.proofs.Among.{get_among, cases_among}
 use Rattle.mcs_base.proofs.Deciding.{cases_some_below, places_where, places_where-lt, has-places_where}
 use Rattle.mcs_base.proofs.Each.{all_from_among}
 use Rattle.mcs_base.proofs.Lists.{slice_get-map_some}
-use Rattle.mcs_system.specs.Plain.{Name, Formula, Truth, Falsity, Atom, Not, And, Or, Implies, Iff, ProgramRule, Kb, Classical, DefaultTheory, Program}
+use Rattle.mcs_system.specs.Plain.{Name, Formula, Atom, ProgramRule, Kb, Classical, Program}
 use Rattle.mcs_system.specs.Logic.{is_in, BeliefSet, Theory, Atoms, Believes, Accepts, with_heads}
 use Rattle.mcs_system.specs.Atoms.{rule_atoms}
 use Rattle.mcs_system.specs.Views.{Shows, IsAcceptedView}
@@ -48,14 +48,8 @@ shown_there rules a d x of_a shows shows' n h =
     subst (Believes (Atoms d)) same believed
 
 names_alike : (a d : List Name) → ((n : Name) → is_in n a ≡ true → is_in n d ≡ true) → ((n : Name) → is_in n d ≡ true → is_in n a ≡ true) → Alike (Atoms a) (Atoms d)
-names_alike a d more less Truth = (λ h. h, λ h. h)
-names_alike a d more less Falsity = (λ h. h, λ h. h)
 names_alike a d more less (Atom n) = (more n, less n)
-names_alike a d more less (Not f) = (λ h. h, λ h. h)
-names_alike a d more less (And f g) = (λ h. h, λ h. h)
-names_alike a d more less (Or f g) = (λ h. h, λ h. h)
-names_alike a d more less (Implies f g) = (λ h. h, λ h. h)
-names_alike a d more less (Iff f g) = (λ h. h, λ h. h)
+names_alike a d more less f = (λ h. h, λ h. h)
 
 shown_alike : (rules : List ProgramRule) (b c : BeliefSet) (x : ℕ) → Accepts (Program rules) b → Accepts (Program rules) c → Shows b (beliefs_of rules) x → Shows c (beliefs_of rules) x → Alike b c
 shown_alike rules (Theory e) c x of_b of_c shows shows' = absurd of_b
@@ -113,8 +107,8 @@ classical_cases fs P kept decides = elim (decides (Theory fs) (λ a. refl)) [
 
 pub chosen_cases : (kb : Kb) (hs : List Formula) (P : BeliefSet → Type 0) → is_plain kb ≡ true → IsKept (with_heads kb hs) P → IsDecided (with_heads kb hs) P → Chosen (with_heads kb hs) P ⊎ (¬ Chosen (with_heads kb hs) P)
 chosen_cases (Classical fs) hs P plain kept decides = classical_cases (fs ++ hs) P kept decides
-chosen_cases (DefaultTheory items) hs P plain kept decides = absurd (true≢false (sym plain))
 chosen_cases (Program rules) hs P plain kept decides = program_cases (rules ++ facts hs) P kept decides
+chosen_cases kb hs P plain kept decides = absurd (true≢false (sym plain))
 
 -- ---- all contexts
 -- Ok says what may be chosen at a place

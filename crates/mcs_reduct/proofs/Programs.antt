@@ -4,7 +4,7 @@ use Rattle.std.proofs.lemmas.Bool.{and_parts, and_from, or_cases, or_left, or_ri
 use Rattle.std.specs.List.{list_any, list_all, filter_map, flat_map}
 use Rattle.mcs_base.specs.Listings.{IsAmong}
 use Rattle.mcs_base.proofs.Among.{among_filter, filter_among, among_map, map_among, among_either, among_left, among_right, any_get, among_get, none_any, flat_map_among}
-use Rattle.mcs_system.specs.Plain.{Name, Formula, Truth, Falsity, Atom, Not, And, Or, Implies, Iff, ProgramRule}
+use Rattle.mcs_system.specs.Plain.{Name, Formula, Atom, ProgramRule}
 use Rattle.mcs_system.specs.Logic.{same_name, is_in, fact_of, without_negation, reduct, satisfies, IsAnswerSet}
 use Rattle.mcs_system.proofs.NameLemmas.{is_in-among, is_in-filter, is_in_flat_map}
 use Rattle.mcs_system.proofs.Sameness.{same_name-is, same_name-itself}
@@ -21,34 +21,16 @@ facts hs = filter_map fact_of hs
 
 pub facts_among : (hs : List Formula) (r : ProgramRule) → IsAmong r (facts hs) → (n : Name) × IsAmong (Atom n) hs × (r ≡ fact n)
 facts_among [] r among = absurd among
-facts_among (Truth ∷ hs) r among = let (n, there, is) = facts_among hs r among in (n, inr there, is)
-facts_among (Falsity ∷ hs) r among = let (n, there, is) = facts_among hs r among in (n, inr there, is)
 facts_among (Atom n ∷ hs) r (inl same) = (n, inl refl, same)
 facts_among (Atom m ∷ hs) r (inr among) = let (n, there, is) = facts_among hs r among in (n, inr there, is)
-facts_among (Not f ∷ hs) r among = let (n, there, is) = facts_among hs r among in (n, inr there, is)
-facts_among (And f g ∷ hs) r among = let (n, there, is) = facts_among hs r among in (n, inr there, is)
-facts_among (Or f g ∷ hs) r among = let (n, there, is) = facts_among hs r among in (n, inr there, is)
-facts_among (Implies f g ∷ hs) r among = let (n, there, is) = facts_among hs r among in (n, inr there, is)
-facts_among (Iff f g ∷ hs) r among = let (n, there, is) = facts_among hs r among in (n, inr there, is)
+facts_among (f ∷ hs) r among = let (n, there, is) = facts_among hs r among in (n, inr there, is)
 
 pub among_facts : (hs : List Formula) (n : Name) → IsAmong (Atom n) hs → IsAmong (fact n) (facts hs)
 among_facts [] n among = absurd among
-among_facts (Truth ∷ hs) n (inl e) = cc
-among_facts (Truth ∷ hs) n (inr later) = among_facts hs n later
-among_facts (Falsity ∷ hs) n (inl e) = cc
-among_facts (Falsity ∷ hs) n (inr later) = among_facts hs n later
 among_facts (Atom m ∷ hs) n (inl e) = inl (let same : n ≡ m = cc in ap fact same)
 among_facts (Atom m ∷ hs) n (inr later) = inr (among_facts hs n later)
-among_facts (Not f ∷ hs) n (inl e) = cc
-among_facts (Not f ∷ hs) n (inr later) = among_facts hs n later
-among_facts (And f g ∷ hs) n (inl e) = cc
-among_facts (And f g ∷ hs) n (inr later) = among_facts hs n later
-among_facts (Or f g ∷ hs) n (inl e) = cc
-among_facts (Or f g ∷ hs) n (inr later) = among_facts hs n later
-among_facts (Implies f g ∷ hs) n (inl e) = cc
-among_facts (Implies f g ∷ hs) n (inr later) = among_facts hs n later
-among_facts (Iff f g ∷ hs) n (inl e) = cc
-among_facts (Iff f g ∷ hs) n (inr later) = among_facts hs n later
+among_facts (f ∷ hs) n (inl e) = cc
+among_facts (f ∷ hs) n (inr later) = among_facts hs n later
 
 -- ---- small facts
 pub one_head : (r : ProgramRule) → has_one_head r ≡ true → (h : Name) × (r.head ≡ h ∷ [])

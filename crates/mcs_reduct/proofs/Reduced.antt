@@ -6,8 +6,8 @@ use Rattle.std.proofs.lemmas.Option.{slice_get_within}
 use Rattle.mcs_sets.specs.Sets.{has, single, such_that, Within}
 use Rattle.mcs_sets.proofs.SetLemmas.{has-empty, has-single}
 use Rattle.mcs_base.proofs.Lists.{slice_get-map_some, slice_get_below, map_slice_get}
-use Rattle.mcs_system.specs.Plain.{Formula, Kb, Classical, DefaultTheory, Program, Context, Bridge, System}
-use Rattle.mcs_system.specs.Logic.{BeliefSet, Theory, Atoms, Accepts, with_heads}
+use Rattle.mcs_system.specs.Plain.{Formula, Kb, Program, Context, Bridge, System}
+use Rattle.mcs_system.specs.Logic.{BeliefSet, Atoms, Accepts, with_heads}
 use Rattle.mcs_system.specs.Systems.{all_rules, heads_from, heads_into, AcceptsWith, Applies, IsEquilibrium}
 use Rattle.mcs_system.proofs.MarkLemmas.{has-all_rules}
 use Rattle.mcs_reduct.specs.Reducts.{names_believed, kb_reduct, reduced_contexts, positive_part, reduced_system, AreUnblocked, IsReductEquilibrium}
@@ -69,10 +69,8 @@ reduct_accepts m s i x c b e is own = (
 
 -- by itself, a belief set is accepted where it is without the reduct
 pub accepted_again : (kb : Kb) (hs : List Formula) (b : BeliefSet) → Accepts (with_heads (kb_reduct (names_believed b) kb) hs) b ↔ Accepts (with_heads kb hs) b
-accepted_again (Classical fs) hs b = (λ h. h, λ h. h)
-accepted_again (DefaultTheory items) hs b = (λ h. h, λ h. h)
-accepted_again (Program rules) hs (Theory fs) = (λ h. h, λ h. h)
 accepted_again (Program rules) hs (Atoms a) = answer_again a rules hs
+accepted_again kb hs b = (λ h. h, λ h. h)
 
 -- the same of a context of a system
 pub accepts_again : (m : System) (s : List BeliefSet) (i x : ℕ) (b : BeliefSet) → slice_get s i ≡ Some b → AcceptsWith (reduced_system m s) i x b ↔ AcceptsWith m i x b

@@ -1,7 +1,7 @@
 -- Systems of classical contexts and normal programs.
 use Rattle.std.specs.Prelude.{◌≡◌, ℕ, ◌<◌, nat_eq, Bool, true, false, IsTrue, length, Some, slice_get}
 use Rattle.std.specs.List.{list_all}
-use Rattle.mcs_system.specs.Plain.{ProgramRule, Kb, Classical, DefaultTheory, Program, Context, System}
+use Rattle.mcs_system.specs.Plain.{ProgramRule, Kb, Classical, Program, Context, System}
 
 -- the rule has exactly one head name: a constraint has none, and a disjunction has more, also where it names one twice
 abbrev pub has_one_head : ProgramRule → Bool
@@ -10,8 +10,8 @@ has_one_head r = nat_eq (length r.head) 1
 -- classical, or a program each of whose rules has exactly one head name
 abbrev pub is_plain : Kb → Bool
 is_plain (Classical formulas) = true
-is_plain (DefaultTheory items) = false
 is_plain (Program rules) = list_all has_one_head rules
+is_plain kb = false
 
 -- each context of the system is plain
 abbrev pub IsPlain : System → Type 0

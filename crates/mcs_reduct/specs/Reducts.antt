@@ -2,7 +2,7 @@
 use Rattle.std.specs.Prelude.{◌≡◌, ℕ, ◌+◌, cond, IsTrue, ◌↔◌, List, [], ◌∷◌, map, Some, slice_get}
 use Rattle.std.specs.List.{AllByRecursion}
 use Rattle.mcs_sets.specs.Sets.{has, Within}
-use Rattle.mcs_system.specs.Plain.{Name, Kb, Classical, DefaultTheory, Program, Context, Bridge, System}
+use Rattle.mcs_system.specs.Plain.{Name, Kb, Program, Context, Bridge, System}
 use Rattle.mcs_system.specs.Logic.{BeliefSet, Theory, Atoms, reduct}
 use Rattle.mcs_system.specs.Systems.{BelievesIn, IsEquilibrium, all_rules}
 
@@ -13,9 +13,8 @@ names_believed (Atoms names) = names
 
 -- a program becomes its reduct by the names (Gelfond and Lifschitz 1988); other knowledge bases stay
 abbrev pub kb_reduct : List Name → Kb → Kb
-kb_reduct names (Classical formulas) = Classical formulas
-kb_reduct names (DefaultTheory items) = DefaultTheory items
 kb_reduct names (Program rules) = Program (reduct names rules)
+kb_reduct names kb = kb
 
 -- each context with its program reduced by its own belief set; a context without a belief set stays
 abbrev pub reduced_contexts : List Context → List BeliefSet → List Context

@@ -20,8 +20,8 @@ fn is_plain(kb: &Kb) -> bool
 {
     match kb {
         Kb::Classical(_) => true,
-        Kb::DefaultTheory(_) => false,
         Kb::Program(rules) => rules.iter().all(|rule| has_one_head(rule)),
+        _ => false,
     }
 }
 

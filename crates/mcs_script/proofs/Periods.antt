@@ -6,8 +6,9 @@ use Rattle.std.proofs.lemmas.Bool.{eqb-false}
 use Rattle.mcs_base.proofs.Each.{all_append}
 use Rattle.mcs_system.specs.Plain.{Name}
 use Rattle.mcs_tokens.specs.Tokens.{is_number}
-use Rattle.mcs_grammar.specs.Written.{Written, True', False', Named, Denied, Grouped, Both, Either, Leads, Equals, HasNames, IsNameWord, IsPlace, IsWeight, WrittenPlace, WrittenRead, WrittenMarks, WrittenBridge, IsWrittenBridge}
-use Rattle.mcs_grammar.specs.Entries.{Token, Use, BeginsBridge, NamesBridge, NamesTarget, NamesSource, EndsRead, BeginsBelief, Entry, entry, with_first, with_last, optional, size_of, formula_entries, whole_entries, formula_in, place_entries, read_entries, further_read, reads_entries, weight_entries, mark_entries, bridge_entries, tokens_of}
+use Rattle.mcs_grammar.specs.Written.{Written, True', False', Named, Prefixed, Grouped, Joins, HasNames, IsNameWord, IsPlace, IsWeight, WrittenPlace, WrittenRead, WrittenMarks, WrittenBridge, IsWrittenBridge}
+use Rattle.mcs_grammar.specs.Entries.{Token, prefix_sign, joint_sign, Use, BeginsBridge, NamesBridge, NamesTarget, NamesSource, EndsRead, BeginsBelief, Entry, entry, with_first, with_last, optional, size_of, formula_entries, whole_entries, formula_in, place_entries, read_entries, further_read, reads_entries, weight_entries, mark_entries, bridge_entries, tokens_of}
+use Rattle.mcs_account.proofs.Signs.{prefix-no-period, joint-no-period}
 use Rattle.mcs_script.specs.Edits.{WrittenEdit, Adds, Drops, Lists, IsWrittenEdit, edit_entries}
 
 abbrev period : Token
@@ -46,12 +47,9 @@ formula-plain : (c : Name) (n opened : ℕ) (f : Written) → HasNames f → Pla
 formula-plain c n opened True' h = (word (codes "true") refl, tt)
 formula-plain c n opened False' h = (word (codes "false") refl, tt)
 formula-plain c n opened (Named a) h = (name a h, tt)
-formula-plain c n opened (Denied f) h = (word (codes "~") refl, formula-plain c (n + 1) opened f h)
+formula-plain c n opened (Prefixed p f) h = (word (prefix_sign p) (prefix-no-period p), formula-plain c (n + 1) opened f h)
 formula-plain c n opened (Grouped f) h = (word (codes "(") refl, all_append _ (formula_entries c n (opened + 1) f) (entry (codes ")") [] ∷ []) (formula-plain c n (opened + 1) f h) (word (codes ")") refl, tt))
-formula-plain c n opened (Both f g) h = all_append _ (formula_entries c n opened f) _ (formula-plain c n opened f h.0) (word (codes "&") refl, formula-plain c (n + size_of f + 1) opened g h.1)
-formula-plain c n opened (Either f g) h = all_append _ (formula_entries c n opened f) _ (formula-plain c n opened f h.0) (word (codes "|") refl, formula-plain c (n + size_of f + 1) opened g h.1)
-formula-plain c n opened (Leads f g) h = all_append _ (formula_entries c n opened f) _ (formula-plain c n opened f h.0) (word (codes "->") refl, formula-plain c (n + size_of f + 1) opened g h.1)
-formula-plain c n opened (Equals f g) h = all_append _ (formula_entries c n opened f) _ (formula-plain c n opened f h.0) (word (codes "<->") refl, formula-plain c (n + size_of f + 1) opened g h.1)
+formula-plain c n opened (Joins j f g) h = all_append _ (formula_entries c n opened f) _ (formula-plain c n opened f h.0) (word (joint_sign j) (joint-no-period j), formula-plain c (n + size_of f + 1) opened g h.1)
 
 place-plain : (role : Use) (p : WrittenPlace) → IsPlace p → Plain (place_entries role p)
 place-plain role p h = (name p.context h.0, (word (codes ":") refl, first-plain (BeginsBelief p.context ∷ []) (whole_entries p.context p.belief) (formula-plain p.context 0 0 p.belief h.1.1)))

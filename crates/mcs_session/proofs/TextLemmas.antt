@@ -1,6 +1,6 @@
 -- No two keys have one text.
-use Rattle.std.proofs.Common.{◌≡◌, ℕ, false, eqb, eq-eqb, List, [], ◌∷◌, ◌++◌, length, refl, sym, ap, ap₂, ◌∙◌, arith, true≢false, append_assoc, append-nil}
-use Rattle.mcs_system.specs.Plain.{Formula, Truth, Falsity, Atom, Not, And, Or, Implies, Iff}
+use Rattle.std.proofs.Common.{◌≡◌, ◌≤◌, ℕ, false, eqb, eq-eqb, List, [], ◌∷◌, ◌++◌, length, refl, sym, ap, ap₂, ◌∙◌, arith, true≢false, append_assoc, append-nil}
+use Rattle.mcs_system.specs.Plain.{Formula, Connective, Conjunction, Disjunction, Implication, Equivalence, Truth, Falsity, Atom, Not, Joined, And, Or, Implies, Iff}
 use Rattle.mcs_session.specs.Keys.{Key}
 use Rattle.mcs_session.specs.KeyTexts.{formula_text, formulas_text}
 use Rattle.mcs_session.specs.Laws.{NoTwoKeysHaveOneText}
@@ -36,6 +36,20 @@ joined_apart c f f' g g' one two r s e =
     let b = two r s a.1 in
     (ap₂ c a.0 b.0, b.1)
 
+-- a formula of two parts begins with a number that no other has
+joined_late : (c : Connective) (f g : Formula) (r : List ℕ) → 4 ≤ first (formula_text (Joined c f g) ++ r)
+unfolding first
+joined_late Conjunction f g r = omega (arith)
+joined_late Disjunction f g r = omega (arith)
+joined_late Implication f g r = omega (arith)
+joined_late Equivalence f g r = omega (arith)
+
+not_joined : (x : List ℕ) (c : Connective) (f g : Formula) (r : List ℕ) → first x ≤ 3 → x ≡ formula_text (Joined c f g) ++ r → ⊥
+not_joined x c f g r small e =
+    let late = joined_late c f g r in
+    let same : first x ≡ first (formula_text (Joined c f g) ++ r) = ap first e in
+    omega (arith, small, late, same)
+
 pub formula_apart : (f g : Formula) (r s : List ℕ) → formula_text f ++ r ≡ formula_text g ++ s → (f ≡ g) × (r ≡ s)
 unfolding first after IsApart
 formula_apart Truth Truth r s e = (refl, ap after e)
@@ -46,6 +60,14 @@ formula_apart (And f f') (And g g') r s e = joined_apart (λ x y. And x y) f f' 
 formula_apart (Or f f') (Or g g') r s e = joined_apart (λ x y. Or x y) f f' g g' (formula_apart f g) (formula_apart f' g') r s (ap after e)
 formula_apart (Implies f f') (Implies g g') r s e = joined_apart (λ x y. Implies x y) f f' g g' (formula_apart f g) (formula_apart f' g') r s (ap after e)
 formula_apart (Iff f f') (Iff g g') r s e = joined_apart (λ x y. Iff x y) f f' g g' (formula_apart f g) (formula_apart f' g') r s (ap after e)
+formula_apart Truth (Joined c g g') r s e = absurd (not_joined (formula_text Truth ++ r) c g g' s (omega (arith)) e)
+formula_apart (Joined c f f') Truth r s e = absurd (not_joined (formula_text Truth ++ s) c f f' r (omega (arith)) (sym e))
+formula_apart Falsity (Joined c g g') r s e = absurd (not_joined (formula_text Falsity ++ r) c g g' s (omega (arith)) e)
+formula_apart (Joined c f f') Falsity r s e = absurd (not_joined (formula_text Falsity ++ s) c f f' r (omega (arith)) (sym e))
+formula_apart (Atom m) (Joined c g g') r s e = absurd (not_joined (formula_text (Atom m) ++ r) c g g' s (omega (arith)) e)
+formula_apart (Joined c f f') (Atom n) r s e = absurd (not_joined (formula_text (Atom n) ++ s) c f f' r (omega (arith)) (sym e))
+formula_apart (Not f) (Joined c g g') r s e = absurd (not_joined (formula_text (Not f) ++ r) c g g' s (omega (arith)) e)
+formula_apart (Joined c f f') (Not g) r s e = absurd (not_joined (formula_text (Not g) ++ s) c f f' r (omega (arith)) (sym e))
 formula_apart f g r s e = absurd (differ (first (formula_text f ++ r)) (first (formula_text g ++ s)) refl (ap first e))
 
 pub formulas_apart : (fs gs : List Formula) (r s : List ℕ) → formulas_text fs ++ r ≡ formulas_text gs ++ s → (fs ≡ gs) × (r ≡ s)

@@ -2,7 +2,7 @@
 use Rattle.std.proofs.Common.{◌≡◌, ℕ, ◌+◌, Bool, true, false, cond, List, [], ◌∷◌, ◌++◌, map, Some, None, slice_get, refl, sym, ◌∙◌, subst}
 use Rattle.std.specs.Prelude.{Option, option_to_list}
 use Rattle.mcs_base.proofs.Each.{all_left, all_push, all_right, all_weaker}
-use Rattle.mcs_system.specs.Plain.{Name, Formula, Item, Fact, Kb, Classical, DefaultTheory, Program, Context, System}
+use Rattle.mcs_system.specs.Plain.{Name, Formula, Item, Fact, ClassicalKind, DefaultKind, Kb, OfKind, Context, System}
 use Rattle.mcs_system.specs.Atoms.{atoms_of}
 use Rattle.mcs_system.specs.Systems.{variables_of, heads_into}
 use Rattle.mcs_system.specs.Views.{beliefs_at}
@@ -49,15 +49,10 @@ base_of names items xs base is ys same = same_base names items xs ys base same i
 -- ---- what is kept
 module _ (names : List Name) (heads heads' : ℕ → List Formula) (beliefs : List Formula) (same : (set : ℕ) → heads set ≡ heads' set) where
   pub made_for : (kb : Kb) (known : Option Known) → IsMadeOf names kb heads beliefs known → IsMadeOf names kb heads' beliefs known
-  made_for (Classical fs) None made = made
-  made_for (Classical fs) (Some (variants.Classical clauses found)) made = (made.0, λ xs is. made.1 xs (λ set. is set ∙ sym (same set)))
-  made_for (Classical fs) (Some (variants.Certified clauses)) made = made
-  made_for (Classical fs) (Some (variants.Theory base)) made = tt
-  made_for (DefaultTheory items) None made = tt
-  made_for (DefaultTheory items) (Some (variants.Classical clauses found)) made = tt
-  made_for (DefaultTheory items) (Some (variants.Certified clauses)) made = tt
-  made_for (DefaultTheory items) (Some (variants.Theory base)) made = λ xs is. made xs (λ set. is set ∙ sym (same set))
-  made_for (Program rules) known made = tt
+  made_for (OfKind ClassicalKind fs) (Some (variants.Classical clauses found)) made = (made.0, λ xs is. made.1 xs (λ set. is set ∙ sym (same set)))
+  made_for (OfKind ClassicalKind fs) (Some (variants.Certified clauses)) made = made
+  made_for (OfKind DefaultKind items) (Some (variants.Theory base)) made = λ xs is. made xs (λ set. is set ∙ sym (same set))
+  made_for kb known made = tt
 
 pub made_there : (m : System) (i : ℕ) (d : Context) (known : Option Known) → slice_get m.contexts i ≡ Some d → IsMadeOf (atoms_of m i) d.kb (heads_into m i) (beliefs_at m (variables_of m i)) known → IsMadeOfContext m i known
 made_there m i d known is made c is' =
@@ -77,9 +72,8 @@ module _ (m : System) (i : ℕ) (d : Context) (names : List Name) (xs : List Ass
 
 -- ---- what others have found
 none_made : (names : List Name) (kb : Kb) (heads : ℕ → List Formula) (beliefs : List Formula) → IsMadeOf names kb heads beliefs None
-none_made names (Classical fs) heads beliefs = tt
-none_made names (DefaultTheory items) heads beliefs = tt
-none_made names (Program rules) heads beliefs = tt
+none_made names (OfKind ClassicalKind fs) heads beliefs = tt
+none_made names kb heads beliefs = tt
 
 module _ (m : System) (i : ℕ) where
   -- nothing is right of every context

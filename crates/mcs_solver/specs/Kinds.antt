@@ -1,7 +1,7 @@
 -- What is kept of a knowledge base.
-use Rattle.std.specs.Prelude.{◌≡◌, ℕ, List, Option, Some, None, slice_get}
+use Rattle.std.specs.Prelude.{◌≡◌, ℕ, List, Option, Some, slice_get}
 use Rattle.std.specs.List.{AllByRecursion}
-use Rattle.mcs_system.specs.Plain.{Name, Formula, Item, Kb, Classical, DefaultTheory, Program, Context, System}
+use Rattle.mcs_system.specs.Plain.{Name, Formula, Item, ClassicalKind, DefaultKind, Kb, OfKind, Context, System}
 use Rattle.mcs_system.specs.Atoms.{atoms_of}
 use Rattle.mcs_system.specs.Systems.{variables_of, heads_into}
 use Rattle.mcs_system.specs.Views.{beliefs_at}
@@ -35,15 +35,10 @@ IsMadeOfItems names items heads base = (assumptions : List declared.Assumption)
 
 -- ---- what is kept, if anything, of a knowledge base that is told heads by sets of rules, and asked for beliefs
 abbrev pub IsMadeOf : List Name → Kb → (ℕ → List Formula) → List Formula → Option known.Known → Type 0
-IsMadeOf names (Classical formulas) heads beliefs None = Unit {0}
-IsMadeOf names (Classical formulas) heads beliefs (Some (variants.Classical clauses found)) = IsMadeOfFormulas names formulas heads beliefs clauses found
-IsMadeOf names (Classical formulas) heads beliefs (Some (variants.Certified clauses)) = clauses ≡ clause_list names formulas
-IsMadeOf names (Classical formulas) heads beliefs (Some (variants.Theory base)) = Unit {0}
-IsMadeOf names (DefaultTheory items) heads beliefs None = Unit {0}
-IsMadeOf names (DefaultTheory items) heads beliefs (Some (variants.Classical clauses found)) = Unit {0}
-IsMadeOf names (DefaultTheory items) heads beliefs (Some (variants.Certified clauses)) = Unit {0}
-IsMadeOf names (DefaultTheory items) heads beliefs (Some (variants.Theory base)) = IsMadeOfItems names items heads base
-IsMadeOf names (Program rules) heads beliefs known = Unit {0}
+IsMadeOf names (OfKind ClassicalKind formulas) heads beliefs (Some (variants.Classical clauses found)) = IsMadeOfFormulas names formulas heads beliefs clauses found
+IsMadeOf names (OfKind ClassicalKind formulas) heads beliefs (Some (variants.Certified clauses)) = clauses ≡ clause_list names formulas
+IsMadeOf names (OfKind DefaultKind items) heads beliefs (Some (variants.Theory base)) = IsMadeOfItems names items heads base
+IsMadeOf names kb heads beliefs known = Unit {0}
 
 -- the same of a context of a system
 abbrev pub IsMadeOfContext : System → ℕ → Option known.Known → Type 0

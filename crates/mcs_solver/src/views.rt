@@ -5,7 +5,7 @@ ghost use Rattle.std.specs.Prelude.{OnOk, IsTrue, ◌↔◌};
 ghost use Rattle.std.specs.List.{AllByRecursion};
 ghost use Rattle.mcs_sets.specs.Orders.{StateBefore};
 ghost use Rattle.mcs_base.specs.Listings.{IsListing};
-ghost use Rattle.mcs_system.specs.Faults.{is_atom, default_count};
+ghost use Rattle.mcs_system.specs.Faults.{is_atom};
 ghost use Rattle.mcs_system.specs.Plain.{Classical, DefaultTheory, Program};
 ghost use Rattle.mcs_system.specs.Plain as plain;
 ghost use Rattle.mcs_system.specs.Seen.{formula_of, item_of, rule_of, kb_of};
@@ -16,7 +16,7 @@ ghost use Rattle.mcs_meant.specs.Meanings.{AreMeantBy};
 ghost use Rattle.mcs_evidence.specs.Defaults.{AreOverItems, defaults_of};
 ghost use Rattle.mcs_evidence.specs.Programs.{AreOverRules};
 ghost use Rattle.mcs_asking.specs.Certificates.{IsAcceptedFor};
-ghost use Rattle.mcs_asking.specs.Kinds.{IsOverKb, AreOfKind};
+ghost use Rattle.mcs_asking.specs.Kinds.{part_count, IsOverKb, AreOfKind};
 ghost use Rattle.mcs_keeping.specs.Certified.{IsCertified};
 ghost use Rattle.mcs_solver.specs.Kinds.{IsMadeOf, IsMadeOfFormulas, IsMadeOfItems};
 ghost use Rattle.mcs_solver.specs.Questions.{asked_names, asked_beliefs, asked_heads, AreAnswer};
@@ -403,7 +403,7 @@ pub(crate) fn accepted_views(
     kb: &Kb,
     question: &Question<'_>,
 ) -> Result<(Vec<Vars>, Option<AnswerCert>), Memory>
-    requires few_defaults { default_count (kb_of kb.now) ≤ 10 }
+    requires few_parts { part_count (kb_of kb.now) ≤ 10 }
     requires kb { IsOverKb (asked_names question.now) (kb_of kb.now) }
     requires heads { AreOfKind (kb_of kb.now) (asked_heads question.now) }
     requires beliefs { AreOfKind (kb_of kb.now) (asked_beliefs question.now) }

@@ -1,10 +1,11 @@
 -- Consequence is decided, since only the atoms that occur matter.
-use Rattle.std.proofs.Common.{◌≡◌, Bool, true, false, not, ◌||◌, List, [], ◌∷◌, ◌++◌, map, filter, cond, refl, sym, ap, ◌∙◌, inl, inr, ◌⊎◌, arith, IsTrue, true≢false}
+use Rattle.std.proofs.Common.{◌≡◌, Bool, true, false, not, ◌||◌, List, [], ◌∷◌, ◌++◌, map, filter, cond, refl, sym, ap, ap₂, ◌∙◌, inl, inr, ◌⊎◌, arith, IsTrue, true≢false}
 use Rattle.std.proofs.lemmas.Bool.{and_parts}
 use Rattle.std.proofs.lemmas.Bool.Decides.{nat_tests}
 use Rattle.std.proofs.lemmas.List.Folds.{list_any-append, list_all-append, list_all-map}
 use Rattle.std.specs.List.{list_all}
-use Rattle.mcs_system.specs.Plain.{Name, Formula, Truth, Falsity, Atom, Not, And, Or, Implies, Iff}
+use Rattle.mcs_system.specs.Trees.{Truth, Falsity, Atom, Not, Joined, joined_value}
+use Rattle.mcs_system.specs.Plain.{Name, Formula}
 use Rattle.mcs_system.specs.Logic.{atoms, all_atoms, same_name, is_in, holds, holds_all, Entails}
 use Rattle.mcs_system.proofs.Sameness.{same_name-itself}
 use Rattle.mcs_system.proofs.NameLemmas.{is_in_left, is_in_right, is_in-filter}
@@ -30,10 +31,7 @@ same_truth a b Truth same = refl
 same_truth a b Falsity same = refl
 same_truth a b (Atom n) same = same n (rw (same_name-itself n) refl)
 same_truth a b (Not f) same = ap not (same_truth a b f same)
-same_truth a b (And f g) same = rw (same_truth a b f (agree_left (atoms f) (atoms g) a b same), same_truth a b g (agree_right (atoms f) (atoms g) a b same)) refl
-same_truth a b (Or f g) same = rw (same_truth a b f (agree_left (atoms f) (atoms g) a b same), same_truth a b g (agree_right (atoms f) (atoms g) a b same)) refl
-same_truth a b (Implies f g) same = rw (same_truth a b f (agree_left (atoms f) (atoms g) a b same), same_truth a b g (agree_right (atoms f) (atoms g) a b same)) refl
-same_truth a b (Iff f g) same = rw (same_truth a b f (agree_left (atoms f) (atoms g) a b same), same_truth a b g (agree_right (atoms f) (atoms g) a b same)) refl
+same_truth a b (Joined c f g) same = ap₂ (joined_value c) (same_truth a b f (agree_left (atoms f) (atoms g) a b same)) (same_truth a b g (agree_right (atoms f) (atoms g) a b same))
 
 pub same_truths : (a b : List Name) (fs : List Formula) → Agree (all_atoms fs) a b → holds_all a fs ≡ holds_all b fs
 same_truths a b [] same = refl

@@ -15,6 +15,8 @@ pub mod BuildLemmas
 pub mod MarkLemmas
 pub mod MarkParts
 pub mod NameLemmas
+pub mod KindItems
+pub mod TreeLemmas
 pub mod ContextSets
 pub mod Deciding
 pub mod Tables

@@ -6,51 +6,24 @@ use Rattle.mcs_sets.specs.Sets.{has, members}
 use Rattle.mcs_base.specs.Listings.{IsAmong}
 use Rattle.mcs_base.proofs.Among.{among_get, filter_among, flat_map_among, none_any, none_get, map_among}
 use Rattle.mcs_base.proofs.Each.{all_from_among, all_from_no_any}
-use Rattle.mcs_system.specs.Plain.{Formula, Default, ProgramRule, Item, Fact, Rule, Kb, Classical, DefaultTheory, Program, Context, Read, Bridge, System}
+use Rattle.mcs_system.specs.Plain.{Formula, Kb, OfKind, Context, Read, Bridge, System}
+use Rattle.mcs_system.specs.Kinds.{is_large_in}
 use Rattle.mcs_system.specs.Seen.{formula_size}
 use Rattle.mcs_system.specs.Systems.{context_variables, variables, occurrences, heads_from, heads_into}
 use Rattle.mcs_system.specs.Views.{belief_of, belief_at, beliefs_at}
 use Rattle.mcs_system.specs.declared.limit.Limit.TheVariants.{ItemsPerContext, FormulaSize}
-use Rattle.mcs_system.specs.Faults.{reads_of, item_count, is_large, has_large_formula, is_large_rule, has_large_item, has_large_part, exceeds, IsValid}
+use Rattle.mcs_system.specs.Faults.{reads_of, item_count, is_large, has_large_item, has_large_part, exceeds, IsValid}
+pub use Rattle.mcs_system.proofs.KindItems.{IsSmall, IsSmallDefault, IsSmallItem, IsSmallRule, IsSmallIn}
+use Rattle.mcs_system.proofs.KindItems.{small, small_in}
 use Rattle.mcs_system.proofs.ValidLemmas.{limit_kept, few_bridges}
 use Rattle.mcs_system.proofs.VariableLemmas.{firsts_among}
 
--- ---- what is small
-abbrev pub IsSmall : Formula → Type 0
-IsSmall f = formula_size f ≤ 512
-
-pub record IsSmallDefault (d : Default) : Type 0 where
-  pub pre : IsSmall d.pre
-  pub justs : AllByRecursion IsSmall d.justs
-  pub conclusion : IsSmall d.conclusion
-
-abbrev pub IsSmallItem : Item → Type 0
-IsSmallItem (Fact f) = IsSmall f
-IsSmallItem (Rule d) = IsSmallDefault d
-
-abbrev pub IsSmallRule : ProgramRule → Type 0
-IsSmallRule r = length r.head + (length r.pos + length r.neg) ≤ 512
-
+-- ---- items
 abbrev pub IsSmallKb : Kb → Type 0
-IsSmallKb (Classical formulas) = AllByRecursion IsSmall formulas
-IsSmallKb (DefaultTheory items) = AllByRecursion IsSmallItem items
-IsSmallKb (Program rules) = AllByRecursion IsSmallRule rules
-
--- ---- by the tests
-small : (f : Formula) → is_large f ≡ false → IsSmall f
-small f e = ltb-false 512 (formula_size f) e
-
-small_item : (item : Item) → has_large_formula item ≡ false → IsSmallItem item
-small_item (Fact f) e = small f e
-small_item (Rule d) e =
-    let first = or_parts (is_large d.pre) _ e in
-    let rest = or_parts (list_any is_large d.justs) (is_large d.conclusion) first.1 in
-    record { pre = small d.pre first.0; justs = all_from_no_any IsSmall is_large small d.justs rest.0; conclusion = small d.conclusion rest.1 }
+IsSmallKb (OfKind k items) = AllByRecursion (IsSmallIn k) items
 
 small_kb_by : (kb : Kb) → has_large_item kb ≡ false → IsSmallKb kb
-small_kb_by (Classical formulas) e = all_from_no_any IsSmall is_large small formulas e
-small_kb_by (DefaultTheory items) e = all_from_no_any IsSmallItem has_large_formula small_item items e
-small_kb_by (Program rules) e = all_from_no_any IsSmallRule is_large_rule (λ r e'. ltb-false 512 (length r.head + (length r.pos + length r.neg)) e') rules e
+small_kb_by (OfKind k items) e = all_from_no_any (IsSmallIn k) (is_large_in k) (small_in k) items e
 
 -- ---- heads of rules
 heads_from_each : (P : Formula → Type 0) (k : ℕ) (bs : List Bridge) (i x : ℕ) → AllByRecursion (λ (b : Bridge). P b.head) bs

@@ -2,26 +2,14 @@
 use Rattle.std.specs.Prelude.{ℕ, List, [], ◌++◌, map, filter, Option, Some, None, slice_get, nat_eq}
 use Rattle.std.specs.List.{flat_map}
 use Rattle.mcs_base.specs.Listings.{firsts}
-use Rattle.mcs_system.specs.Plain.{Name, Formula, Default, ProgramRule, Item, Fact, Rule, Kb, Classical, DefaultTheory, Program, Context, Read, Bridge, System}
+use Rattle.mcs_system.specs.Plain.{Name, Formula, Kb, OfKind, Context, Read, Bridge, System}
+pub use Rattle.mcs_system.specs.Items.{default_atoms, item_atoms, rule_atoms}
+use Rattle.mcs_system.specs.Kinds.{atoms_in}
 use Rattle.mcs_system.specs.Logic.{same_name, atoms}
 use Rattle.mcs_system.specs.Systems.{context_variables}
 
--- of a default: prerequisite, justifications, conclusion
-abbrev pub default_atoms : Default → List Name
-default_atoms d = atoms d.pre ++ (flat_map atoms d.justs ++ atoms d.conclusion)
-
-abbrev pub item_atoms : Item → List Name
-item_atoms (Fact f) = atoms f
-item_atoms (Rule d) = default_atoms d
-
--- of a rule: head, positive body, negative body
-abbrev pub rule_atoms : ProgramRule → List Name
-rule_atoms r = r.head ++ (r.pos ++ r.neg)
-
 abbrev pub kb_atoms : Kb → List Name
-kb_atoms (Classical fs) = flat_map atoms fs
-kb_atoms (DefaultTheory is) = flat_map item_atoms is
-kb_atoms (Program rs) = flat_map rule_atoms rs
+kb_atoms (OfKind k items) = flat_map (atoms_in k) items
 
 abbrev pub own_atoms : Option Context → List Name
 own_atoms None = []

@@ -1,10 +1,11 @@
 -- Formulas that pass the test of sameness are equal, so the test is an equivalence.
-use Rattle.std.specs.Prelude.{◌≡◌, true, ◌&&◌}
+use Rattle.std.specs.Prelude.{◌≡◌, Bool, true, ◌&&◌}
 use Rattle.std.specs.Cmp.{IsPartialEquivalence, both_ways}
 use Rattle.std.proofs.Common.{refl, sym, ap, ap₂, ◌∙◌, true≢false}
 use Rattle.std.proofs.lemmas.Bool.{and_parts, and_from}
 use Rattle.std.proofs.lemmas.Slice.Eq.{bytes_eq-Decides}
-use Rattle.mcs_system.specs.Plain.{Name, Formula, Truth, Falsity, Atom, Not, And, Or, Implies, Iff}
+use Rattle.mcs_system.specs.Trees.{Connective, Conjunction, Disjunction, Implication, Equivalence, Tree, Truth, Falsity, Atom, Not, Joined, same_connective, same_tree}
+use Rattle.mcs_system.specs.Plain.{Name, Formula}
 use Rattle.mcs_system.specs.Logic.{same_name}
 use Rattle.mcs_system.specs.Systems.{same_formula}
 
@@ -14,29 +15,46 @@ same_name-is x y e = (bytes_eq-Decides x y).0 e
 pub same_name-itself : (x : Name) → same_name x x ≡ true
 same_name-itself x = (bytes_eq-Decides x x).1 refl
 
-parts_are : (c : Formula → Formula → Formula) (f f' g g' : Formula) → (same_formula f g ≡ true → f ≡ g) → (same_formula f' g' ≡ true → f' ≡ g') → (same_formula f g && same_formula f' g') ≡ true → c f f' ≡ c g g'
-parts_are c f f' g g' is is' e = let parts = and_parts (same_formula f g) (same_formula f' g') e in ap₂ c (is parts.0) (is' parts.1)
+same_connective-is : (c d : Connective) → same_connective c d ≡ true → c ≡ d
+same_connective-is Conjunction Conjunction e = refl
+same_connective-is Disjunction Disjunction e = refl
+same_connective-is Implication Implication e = refl
+same_connective-is Equivalence Equivalence e = refl
+same_connective-is c d e = absurd (true≢false (sym e))
+
+same_connective-itself : (c : Connective) → same_connective c c ≡ true
+same_connective-itself Conjunction = refl
+same_connective-itself Disjunction = refl
+same_connective-itself Implication = refl
+same_connective-itself Equivalence = refl
+
+-- trees of one shape, by a test of leaves
+module _ {A : Type 0} (same : A → A → Bool) where
+  pub same_tree-is : ((x y : A) → same x y ≡ true → x ≡ y) → (t u : Tree A) → same_tree same t u ≡ true → t ≡ u
+  same_tree-is is Truth Truth e = refl
+  same_tree-is is Falsity Falsity e = refl
+  same_tree-is is (Atom x) (Atom y) e = ap (λ z. Atom z) (is x y e)
+  same_tree-is is (Not t) (Not u) e = ap (λ z. Not z) (same_tree-is is t u e)
+  same_tree-is is (Joined c t t') (Joined d u u') e =
+      let first = and_parts (same_connective c d) (same_tree same t u && same_tree same t' u') e in
+      let parts = and_parts (same_tree same t u) (same_tree same t' u') first.1 in
+      ap (λ z. Joined z t t') (same_connective-is c d first.0) ∙ ap₂ (λ x y. Joined d x y) (same_tree-is is t u parts.0) (same_tree-is is t' u' parts.1)
+  same_tree-is is t u e = absurd (true≢false (sym e))
+
+  pub same_tree-itself : ((x : A) → same x x ≡ true) → (t : Tree A) → same_tree same t t ≡ true
+  same_tree-itself itself Truth = refl
+  same_tree-itself itself Falsity = refl
+  same_tree-itself itself (Atom x) = itself x
+  same_tree-itself itself (Not t) = same_tree-itself itself t
+  same_tree-itself itself (Joined c t u) =
+      and_from (same_connective c c) (same_tree same t t && same_tree same u u) (same_connective-itself c)
+      (and_from (same_tree same t t) (same_tree same u u) (same_tree-itself itself t) (same_tree-itself itself u))
 
 pub same_formula-is : (f g : Formula) → same_formula f g ≡ true → f ≡ g
-same_formula-is Truth Truth e = refl
-same_formula-is Falsity Falsity e = refl
-same_formula-is (Atom m) (Atom n) e = ap (λ x. Atom x) (same_name-is m n e)
-same_formula-is (Not f) (Not g) e = ap (λ x. Not x) (same_formula-is f g e)
-same_formula-is (And f f') (And g g') e = parts_are (λ x y. And x y) f f' g g' (same_formula-is f g) (same_formula-is f' g') e
-same_formula-is (Or f f') (Or g g') e = parts_are (λ x y. Or x y) f f' g g' (same_formula-is f g) (same_formula-is f' g') e
-same_formula-is (Implies f f') (Implies g g') e = parts_are (λ x y. Implies x y) f f' g g' (same_formula-is f g) (same_formula-is f' g') e
-same_formula-is (Iff f f') (Iff g g') e = parts_are (λ x y. Iff x y) f f' g g' (same_formula-is f g) (same_formula-is f' g') e
-same_formula-is f g e = absurd (true≢false (sym e))
+same_formula-is f g e = same_tree-is same_name same_name-is f g e
 
 pub same_formula-itself : (f : Formula) → same_formula f f ≡ true
-same_formula-itself Truth = refl
-same_formula-itself Falsity = refl
-same_formula-itself (Atom n) = same_name-itself n
-same_formula-itself (Not f) = same_formula-itself f
-same_formula-itself (And f g) = and_from (same_formula f f) (same_formula g g) (same_formula-itself f) (same_formula-itself g)
-same_formula-itself (Or f g) = and_from (same_formula f f) (same_formula g g) (same_formula-itself f) (same_formula-itself g)
-same_formula-itself (Implies f g) = and_from (same_formula f f) (same_formula g g) (same_formula-itself f) (same_formula-itself g)
-same_formula-itself (Iff f g) = and_from (same_formula f f) (same_formula g g) (same_formula-itself f) (same_formula-itself g)
+same_formula-itself f = same_tree-itself same_name same_name-itself f
 
 pub same_formula-laws : IsPartialEquivalence same_formula
 same_formula-laws = record {

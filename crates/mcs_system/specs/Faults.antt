@@ -1,10 +1,11 @@
 -- Why lists of contexts and bridge rules make no system: the faults, in the order in which they are told.
-use Rattle.std.specs.Prelude.{◌≡◌, ℕ, ◌+◌, Bool, true, false, not, ◌&&◌, ◌||◌, nat_eq, nat_lt, List, [], ◌∷◌, ◌++◌, map, cond, length, count_by, Option, Some, None, slice_get}
+use Rattle.std.specs.Prelude.{◌≡◌, ℕ, Bool, true, false, not, ◌&&◌, ◌||◌, nat_eq, nat_lt, List, [], ◌∷◌, ◌++◌, map, cond, length, count_by, Option, Some, None, slice_get}
 use Rattle.std.specs.List.{list_any, range_with_len}
 use Rattle.mcs_sets.specs.Sets.{size}
-use Rattle.mcs_system.specs.Plain.{Name, Formula, Atom, ProgramRule, Item, Fact, Rule, Kb, Classical, DefaultTheory, Program, Context, Read, Bridge, System}
+use Rattle.mcs_system.specs.Plain.{Name, Formula, Atom, Item, Fact, Rule, Kb, OfKind, DefaultTheory, Program, Context, Read, Bridge, System}
 use Rattle.mcs_system.specs.Logic.{is_in}
-use Rattle.mcs_system.specs.Seen.{formula_size}
+pub use Rattle.mcs_system.specs.Items.{is_large, has_large_formula, is_large_rule}
+use Rattle.mcs_system.specs.Kinds.{is_large_in}
 use Rattle.mcs_system.specs.Systems.{variables}
 use Rattle.mcs_system.specs.Rows.{inputs_of}
 use Rattle.mcs_system.specs.Atoms.{atoms_of}
@@ -56,8 +57,7 @@ is_unjustified (Rule d) = nat_eq (length d.justs) 0
 
 abbrev pub has_unjustified : Kb → Bool
 has_unjustified (DefaultTheory items) = list_any is_unjustified items
-has_unjustified (Classical formulas) = false
-has_unjustified (Program rules) = false
+has_unjustified kb = false
 
 abbrev pub has_misfits : System → Bool
 has_misfits m = list_any (λ (c : Context). has_unjustified c.kb) m.contexts || list_any (has_misfit m.contexts) m.bridges
@@ -69,30 +69,14 @@ is_default (Rule d) = true
 
 abbrev pub default_count : Kb → ℕ
 default_count (DefaultTheory items) = count_by is_default items
-default_count (Classical formulas) = 0
-default_count (Program rules) = 0
+default_count kb = 0
 
 -- formulas, defaults and program rules
 abbrev pub item_count : Kb → ℕ
-item_count (Classical formulas) = length formulas
-item_count (DefaultTheory items) = length items
-item_count (Program rules) = length rules
-
-abbrev pub is_large : Formula → Bool
-is_large f = nat_lt (most FormulaSize) (formula_size f)
-
-abbrev pub has_large_formula : Item → Bool
-has_large_formula (Fact f) = is_large f
-has_large_formula (Rule d) = is_large d.pre || (list_any is_large d.justs || is_large d.conclusion)
-
--- of a program rule the names count
-abbrev pub is_large_rule : ProgramRule → Bool
-is_large_rule r = nat_lt (most FormulaSize) (length r.head + (length r.pos + length r.neg))
+item_count (OfKind k items) = length items
 
 abbrev pub has_large_item : Kb → Bool
-has_large_item (Classical formulas) = list_any is_large formulas
-has_large_item (DefaultTheory items) = list_any has_large_formula items
-has_large_item (Program rules) = list_any is_large_rule rules
+has_large_item (OfKind k items) = list_any (is_large_in k) items
 
 abbrev pub has_large_part : Bridge → Bool
 has_large_part b = is_large b.head || list_any (λ (r : Read). is_large r.belief) (reads_of b)

@@ -1,4 +1,8 @@
+pub mod Trees
 pub mod Plain
+pub mod Items
+pub mod ItemCodes
+pub mod Kinds
 pub mod Naming
 pub mod Seen
 pub mod Denials

@@ -1,10 +1,12 @@
 -- Assignments, consequence, belief sets and what each kind of context accepts.
-use Rattle.std.specs.Prelude.{◌≡◌, ℕ, ◌+◌, cond, Bool, true, false, not, ◌&&◌, ◌||◌, IsTrue, List, [], ◌∷◌, ◌++◌, map, filter}
+use Rattle.std.specs.Prelude.{◌≡◌, ℕ, ◌+◌, cond, Bool, false, not, ◌||◌, IsTrue, List, [], ◌∷◌, ◌++◌, map, filter}
 use Rattle.std.specs.Str.{bytes_eq}
 use Rattle.std.specs.List.{list_any, list_all, AllByRecursion, filter_map, flat_map}
 use Rattle.std.specs.Prelude.{Option, Some, None}
 use Rattle.mcs_sets.specs.Sets.{has}
-use Rattle.mcs_system.specs.Plain.{Name, Formula, Truth, Falsity, Atom, Not, And, Or, Implies, Iff, ProgramRule, Item, Fact, Rule, Kb, Classical, DefaultTheory, Program}
+pub use Rattle.mcs_system.specs.Trees.{both_or_neither}
+use Rattle.mcs_system.specs.Trees.{value, leaves}
+use Rattle.mcs_system.specs.Plain.{Name, Formula, Atom, Not, ProgramRule, Item, Fact, Rule, Kind, ClassicalKind, DefaultKind, ProgramKind, ItemOf, Kb, OfKind, Classical, DefaultTheory, Program}
 
 abbrev pub same_name : Name → Name → Bool
 same_name x y = bytes_eq x y
@@ -13,31 +15,13 @@ same_name x y = bytes_eq x y
 abbrev pub is_in : Name → List Name → Bool
 is_in n names = list_any (same_name n) names
 
-abbrev pub both_or_neither : Bool → Bool → Bool
-both_or_neither true y = y
-both_or_neither false y = not y
-
 -- An assignment is the list of the names that are true.
 abbrev pub holds : List Name → Formula → Bool
-holds a Truth = true
-holds a Falsity = false
-holds a (Atom n) = is_in n a
-holds a (Not f) = not (holds a f)
-holds a (And f g) = holds a f && holds a g
-holds a (Or f g) = holds a f || holds a g
-holds a (Implies f g) = not (holds a f) || holds a g
-holds a (Iff f g) = both_or_neither (holds a f) (holds a g)
+holds a f = value (λ n. is_in n a) f
 
 -- the atoms of a formula, from the left
 abbrev pub atoms : Formula → List Name
-atoms Truth = []
-atoms Falsity = []
-atoms (Atom n) = n ∷ []
-atoms (Not f) = atoms f
-atoms (And f g) = atoms f ++ atoms g
-atoms (Or f g) = atoms f ++ atoms g
-atoms (Implies f g) = atoms f ++ atoms g
-atoms (Iff f g) = atoms f ++ atoms g
+atoms f = leaves f
 
 abbrev pub all_atoms : List Formula → List Name
 all_atoms fs = flat_map atoms fs
@@ -102,26 +86,28 @@ pub record IsAnswerSet (rules : List ProgramRule) (a : List Name) : Type 0 where
   pub model : IsTrue (list_all (satisfies a) (reduct a rules))
   pub minimal : (b : List Name) → IsProperSubset b a → ¬ IsTrue (list_all (satisfies b) (reduct a rules))
 
+-- each kind accepts belief sets of one sort
 abbrev pub Accepts : Kb → BeliefSet → Type 0
 Accepts (Classical formulas) (Theory e) = SameModels e formulas
 Accepts (DefaultTheory items) (Theory e) = IsExtension items e
 Accepts (Program rules) (Atoms a) = IsAnswerSet rules a
-Accepts (Classical formulas) (Atoms a) = ⊥
-Accepts (DefaultTheory items) (Atoms a) = ⊥
-Accepts (Program rules) (Theory e) = ⊥
+Accepts kb b = ⊥
 
 -- the rule whose one head is this atom; another formula is no head into a program
 abbrev pub fact_of : Formula → Option ProgramRule
 fact_of (Atom n) = Some (record { head = n ∷ []; pos = []; neg = [] })
 fact_of f = None
 
+-- the items that a knowledge base of the kind is told by the heads
+abbrev pub told_to : (k : Kind) → List Formula → List (ItemOf k)
+told_to ClassicalKind heads = heads
+told_to DefaultKind heads = map Fact heads
+told_to ProgramKind heads = filter_map fact_of heads
+
 abbrev pub with_heads : Kb → List Formula → Kb
-with_heads (Classical formulas) heads = Classical (formulas ++ heads)
-with_heads (DefaultTheory items) heads = DefaultTheory (items ++ map Fact heads)
-with_heads (Program rules) heads = Program (rules ++ filter_map fact_of heads)
+with_heads (OfKind k items) heads = OfKind k (items ++ told_to k heads)
 
 -- the context is classical
 abbrev pub IsClassical : Kb → Type 0
 IsClassical (Classical formulas) = Unit {0}
-IsClassical (DefaultTheory items) = ⊥
-IsClassical (Program rules) = ⊥
+IsClassical kb = ⊥

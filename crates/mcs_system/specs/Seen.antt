@@ -1,5 +1,6 @@
 -- The plain data that the code's values stand for.
-use Rattle.std.specs.Prelude.{ℕ, ◌+◌, List, map}
+use Rattle.std.specs.Prelude.{ℕ, List, map}
+use Rattle.mcs_system.specs.Trees.{tree_size}
 use Rattle.mcs_system.specs.Plain as plain
 use Rattle.mcs_system.specs.declared.formula.Formula as code
 use Rattle.mcs_system.specs.declared.knowledge.Default as code_default
@@ -22,15 +23,9 @@ formula_of (code.Or' p f q g) = plain.Or (formula_of f) (formula_of g)
 formula_of (code.Implies' p f q g) = plain.Implies (formula_of f) (formula_of g)
 formula_of (code.Iff' p f q g) = plain.Iff (formula_of f) (formula_of g)
 
+-- constants, atoms and connectives count one each
 abbrev pub formula_size : plain.Formula → ℕ
-formula_size plain.Truth = 1
-formula_size plain.Falsity = 1
-formula_size (plain.Atom n) = 1
-formula_size (plain.Not f) = formula_size f + 1
-formula_size (plain.And f g) = formula_size f + formula_size g + 1
-formula_size (plain.Or f g) = formula_size f + formula_size g + 1
-formula_size (plain.Implies f g) = formula_size f + formula_size g + 1
-formula_size (plain.Iff f g) = formula_size f + formula_size g + 1
+formula_size f = tree_size (λ _. 1) f
 
 abbrev pub default_of : code_default.Default → plain.Default
 default_of d = record { pre = formula_of d.pre; justs = map formula_of d.justs.items; conclusion = formula_of d.conclusion }

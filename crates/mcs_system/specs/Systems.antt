@@ -3,19 +3,12 @@ use Rattle.std.specs.Prelude.{◌≡◌, ℕ, ◌+◌, nat_eq, Bool, true, false
 use Rattle.std.specs.List.{list_any, list_all, AllByRecursion, flat_map, range_with_len, enumerate_from}
 use Rattle.mcs_sets.specs.Sets.{has, common, union, such_that, Within}
 use Rattle.mcs_base.specs.Listings.{firsts}
-use Rattle.mcs_system.specs.Plain.{Formula, Truth, Falsity, Atom, Not, And, Or, Implies, Iff, Context, Read, Bridge, System}
+use Rattle.mcs_system.specs.Trees.{same_tree}
+use Rattle.mcs_system.specs.Plain.{Formula, Context, Read, Bridge, System}
 use Rattle.mcs_system.specs.Logic.{same_name, Entails, BeliefSet, Believes, Accepts, with_heads}
 
 abbrev pub same_formula : Formula → Formula → Bool
-same_formula Truth Truth = true
-same_formula Falsity Falsity = true
-same_formula (Atom m) (Atom n) = same_name m n
-same_formula (Not f) (Not g) = same_formula f g
-same_formula (And f f') (And g g') = same_formula f g && same_formula f' g'
-same_formula (Or f f') (Or g g') = same_formula f g && same_formula f' g'
-same_formula (Implies f f') (Implies g g') = same_formula f g && same_formula f' g'
-same_formula (Iff f f') (Iff g g') = same_formula f g && same_formula f' g'
-same_formula f g = false
+same_formula f g = same_tree same_name f g
 
 abbrev pub same_read : Read → Read → Bool
 same_read q r = nat_eq q.context r.context && same_formula q.belief r.belief

@@ -11,14 +11,13 @@ ghost use Rattle.mcs_system.specs.Seen.{system_of};
 use crate::bridge::Bridge;
 use crate::build::{first_limit, kept_of, known_reads};
 use crate::fault::{BuildFault, Flaw};
-use crate::faults::{
-    any_large_bridge, any_rule_misfit, has_heavy_rule, has_twins, has_unknown_context,
-};
+use crate::faults::{any_rule_misfit, has_heavy_rule, has_twins, has_unknown_context};
 use crate::knowledge::Context;
 use crate::known::KnownContexts;
 use crate::limit::Limit;
-use crate::names::bridges_are_named;
+use crate::names::are_named;
 use crate::parts::Kept;
+use crate::sizes::any_large;
 use mcs_base::Memory;
 use std::alloc::Global;
 
@@ -50,7 +49,7 @@ fn last_limit_of_rules(contexts: &[Context], bridges: &[Bridge]) -> Option<Limit
 {
     if has_heavy_rule(bridges) {
         Some(Limit::Weight)
-    } else if any_large_bridge(bridges) {
+    } else if any_large(bridges) {
         Some(Limit::FormulaSize)
     } else {
         None
@@ -121,7 +120,7 @@ pub(crate) fn keep_again(
     pass_first_with(alloc, &contexts.items, bridges)?;
     let kept = gather_again(alloc, contexts, bridges)?;
     pass_last_with(&contexts.items, bridges)?;
-    bridges_are_named(bridges);
+    are_named(bridges);
     Ok(kept)
 }
 
@@ -135,7 +134,7 @@ pub(crate) fn keep_valid_again(
     requires valid { IsValid (made_of contexts.now bridges.now) }
     ensures { IfOk result (IsSystemKept contexts.now bridges.now) }
 {
-    bridges_are_named(bridges);
+    are_named(bridges);
     match gather_again(alloc, contexts, bridges) {
         Ok(kept) => Ok(kept),
         Err(BuildFault::Memory) => Err(Memory),

@@ -8,6 +8,7 @@ ghost use Rattle.mcs_system.specs.Atoms.{item_atoms, rule_atoms, kb_atoms, first
 ghost use Rattle.mcs_system.specs.Built.{AreOwnAtoms, IsOwnAtoms, made_of};
 ghost use Rattle.mcs_system.specs.Gathered.{GathersNames, IsLimitDue, head_atoms, belief_atoms};
 ghost use Rattle.mcs_system.specs.Logic.{is_in, atoms};
+ghost use Rattle.mcs_system.specs.Plain as plain;
 ghost use Rattle.mcs_system.specs.Plain.{Name};
 ghost use Rattle.mcs_system.specs.Seen.{formula_of, rule_of, item_of, kb_of, read_of, bridge_of};
 ghost use Rattle.mcs_system.specs.Systems.{variables};
@@ -23,21 +24,27 @@ use crate::name::Name;
 use std::alloc::Global;
 
 /// A part of a system in which atoms occur.
-trait HasAtoms {
-    ghost atoms: { Self → List Name };
+pub(crate) trait HasAtoms {
+    ghost Seen: { Type 0 };
+
+    ghost seen: { Self → Self.Seen };
+
+    ghost atoms: { Self.Seen → List Name };
 
     /// Adds the atoms that are not in `found` yet. Refuses if there are more than the limit.
     fn add_atoms(&self, alloc: Global, found: &mut Vec<Name>) -> Result<(), BuildFault>
-        ensures { GathersNames found.old.items found.new.items (atoms self.now) result };
+        ensures { GathersNames found.old.items found.new.items (Self.atoms (Self.seen self.now))
+            result };
 }
 
 /// Adds the atoms of each part.
-fn add_each<T: HasAtoms>(
+pub(crate) fn add_each<T: HasAtoms>(
     alloc: Global,
     parts: &[T],
     found: &mut Vec<Name>,
 ) -> Result<(), BuildFault>
-    ensures { GathersNames found.old.items found.new.items (flat_map T.atoms parts.now) result }
+    ensures { GathersNames found.old.items found.new.items
+        (flat_map T.atoms (map T.seen parts.now)) result }
 {
     for part in parts {
         part.add_atoms(alloc, found)?;
@@ -53,6 +60,10 @@ fn is_found(found: &[Name], name: &Name) -> bool
 }
 
 impl HasAtoms for Name {
+    ghost Seen = { Name };
+
+    ghost seen = { λ n. n };
+
     ghost atoms = { λ n. n ∷ [] };
 
     fn add_atoms(&self, alloc: Global, found: &mut Vec<Name>) -> Result<(), BuildFault> {
@@ -68,7 +79,11 @@ impl HasAtoms for Name {
 }
 
 impl HasAtoms for Formula {
-    ghost atoms = { λ f. atoms (formula_of f) };
+    ghost Seen = { plain.Formula };
+
+    ghost seen = { formula_of };
+
+    ghost atoms = { atoms };
 
     fn add_atoms(&self, alloc: Global, found: &mut Vec<Name>) -> Result<(), BuildFault> {
         match self {
@@ -85,7 +100,11 @@ impl HasAtoms for Formula {
 }
 
 impl HasAtoms for TheoryItem {
-    ghost atoms = { λ i. item_atoms (item_of i) };
+    ghost Seen = { plain.Item };
+
+    ghost seen = { item_of };
+
+    ghost atoms = { item_atoms };
 
     fn add_atoms(&self, alloc: Global, found: &mut Vec<Name>) -> Result<(), BuildFault> {
         match self {
@@ -100,24 +119,16 @@ impl HasAtoms for TheoryItem {
 }
 
 impl HasAtoms for ProgRule {
-    ghost atoms = { λ r. rule_atoms (rule_of r) };
+    ghost Seen = { plain.ProgramRule };
+
+    ghost seen = { rule_of };
+
+    ghost atoms = { rule_atoms };
 
     fn add_atoms(&self, alloc: Global, found: &mut Vec<Name>) -> Result<(), BuildFault> {
         add_each(alloc, &self.head, found)?;
         add_each(alloc, &self.pos, found)?;
         add_each(alloc, &self.neg, found)
-    }
-}
-
-impl HasAtoms for Kb {
-    ghost atoms = { λ k. kb_atoms (kb_of k) };
-
-    fn add_atoms(&self, alloc: Global, found: &mut Vec<Name>) -> Result<(), BuildFault> {
-        match self {
-            Kb::Classical(formulas) => add_each(alloc, formulas, found),
-            Kb::DefaultTheory(items) => add_each(alloc, items, found),
-            Kb::Program(rules) => add_each(alloc, rules, found),
-        }
     }
 }
 

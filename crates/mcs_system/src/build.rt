@@ -17,7 +17,7 @@ use crate::faults::{
 use crate::knowledge::Context;
 use crate::known::KnownContexts;
 use crate::limit::Limit;
-use crate::names::are_named;
+use crate::names::system_is_named;
 use crate::parts::{Kept, KnownReads, has_many_inputs, parts_of_contexts, rule_reads};
 use crate::variables::variables_of;
 use mcs_base::Memory;
@@ -178,7 +178,7 @@ pub(crate) fn keep(
     pass_first(alloc, &contexts, bridges)?;
     let built = gather(alloc, contexts, bridges)?;
     pass_last(&built.contexts.items, bridges)?;
-    are_named(&built.contexts.items, bridges);
+    system_is_named(&built.contexts.items, bridges);
     Ok(built)
 }
 
@@ -191,7 +191,7 @@ pub(crate) fn keep_valid(
     requires { IsValid (system_of contexts.items bridges.now) }
     ensures { IfOk result (IsSystemOf contexts.items bridges.now) }
 {
-    are_named(&contexts, bridges);
+    system_is_named(&contexts, bridges);
     match gather(alloc, contexts, bridges) {
         Ok(built) => Ok(built),
         Err(BuildFault::Memory) => Err(Memory),

@@ -1,6 +1,6 @@
 //! The tests that decide whether lists of contexts and bridge rules make a system.
 
-ghost use Rattle.std.specs.Prelude.{◌≡◌, ◌&&◌, IfOk, List, not, nat_eq, nat_lt, count_by, map, min};
+ghost use Rattle.std.specs.Prelude.{◌≡◌, ◌&&◌, Bool, IfOk, List, not, nat_eq, nat_lt, count_by, map, min};
 ghost use Rattle.std.specs.Prelude.{slice_get};
 ghost use Rattle.std.specs.List.{list_any};
 ghost use Rattle.mcs_system.specs.declared.bridge.Bridge.{Bridge};
@@ -16,12 +16,13 @@ ghost use Rattle.mcs_system.specs.Faults.{has_unknown_context, is_atom, is_large
 ghost use Rattle.mcs_system.specs.Faults.{is_program, is_unjustified, points_outside};
 ghost use Rattle.mcs_system.specs.Plain.{Name};
 ghost use Rattle.mcs_system.specs.Seen.{bridge_of, context_of, formula_of, formula_size, item_of};
-ghost use Rattle.mcs_system.specs.Seen.{kb_of, rule_of, system_of};
+ghost use Rattle.mcs_system.specs.Seen.{kb_of, read_of, rule_of, system_of};
 
 use crate::bridge::{Bridge, Read};
 use crate::formula::Formula;
-use crate::knowledge::{Context, Kb, ProgRule, TheoryItem};
+use crate::knowledge::{Context, Kb, TheoryItem};
 use crate::limit::Limit;
+use crate::sizes::any_large;
 use mcs_base::Memory;
 use std::alloc::Global;
 use std::collections::BTreeSet;
@@ -175,10 +176,10 @@ fn has_unjustified(items: &[TheoryItem]) -> bool
 fn has_unjustified_default(kb: &Kb) -> bool
     ensures { result ≡ has_unjustified (kb_of kb.now) }
 {
-    match kb {
-        Kb::DefaultTheory(items) => has_unjustified(items),
-        Kb::Classical(_) | Kb::Program(_) => false,
-    }
+    let Kb::DefaultTheory(items) = kb else {
+        return false;
+    };
+    has_unjustified(items)
 }
 
 /// Whether some default of some context has no justification.
@@ -264,117 +265,10 @@ pub(crate) fn has_heavy_rule(bridges: &[Bridge]) -> bool
     bridges.iter().any(|bridge| Limit::Weight.is_exceeded_by(bridge.weight as usize))
 }
 
-/// How many atoms, constants and connectives the formula has; if there are more than the limit, the
-/// limit and one.
-fn capped_size(formula: &Formula) -> usize
-    ensures { result ≡ min (formula_size (formula_of formula.now)) 513 }
-{
-    let size = match formula {
-        Formula::True | Formula::False | Formula::Atom(_) => 1,
-        Formula::Not(part) => capped_size(part) + 1,
-        Formula::And(left, right)
-        | Formula::Or(left, right)
-        | Formula::Implies(left, right)
-        | Formula::Iff(left, right) => capped_size(left) + capped_size(right) + 1,
-    };
-    size.min(Limit::FormulaSize.most() + 1)
-}
-
-/// Whether the formula is larger than the limit.
-fn is_large(formula: &Formula) -> bool
-    ensures { result ≡ is_large (formula_of formula.now) }
-{
-    Limit::FormulaSize.is_exceeded_by(capped_size(formula))
-}
-
-/// Whether some formula is larger than the limit.
-fn any_large(formulas: &[Formula]) -> bool
-    ensures { result ≡ list_any (λ f. is_large (formula_of f)) formulas.now }
-{
-    formulas.iter().any(is_large)
-}
-
-/// Whether the item has a formula larger than the limit.
-#[tactic(auto, using(mcs_base::proofs::Ranges::any_of_map))]
-fn is_large_item(item: &TheoryItem) -> bool
-    ensures { result ≡ has_large_formula (item_of item.now) }
-{
-    match item {
-        TheoryItem::Fact(formula) => is_large(formula),
-        TheoryItem::Rule(default) => {
-            is_large(&default.pre) || any_large(&default.justs) || is_large(&default.conclusion)
-        }
-    }
-}
-
-/// Whether some item has a formula larger than the limit.
-fn any_large_item(items: &[TheoryItem]) -> bool
-    ensures { result ≡ list_any (λ i. has_large_formula (item_of i)) items.now }
-{
-    items.iter().any(is_large_item)
-}
-
-/// Whether the program rule has more names than the limit.
-fn is_large_rule(rule: &ProgRule) -> bool
-    ensures { result ≡ is_large_rule (rule_of rule.now) }
-{
-    let most = Limit::FormulaSize.most();
-    rule.head.len().min(most + 1) + rule.pos.len().min(most + 1) + rule.neg.len().min(most + 1)
-        > most
-}
-
-/// Whether some program rule has more names than the limit.
-fn any_large_rule(rules: &[ProgRule]) -> bool
-    ensures { result ≡ list_any (λ r. is_large_rule (rule_of r)) rules.now }
-{
-    rules.iter().any(is_large_rule)
-}
-
-/// Whether the knowledge base has a formula or a rule larger than the limit.
-#[tactic(auto, using(mcs_base::proofs::Ranges::any_of_map))]
-fn has_large_item(kb: &Kb) -> bool
-    ensures { result ≡ has_large_item (kb_of kb.now) }
-{
-    match kb {
-        Kb::Classical(formulas) => any_large(formulas),
-        Kb::DefaultTheory(items) => any_large_item(items),
-        Kb::Program(rules) => any_large_rule(rules),
-    }
-}
-
-/// Whether some context has a formula or a rule larger than the limit.
-fn any_large_kb(contexts: &[Context]) -> bool
-    ensures { result ≡ list_any (λ c. has_large_item (kb_of c.kb)) contexts.now }
-{
-    contexts.iter().any(|context| has_large_item(&context.kb))
-}
-
-/// Whether some read has a belief larger than the limit.
-fn any_large_read(reads: &[Read]) -> bool
-    ensures { result ≡ list_any (λ r. is_large (formula_of r.belief)) reads.now }
-{
-    reads.iter().any(|read| is_large(&read.belief))
-}
-
-/// Whether the head of the rule, or a belief that it reads, is larger than the limit.
-#[tactic(auto, using(mcs_base::proofs::Ranges::any_of_both))]
-fn has_large_part(bridge: &Bridge) -> bool
-    ensures { result ≡ has_large_part (bridge_of bridge.now) }
-{
-    is_large(&bridge.head) || any_large_read(&bridge.pos) || any_large_read(&bridge.neg)
-}
-
-/// Whether the head of some rule, or a belief that it reads, is larger than the limit.
-pub(crate) fn any_large_bridge(bridges: &[Bridge]) -> bool
-    ensures { result ≡ list_any (λ b. has_large_part (bridge_of b)) bridges.now }
-{
-    bridges.iter().any(has_large_part)
-}
-
 /// Whether some formula, or some rule of a program, is larger than the limit.
-#[tactic(auto, using(mcs_base::proofs::Ranges::any_of_map), unfolding(crate::specs::Faults::exceeds))]
+#[tactic(auto, unfolding(crate::specs::Faults::exceeds))]
 pub(crate) fn has_large_formula(contexts: &[Context], bridges: &[Bridge]) -> bool
     ensures { result ≡ exceeds (system_of contexts.now bridges.now) FormulaSize }
 {
-    any_large_kb(contexts) || any_large_bridge(bridges)
+    any_large(contexts) || any_large(bridges)
 }

@@ -1,13 +1,20 @@
 //! Knowledge bases: formulas, default theories and programs.
 
 ghost use Rattle.std.specs.Prelude.{◌≡◌, IfOk};
-ghost use Rattle.mcs_system.specs.Faults.{item_count};
+ghost use Rattle.mcs_system.specs.Atoms.{kb_atoms};
+ghost use Rattle.mcs_system.specs.Faults.{has_large_item, item_count};
+ghost use Rattle.mcs_system.specs.Gathered.{GathersNames};
+ghost use Rattle.mcs_system.specs.Naming.{IsNamedKb};
 ghost use Rattle.mcs_system.specs.Plain as plain;
 ghost use Rattle.mcs_system.specs.Seen.{context_of, default_of, item_of, kb_of, rule_of};
 
+use crate::atoms::add_each;
 use crate::copied::{Copied, copy_each};
+use crate::fault::BuildFault;
 use crate::formula::Formula;
 use crate::name::Name;
+use crate::names::are_named;
+use crate::sizes::any_large;
 use mcs_base::Memory;
 use std::alloc::Global;
 
@@ -169,6 +176,39 @@ impl Kb {
             Kb::Classical(formulas) => formulas.len(),
             Kb::DefaultTheory(items) => items.len(),
             Kb::Program(rules) => rules.len(),
+        }
+    }
+
+    /// Adds the atoms that are not in `found` yet. Refuses if there are more than the limit.
+    pub(crate) fn add_atoms(&self, alloc: Global, found: &mut Vec<Name>) -> Result<(), BuildFault>
+        ensures { GathersNames found.old.items found.new.items (kb_atoms (kb_of self.now)) result }
+    {
+        match self {
+            Kb::Classical(formulas) => add_each(alloc, formulas, found),
+            Kb::DefaultTheory(items) => add_each(alloc, items, found),
+            Kb::Program(rules) => add_each(alloc, rules, found),
+        }
+    }
+
+    /// Whether some formula, item or rule is larger than the limit.
+    pub(crate) fn has_large_item(&self) -> bool
+        ensures { result ≡ has_large_item (kb_of self.now) }
+    {
+        match self {
+            Kb::Classical(formulas) => any_large(formulas),
+            Kb::DefaultTheory(items) => any_large(items),
+            Kb::Program(rules) => any_large(rules),
+        }
+    }
+
+    /// The names in the knowledge base are names. This computes nothing.
+    pub(crate) fn is_named(&self)
+        ensures { IsNamedKb (kb_of self.now) }
+    {
+        match self {
+            Kb::Classical(formulas) => are_named(formulas),
+            Kb::DefaultTheory(items) => are_named(items),
+            Kb::Program(rules) => are_named(rules),
         }
     }
 }

@@ -19,6 +19,7 @@ mod name;
 mod names;
 mod parts;
 mod same;
+mod sizes;
 mod system;
 mod truth;
 mod variables;

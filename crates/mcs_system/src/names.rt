@@ -4,15 +4,16 @@
 
 ghost use Rattle.std.specs.Prelude.{map};
 ghost use Rattle.std.specs.List.{AllByRecursion};
-ghost use Rattle.mcs_system.specs.Seen.{formula_of, default_of, item_of, rule_of, context_of};
+ghost use Rattle.mcs_system.specs.Plain as plain;
+ghost use Rattle.mcs_system.specs.Seen.{formula_of, item_of, rule_of, context_of};
 ghost use Rattle.mcs_system.specs.Seen.{read_of, bridge_of, system_of};
-ghost use Rattle.mcs_system.specs.Naming.{IsName, AreNames, IsNamedFormula, IsNamedDefault};
-ghost use Rattle.mcs_system.specs.Naming.{IsNamedItem, IsNamedRule, IsNamedContext, AreNamedReads};
-ghost use Rattle.mcs_system.specs.Naming.{IsNamedBridge, IsSystemNamed};
+ghost use Rattle.mcs_system.specs.Naming.{IsName, AreNames, IsNamedFormula, IsNamedItem};
+ghost use Rattle.mcs_system.specs.Naming.{IsNamedRule, IsNamedContext, IsNamedBridge};
+ghost use Rattle.mcs_system.specs.Naming.{IsSystemNamed};
 
 use crate::bridge::{Bridge, Read};
 use crate::formula::Formula;
-use crate::knowledge::{Context, Default, Kb, ProgRule, TheoryItem};
+use crate::knowledge::{Context, ProgRule, TheoryItem};
 use crate::name::Name;
 
 /// This name is one.
@@ -31,129 +32,126 @@ fn names_are_names(names: &[Name])
     }
 }
 
-/// The atoms of this formula are names.
-fn formula_is_named(f: &Formula)
-    ensures { IsNamedFormula (formula_of f.now) }
+/// A part of a system in which names occur.
+pub(crate) trait HasNames {
+    ghost Seen: { Type 0 };
+
+    ghost seen: { Self → Self.Seen };
+
+    ghost IsNamed: { Self.Seen → Type 0 };
+
+    /// The names in it are names.
+    fn is_named(&self)
+        ensures { Self.IsNamed (Self.seen self.now) };
+}
+
+/// The names in these parts are names.
+pub(crate) fn are_named<T: HasNames>(parts: &[T])
+    ensures { AllByRecursion T.IsNamed (map T.seen parts.now) }
 {
-    match f {
-        Formula::True | Formula::False => {}
-        Formula::Atom(name) => name_is_name(name),
-        Formula::Not(g) => formula_is_named(g),
-        Formula::And(g, h) | Formula::Or(g, h) | Formula::Implies(g, h) | Formula::Iff(g, h) => {
-            formula_is_named(g);
-            formula_is_named(h);
+    for part in parts {
+        part.is_named();
+    }
+}
+
+impl HasNames for Formula {
+    ghost Seen = { plain.Formula };
+
+    ghost seen = { formula_of };
+
+    ghost IsNamed = { IsNamedFormula };
+
+    fn is_named(&self) {
+        match self {
+            Formula::True | Formula::False => {}
+            Formula::Atom(name) => name_is_name(name),
+            Formula::Not(g) => g.is_named(),
+            Formula::And(g, h) | Formula::Or(g, h) | Formula::Implies(g, h) | Formula::Iff(g, h) =>
+                {
+                    g.is_named();
+                    h.is_named();
+                }
         }
     }
 }
 
-/// The atoms of these formulas are names.
-fn formulas_are_named(formulas: &[Formula])
-    ensures { AllByRecursion IsNamedFormula (map formula_of formulas.now) }
-{
-    for formula in formulas {
-        formula_is_named(formula);
+impl HasNames for TheoryItem {
+    ghost Seen = { plain.Item };
+
+    ghost seen = { item_of };
+
+    ghost IsNamed = { IsNamedItem };
+
+    fn is_named(&self) {
+        match self {
+            TheoryItem::Fact(formula) => formula.is_named(),
+            TheoryItem::Rule(default) => {
+                default.pre.is_named();
+                are_named(&default.justs);
+                default.conclusion.is_named();
+            }
+        }
     }
 }
 
-/// The atoms of this default are names.
-fn default_is_named(default: &Default)
-    ensures { IsNamedDefault (default_of default.now) }
-{
-    formula_is_named(&default.pre);
-    formulas_are_named(&default.justs);
-    formula_is_named(&default.conclusion);
-}
+impl HasNames for ProgRule {
+    ghost Seen = { plain.ProgramRule };
 
-/// The atoms of this item of a default theory are names.
-fn item_is_named(item: &TheoryItem)
-    ensures { IsNamedItem (item_of item.now) }
-{
-    match item {
-        TheoryItem::Fact(formula) => formula_is_named(formula),
-        TheoryItem::Rule(default) => default_is_named(default),
+    ghost seen = { rule_of };
+
+    ghost IsNamed = { IsNamedRule };
+
+    fn is_named(&self) {
+        names_are_names(&self.head);
+        names_are_names(&self.pos);
+        names_are_names(&self.neg);
     }
 }
 
-/// The atoms of these items of a default theory are names.
-fn items_are_named(items: &[TheoryItem])
-    ensures { AllByRecursion IsNamedItem (map item_of items.now) }
-{
-    for item in items {
-        item_is_named(item);
+impl HasNames for Context {
+    ghost Seen = { plain.Context };
+
+    ghost seen = { context_of };
+
+    ghost IsNamed = { IsNamedContext };
+
+    fn is_named(&self) {
+        name_is_name(&self.name);
+        self.kb.is_named();
     }
 }
 
-/// The atoms of this rule of a program are names.
-fn rule_is_named(rule: &ProgRule)
-    ensures { IsNamedRule (rule_of rule.now) }
-{
-    names_are_names(&rule.head);
-    names_are_names(&rule.pos);
-    names_are_names(&rule.neg);
-}
+impl HasNames for Read {
+    ghost Seen = { plain.Read };
 
-/// The atoms of these rules of a program are names.
-fn rules_are_named(rules: &[ProgRule])
-    ensures { AllByRecursion IsNamedRule (map rule_of rules.now) }
-{
-    for rule in rules {
-        rule_is_named(rule);
+    ghost seen = { read_of };
+
+    ghost IsNamed = { λ r. IsNamedFormula r.belief };
+
+    fn is_named(&self) {
+        self.belief.is_named();
     }
 }
 
-/// The name of this context is one, and its atoms are.
-fn context_is_named(context: &Context)
-    ensures { IsNamedContext (context_of context.now) }
-{
-    name_is_name(&context.name);
-    match &context.kb {
-        Kb::Classical(formulas) => formulas_are_named(formulas),
-        Kb::DefaultTheory(items) => items_are_named(items),
-        Kb::Program(rules) => rules_are_named(rules),
+impl HasNames for Bridge {
+    ghost Seen = { plain.Bridge };
+
+    ghost seen = { bridge_of };
+
+    ghost IsNamed = { IsNamedBridge };
+
+    fn is_named(&self) {
+        name_is_name(&self.name);
+        self.head.is_named();
+        are_named(&self.pos);
+        are_named(&self.neg);
     }
 }
 
-/// The atoms of these beliefs are names.
-fn reads_are_named(reads: &[Read])
-    ensures { AreNamedReads (map read_of reads.now) }
-{
-    for read in reads {
-        formula_is_named(&read.belief);
-    }
-}
-
-/// The name of this bridge rule is one, and its atoms are.
-fn bridge_is_named(bridge: &Bridge)
-    ensures { IsNamedBridge (bridge_of bridge.now) }
-{
-    name_is_name(&bridge.name);
-    formula_is_named(&bridge.head);
-    reads_are_named(&bridge.pos);
-    reads_are_named(&bridge.neg);
-}
-
-/// The names of these contexts are names, and their atoms are.
-fn contexts_are_named(contexts: &[Context])
-    ensures { AllByRecursion IsNamedContext (map context_of contexts.now) }
-{
-    for context in contexts {
-        context_is_named(context);
-    }
-}
-
-/// The names of these bridge rules are names, and their atoms are.
-pub(crate) fn bridges_are_named(bridges: &[Bridge])
-    ensures { AllByRecursion IsNamedBridge (map bridge_of bridges.now) }
-{
-    for bridge in bridges {
-        bridge_is_named(bridge);
-    }
-}
-
-/// The names of these contexts and bridge rules are names, and their atoms are.
-pub(crate) fn are_named(contexts: &[Context], bridges: &[Bridge])
+/// The names in these contexts and bridge rules are names.
+pub(crate) fn system_is_named(contexts: &[Context], bridges: &[Bridge])
     ensures { IsSystemNamed (system_of contexts.now bridges.now) }
 {
-    contexts_are_named(contexts);
-    bridges_are_named(bridges);
+    are_named(contexts);
+    are_named(bridges);
 }

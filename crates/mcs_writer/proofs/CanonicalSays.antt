@@ -1,5 +1,5 @@
 -- What is written of a valid system says that system.
-use Rattle.std.proofs.Common.{◌≡◌, ℕ, ◌≤◌, zero, suc, Bool, true, false, nat_eq, nat_lt, cond, List, [], ◌∷◌, map, length, Some, None, slice_get, option_map, refl, sym, ap, ap₂, ◌∙◌, true≢false, arith}
+use Rattle.std.proofs.Common.{◌≡◌, ℕ, ◌≤◌, zero, suc, Bool, true, false, nat_eq, nat_lt, cond, List, [], ◌∷◌, map, length, Some, None, slice_get, option_map, refl, sym, ap, ◌∙◌, true≢false, arith}
 use Rattle.std.proofs.lemmas.Bool.Decides.{nat_tests}
 use Rattle.std.proofs.lemmas.Option.{slice_get-map, slice_get_within}
 use Rattle.std.proofs.lemmas.Slice.Eq.{bytes_eq-Decides}
@@ -9,81 +9,28 @@ use Rattle.std.specs.Fmt.{decimal}
 use Rattle.mcs_base.proofs.Among.{map_back, none_get}
 use Rattle.mcs_base.proofs.Each.{all_among, all_from_no_any}
 use Rattle.mcs_base.proofs.Lists.{slice_get_below}
-use Rattle.mcs_system.specs.Faults.{has_twins, is_unjustified, has_unjustified, has_misfit, IsValid}
+use Rattle.mcs_system.specs.Faults.{has_twins, has_unjustified, has_misfit, IsValid}
 use Rattle.mcs_system.specs.Logic.{is_in, same_name}
-use Rattle.mcs_system.specs.Plain.{Name, Formula, Truth, Falsity, Atom, Not, And, Or, Implies, Iff, Default, ProgramRule, Item, Kb, Context, Read, Bridge, System}
+use Rattle.mcs_system.specs.Plain.{Name, Formula, Kb, Context, Read, Bridge, System}
 use Rattle.mcs_system.specs.Plain as plain
 use Rattle.mcs_system.specs.Texts.{name_of_context}
 use Rattle.mcs_system.proofs.ValidLemmas.{tests_pass}
-use Rattle.mcs_grammar.specs.Entries.{formula_in}
-use Rattle.mcs_grammar.specs.Saying.{item_in, positive_atoms, negative_atoms, rule_in, kb_in, context_in, SaysPlace, Each, positive_places, negative_places, weight_said, SaysBridge, names_of, SaysSystem}
+use Rattle.mcs_grammar.specs.Saying.{said_in, kb_in, context_in, SaysPlace, Each, positive_places, negative_places, weight_said, SaysBridge, names_of, SaysSystem}
 use Rattle.mcs_tokens.proofs.Numbers.{decimal_is}
 use Rattle.mcs_system.specs.Naming.{IsSystemNamed}
-use Rattle.mcs_writer.proofs.CanonicalWritten.{primary_written, formula_written, with_justs, item_written, body_written, rule_written, kb_written, context_written, place_written, reads_written, weight_written, bridge_written, canonical_written}
+use Rattle.mcs_writer.proofs.CanonicalWritten.{kb_written, context_written, place_written, reads_written, weight_written, bridge_written, canonical_written}
 use Rattle.mcs_writer.proofs.CanonicalGrammar.{IsPlaced, IsPlacedBridge, all-placed}
+pub use Rattle.mcs_writer.proofs.ItemsWritten.{primary-said, formula-said}
+use Rattle.mcs_writer.proofs.KindItems.{written_in, IsFitIn, fit-items, said-back}
 
 -- ---- lists
 each-map : {W X : Type 0} (says : W → X → Type 0) (f : X → W) (P : X → Type 0) → ((x : X) → P x → says (f x) x) → (xs : List X) → AllByRecursion P xs → Each says (map f xs) xs
 each-map says f P each [] h = tt
 each-map says f P each (x ∷ xs) h = (each x h.0, each-map says f P each xs h.1)
 
--- ---- formulas
-pub primary-said : (f : Formula) → formula_in (primary_written f) ≡ f
-primary-said Truth = refl
-primary-said Falsity = refl
-primary-said (Atom n) = refl
-primary-said (Not f) = ap (λ a. Not a) (primary-said f)
-primary-said (And f g) = ap₂ (λ a b. And a b) (primary-said f) (primary-said g)
-primary-said (Or f g) = ap₂ (λ a b. Or a b) (primary-said f) (primary-said g)
-primary-said (Implies f g) = ap₂ (λ a b. Implies a b) (primary-said f) (primary-said g)
-primary-said (Iff f g) = ap₂ (λ a b. Iff a b) (primary-said f) (primary-said g)
-
-pub formula-said : (f : Formula) → formula_in (formula_written f) ≡ f
-formula-said Truth = refl
-formula-said Falsity = refl
-formula-said (Atom n) = refl
-formula-said (Not f) = primary-said (Not f)
-formula-said (And f g) = primary-said (And f g)
-formula-said (Or f g) = primary-said (Or f g)
-formula-said (Implies f g) = primary-said (Implies f g)
-formula-said (Iff f g) = primary-said (Iff f g)
-
-formulas-said : (fs : List Formula) → map formula_in (map formula_written fs) ≡ fs
-formulas-said fs = map_back formula_written formula_in fs (λ x _. formula-said x)
-
 -- ---- contexts
-default : Formula → List Formula → Formula → Item
-default pre justs conclusion = plain.Rule (record { pre = pre; justs = justs; conclusion = conclusion })
-
-justs-said : (d : Default) (js : List Formula) → nat_eq (length js) 0 ≡ false → item_in (with_justs d js) ≡ default d.pre js d.conclusion
-unfolding default
-justs-said d [] some = absurd (true≢false some)
-justs-said d (j ∷ js) some =
-    ap (λ p. default p (formula_in (formula_written j) ∷ map formula_in (map formula_written js)) (formula_in (formula_written d.conclusion))) (formula-said d.pre)
-    ∙ ap (λ l. default d.pre l (formula_in (formula_written d.conclusion))) (formulas-said (j ∷ js)) ∙ ap (λ c. default d.pre (j ∷ js) c) (formula-said d.conclusion)
-
-item-said : (i : Item) → is_unjustified i ≡ false → item_in (item_written i) ≡ i
-unfolding default
-item-said (plain.Fact f) h = ap (λ g. plain.Fact g) (formula-said f)
-item-said (plain.Rule d) h = justs-said d d.justs h
-
-positive-said : (pos neg : List Name) → positive_atoms (body_written pos neg) ≡ pos
-positive-said [] [] = refl
-positive-said [] (n ∷ ns) = positive-said [] ns
-positive-said (p ∷ ps) neg = ap (λ l. p ∷ l) (positive-said ps neg)
-
-negative-said : (pos neg : List Name) → negative_atoms (body_written pos neg) ≡ neg
-negative-said [] [] = refl
-negative-said [] (n ∷ ns) = ap (λ l. n ∷ l) (negative-said [] ns)
-negative-said (p ∷ ps) neg = negative-said ps neg
-
-rule-said : (r : ProgramRule) → rule_in (rule_written r) ≡ r
-rule-said r = ap₂ (λ (pos neg : List Name). (let said : ProgramRule = record { head = r.head; pos = pos; neg = neg } in said)) (positive-said r.pos r.neg) (negative-said r.pos r.neg)
-
 kb-said : (kb : Kb) → has_unjustified kb ≡ false → kb_in (kb_written kb) ≡ kb
-kb-said (plain.Classical formulas) h = ap (λ fs. plain.Classical fs) (formulas-said formulas)
-kb-said (plain.DefaultTheory items) h = ap (λ is'. plain.DefaultTheory is') (map_back item_written item_in items (λ x here. item-said x (all_among ((λ i. is_unjustified i ≡ false)) items x (all_from_no_any (λ i. is_unjustified i ≡ false) is_unjustified (λ i e. e) items h) here)))
-kb-said (plain.Program rules) h = ap (λ rs. plain.Program rs) (map_back rule_written rule_in rules (λ x _. rule-said x))
+kb-said (plain.OfKind k items) h = ap (λ is'. plain.OfKind k is') (map_back (written_in k) (said_in k) items (λ x here. said-back k x (all_among (IsFitIn k) items x (fit-items k items h) here)))
 
 context : Name → Kb → Context
 context name kb = record { name = name; kb = kb }

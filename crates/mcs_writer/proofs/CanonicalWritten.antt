@@ -1,62 +1,18 @@
 -- The canonical text of a system, as what is written: parentheses around what has two parts, where a primary has to stand.
-use Rattle.std.proofs.Common.{ℕ, Bool, true, false, nat_eq, cond, List, [], ◌∷◌, ◌++◌, map, Option, Some, None, slice_get}
+use Rattle.std.proofs.Common.{ℕ, Bool, true, false, nat_eq, cond, List, ◌++◌, map, Option, Some, None, slice_get}
 use Rattle.std.specs.Fmt.{decimal}
 use Rattle.std.specs.List.{list_any}
-use Rattle.mcs_system.specs.Plain.{Name, Formula, Truth, Falsity, Atom, Not, And, Or, Implies, Iff, Default, ProgramRule, Item, Kb, Context, Read, Bridge, System}
+use Rattle.mcs_system.specs.Plain.{Kb, Context, Read, Bridge, System}
 use Rattle.mcs_system.specs.Plain as plain
 use Rattle.mcs_system.specs.Texts.{name_of_context}
 use Rattle.mcs_writer.specs.Canonical.{head_place, is_marked}
-use Rattle.mcs_grammar.specs.Written.{Written, True', False', Named, Denied, Grouped, Both, Either, Leads, Equals, WrittenItem, Fact, Rule, WrittenLiteral, WrittenRule, WrittenKb, Classical, DefaultTheory, Program, WrittenContext, WrittenPlace, WrittenRead, WrittenMarks, WrittenBridge, WrittenText}
-
--- ---- formulas
-abbrev pub primary_written : Formula → Written
-primary_written Truth = True'
-primary_written Falsity = False'
-primary_written (Atom n) = Named n
-primary_written (Not f) = Denied (primary_written f)
-primary_written (And f g) = Grouped (Both (primary_written f) (primary_written g))
-primary_written (Or f g) = Grouped (Either (primary_written f) (primary_written g))
-primary_written (Implies f g) = Grouped (Leads (primary_written f) (primary_written g))
-primary_written (Iff f g) = Grouped (Equals (primary_written f) (primary_written g))
-
-abbrev pub formula_written : Formula → Written
-formula_written Truth = True'
-formula_written Falsity = False'
-formula_written (Atom n) = Named n
-formula_written (Not f) = Denied (primary_written f)
-formula_written (And f g) = Both (primary_written f) (primary_written g)
-formula_written (Or f g) = Either (primary_written f) (primary_written g)
-formula_written (Implies f g) = Leads (primary_written f) (primary_written g)
-formula_written (Iff f g) = Equals (primary_written f) (primary_written g)
+use Rattle.mcs_grammar.specs.Written.{OfKind, WrittenKb, WrittenContext, WrittenPlace, WrittenRead, WrittenMarks, WrittenBridge, WrittenText}
+pub use Rattle.mcs_writer.proofs.ItemsWritten.{primary_written, formula_written, with_justs, item_written, literal_written, body_written, has_sign, rule_written}
+use Rattle.mcs_writer.proofs.KindItems.{written_in}
 
 -- ---- contexts
--- a default has a justification
-abbrev pub with_justs : Default → List Formula → WrittenItem
-with_justs d [] = Fact (formula_written d.pre)
-with_justs d (j ∷ js) = Rule (record { pre = formula_written d.pre; first_just = formula_written j; justs = map formula_written js; conclusion = formula_written d.conclusion })
-
-abbrev pub item_written : Item → WrittenItem
-item_written (plain.Fact f) = Fact (formula_written f)
-item_written (plain.Rule d) = with_justs d d.justs
-
-abbrev pub literal_written : Bool → Name → WrittenLiteral
-literal_written denied n = record { denied = denied; atom = n }
-
-abbrev pub body_written : List Name → List Name → List WrittenLiteral
-body_written pos neg = map (literal_written false) pos ++ map (literal_written true) neg
-
-abbrev pub has_sign : List Name → List WrittenLiteral → Bool
-has_sign [] body = true
-has_sign (n ∷ ns) [] = false
-has_sign (n ∷ ns) (l ∷ ls) = true
-
-abbrev pub rule_written : ProgramRule → WrittenRule
-rule_written r = record { head = r.head; has_sign = has_sign r.head (body_written r.pos r.neg); body = body_written r.pos r.neg }
-
 abbrev pub kb_written : Kb → WrittenKb
-kb_written (plain.Classical formulas) = Classical (map formula_written formulas)
-kb_written (plain.DefaultTheory items) = DefaultTheory (map item_written items)
-kb_written (plain.Program rules) = Program (map rule_written rules)
+kb_written (plain.OfKind k items) = OfKind k (map (written_in k) items)
 
 abbrev pub context_written : Context → WrittenContext
 context_written c = record { name = c.name; kb = kb_written c.kb }

@@ -5,3 +5,6 @@ pub mod CanonicalSays
 pub mod SpelledFormulas
 pub mod SpelledContexts
 pub mod SpelledBridges
+pub mod ItemsWritten
+pub mod SpelledItems
+pub mod KindItems

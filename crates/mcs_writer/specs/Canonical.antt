@@ -3,27 +3,18 @@
 use Rattle.std.specs.Prelude.{ℕ, Bool, true, false, not, ◌||◌, nat_eq, cond, List, [], ◌∷◌, ◌++◌, map, codes}
 use Rattle.std.specs.Fmt.{decimal}
 use Rattle.std.specs.List.{flat_map, list_any}
-use Rattle.mcs_system.specs.Plain.{Name, Formula, Truth, Falsity, Atom, Not, And, Or, Implies, Iff, Default, ProgramRule, Item, Fact, Rule, Kb, Classical, DefaultTheory, Program, Context, Read, Bridge, System}
+use Rattle.mcs_system.specs.Plain.{Name, Joined, Formula, Default, ProgramRule, Item, Fact, Rule, Kind, ClassicalKind, DefaultKind, ProgramKind, ItemOf, Kb, OfKind, Context, Read, Bridge, System}
 use Rattle.mcs_system.specs.Faults.{reads_of}
-use Rattle.mcs_system.specs.Texts.{primary, belief_text}
+use Rattle.mcs_system.specs.Texts.{connective_sign, primary, belief_text}
+use Rattle.mcs_grammar.specs.Items.{kind_word}
 use Rattle.mcs_text.specs.Separated.{separated}
 
 -- ---- formulas and defaults
 
--- two formulas with a sign between them
-abbrev pub joined : Formula → List ℕ → Formula → List ℕ
-joined f sign g = primary f ++ (sign ++ primary g)
-
 -- a formula that stands alone: no parentheses around its two parts
 abbrev pub formula_text : Formula → List ℕ
-formula_text Truth = primary Truth
-formula_text Falsity = primary Falsity
-formula_text (Atom n) = primary (Atom n)
-formula_text (Not f) = primary (Not f)
-formula_text (And f g) = joined f (codes " & ") g
-formula_text (Or f g) = joined f (codes " | ") g
-formula_text (Implies f g) = joined f (codes " -> ") g
-formula_text (Iff f g) = joined f (codes " <-> ") g
+formula_text (Joined c f g) = primary f ++ (connective_sign c ++ primary g)
+formula_text f = primary f
 
 -- PRE : JUSTS / CONCLUSION
 abbrev pub default_text : Default → List ℕ
@@ -67,15 +58,16 @@ program_rule_text r = joined_by (codes " | ") true r.head ++ (rule_sign r.head (
 
 -- ---- contexts
 
-abbrev pub kind_word : Kb → List ℕ
-kind_word (Classical formulas) = codes "classical"
-kind_word (DefaultTheory items) = codes "default"
-kind_word (Program rules) = codes "program"
+abbrev pub text_in : (k : Kind) → ItemOf k → List ℕ
+text_in ClassicalKind = formula_text
+text_in DefaultKind = theory_item_text
+text_in ProgramKind = program_rule_text
+
+abbrev pub kb_word : Kb → List ℕ
+kb_word (OfKind k items) = kind_word k
 
 abbrev pub item_texts : Kb → List (List ℕ)
-item_texts (Classical formulas) = map formula_text formulas
-item_texts (DefaultTheory items) = map theory_item_text items
-item_texts (Program rules) = map program_rule_text rules
+item_texts (OfKind k items) = map (text_in k) items
 
 abbrev pub item_line : List ℕ → List ℕ
 item_line text = codes "  " ++ (text ++ codes ".\n")
@@ -85,7 +77,7 @@ items_text kb = flat_map item_line (item_texts kb)
 
 -- the line `context NAME KIND {`, the items, and the line `}`
 abbrev pub context_text : Context → List ℕ
-context_text c = codes "context " ++ (c.name ++ (codes " " ++ (kind_word c.kb ++ (codes " {\n" ++ (items_text c.kb ++ codes "}\n")))))
+context_text c = codes "context " ++ (c.name ++ (codes " " ++ (kb_word c.kb ++ (codes " {\n" ++ (items_text c.kb ++ codes "}\n")))))
 
 -- ---- bridge rules
 

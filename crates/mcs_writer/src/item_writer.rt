@@ -1,14 +1,16 @@
-//! The canonical texts of formulas, defaults and program rules.
+//! The canonical texts of formulas, and of the items of each kind of knowledge base.
 
 ghost use Rattle.std.specs.Prelude.{◌≡◌, ◌++◌, true, not, nat_eq, length, map, codes, OnOk};
-ghost use Rattle.mcs_system.specs.Seen.{formula_of, default_of, item_of, rule_of};
+ghost use Rattle.std.specs.List.{flat_map};
+ghost use Rattle.mcs_system.specs.Seen.{formula_of, default_of, item_of, rule_of, kb_of};
 ghost use Rattle.mcs_system.specs.Texts.{primary, operator_sign};
 ghost use Rattle.mcs_text.specs.Separated.{separated};
 ghost use Rattle.mcs_writer.specs.Canonical.{formula_text, default_text, theory_item_text};
 ghost use Rattle.mcs_writer.specs.Canonical.{joined_by, rule_sign, program_rule_text};
+ghost use Rattle.mcs_writer.specs.Canonical.{kb_word, item_line, items_text};
 
 use mcs_base::{Memory, Text};
-use mcs_system::{Default, Formula, Name, ProgRule, TheoryItem};
+use mcs_system::{Default, Formula, Kb, Name, ProgRule, TheoryItem};
 use mcs_text::push_separator;
 
 /// The binary connective of a formula with a space on each side; empty for any other formula.
@@ -48,7 +50,7 @@ pub(crate) fn push_primary(text: &mut Text, f: &Formula) -> Result<(), Memory>
 }
 
 /// Appends a formula without parentheses around the whole.
-pub(crate) fn push_formula(text: &mut Text, f: &Formula) -> Result<(), Memory>
+fn push_formula(text: &mut Text, f: &Formula) -> Result<(), Memory>
     ensures { OnOk result (text.new ≡ text.old ++ formula_text (formula_of f.now)) }
 {
     match f {
@@ -87,7 +89,7 @@ fn push_default(text: &mut Text, default: &Default) -> Result<(), Memory>
 }
 
 /// Appends an item of a default theory.
-pub(crate) fn push_theory_item(text: &mut Text, item: &TheoryItem) -> Result<(), Memory>
+fn push_theory_item(text: &mut Text, item: &TheoryItem) -> Result<(), Memory>
     ensures { OnOk result (text.new ≡ text.old ++ theory_item_text (item_of item.now)) }
 {
     match item {
@@ -146,11 +148,72 @@ fn rule_sign(rule: &ProgRule) -> &'static [u8]
 }
 
 /// Appends a rule of a program: its head, then its body with the positive literals first.
-pub(crate) fn push_program_rule(text: &mut Text, rule: &ProgRule) -> Result<(), Memory>
+fn push_program_rule(text: &mut Text, rule: &ProgRule) -> Result<(), Memory>
     ensures { OnOk result (text.new ≡ text.old ++ program_rule_text (rule_of rule.now)) }
 {
     push_head(text, &rule.head)?;
     text.push(rule_sign(rule))?;
     push_literals(text, true, b"", &rule.pos)?;
     push_literals(text, rule.pos.is_empty(), b"not ", &rule.neg)
+}
+
+/// The word for the kind of the knowledge base.
+pub(crate) fn kind_word(kb: &Kb) -> &'static [u8]
+    ensures { result.now ≡ kb_word (kb_of kb.now) }
+{
+    match kb {
+        Kb::Classical(_) => b"classical",
+        Kb::DefaultTheory(_) => b"default",
+        Kb::Program(_) => b"program",
+    }
+}
+
+/// Appends formulas, one line for each.
+fn push_formulas(text: &mut Text, formulas: &[Formula]) -> Result<(), Memory>
+    ensures { OnOk result (text.new
+        ≡ text.old ++ flat_map item_line (map formula_text (map formula_of formulas.now))) }
+{
+    for formula in formulas {
+        text.push(b"  ")?;
+        push_formula(text, formula)?;
+        text.push(b".\n")?;
+    }
+    Ok(())
+}
+
+/// Appends items of a default theory, one line for each.
+fn push_theory(text: &mut Text, items: &[TheoryItem]) -> Result<(), Memory>
+    ensures { OnOk result (text.new
+        ≡ text.old ++ flat_map item_line (map theory_item_text (map item_of items.now))) }
+{
+    for item in items {
+        text.push(b"  ")?;
+        push_theory_item(text, item)?;
+        text.push(b".\n")?;
+    }
+    Ok(())
+}
+
+/// Appends rules of a program, one line for each.
+fn push_program(text: &mut Text, rules: &[ProgRule]) -> Result<(), Memory>
+    ensures { OnOk result (text.new
+        ≡ text.old ++ flat_map item_line (map program_rule_text (map rule_of rules.now))) }
+{
+    for rule in rules {
+        text.push(b"  ")?;
+        push_program_rule(text, rule)?;
+        text.push(b".\n")?;
+    }
+    Ok(())
+}
+
+/// Appends a knowledge base, one line for each item.
+pub(crate) fn push_items(text: &mut Text, kb: &Kb) -> Result<(), Memory>
+    ensures { OnOk result (text.new ≡ text.old ++ items_text (kb_of kb.now)) }
+{
+    match kb {
+        Kb::Classical(formulas) => push_formulas(text, formulas),
+        Kb::DefaultTheory(items) => push_theory(text, items),
+        Kb::Program(rules) => push_program(text, rules),
+    }
 }

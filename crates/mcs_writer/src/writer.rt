@@ -5,79 +5,16 @@ ghost use Rattle.std.specs.Prelude.{OnOk, OnErr};
 ghost use Rattle.std.specs.List.{AllByRecursion, flat_map, list_any};
 ghost use Rattle.mcs_system.specs.Faults.{reads_of};
 ghost use Rattle.mcs_system.specs.Plain as plain;
-ghost use Rattle.mcs_system.specs.Seen.{formula_of, item_of, rule_of, kb_of, context_of, read_of};
-ghost use Rattle.mcs_system.specs.Seen.{bridge_of};
+ghost use Rattle.mcs_system.specs.Seen.{formula_of, context_of, read_of, bridge_of};
 ghost use Rattle.mcs_system.specs.Texts.{belief_text};
-ghost use Rattle.mcs_writer.specs.Canonical.{formula_text, theory_item_text, joined_by};
-ghost use Rattle.mcs_writer.specs.Canonical.{program_rule_text, kind_word, item_line, items_text};
-ghost use Rattle.mcs_writer.specs.Canonical.{context_text, if_word, weight_text, marks_text};
+ghost use Rattle.mcs_writer.specs.Canonical.{joined_by, context_text, if_word};
+ghost use Rattle.mcs_writer.specs.Canonical.{weight_text, marks_text};
 ghost use Rattle.mcs_writer.specs.Canonical.{bridge_text, is_marked, version_line, canonical_text};
 
-use crate::item_writer::{push_formula, push_primary, push_program_rule, push_theory_item};
+use crate::item_writer::{kind_word, push_items, push_primary};
 use mcs_base::{Memory, Text};
-use mcs_system::{Bridge, Context, Formula, Kb, ProgRule, Read, System, TheoryItem};
+use mcs_system::{Bridge, Context, Formula, Read, System};
 use mcs_text::push_separator;
-
-/// The word for the kind of the knowledge base.
-fn kind_word(kb: &Kb) -> &'static [u8]
-    ensures { result.now ≡ kind_word (kb_of kb.now) }
-{
-    match kb {
-        Kb::Classical(_) => b"classical",
-        Kb::DefaultTheory(_) => b"default",
-        Kb::Program(_) => b"program",
-    }
-}
-
-/// Appends formulas, one line for each.
-fn push_formulas(text: &mut Text, formulas: &[Formula]) -> Result<(), Memory>
-    ensures { OnOk result (text.new
-        ≡ text.old ++ flat_map item_line (map formula_text (map formula_of formulas.now))) }
-{
-    for formula in formulas {
-        text.push(b"  ")?;
-        push_formula(text, formula)?;
-        text.push(b".\n")?;
-    }
-    Ok(())
-}
-
-/// Appends items of a default theory, one line for each.
-fn push_theory(text: &mut Text, items: &[TheoryItem]) -> Result<(), Memory>
-    ensures { OnOk result (text.new
-        ≡ text.old ++ flat_map item_line (map theory_item_text (map item_of items.now))) }
-{
-    for item in items {
-        text.push(b"  ")?;
-        push_theory_item(text, item)?;
-        text.push(b".\n")?;
-    }
-    Ok(())
-}
-
-/// Appends rules of a program, one line for each.
-fn push_program(text: &mut Text, rules: &[ProgRule]) -> Result<(), Memory>
-    ensures { OnOk result (text.new
-        ≡ text.old ++ flat_map item_line (map program_rule_text (map rule_of rules.now))) }
-{
-    for rule in rules {
-        text.push(b"  ")?;
-        push_program_rule(text, rule)?;
-        text.push(b".\n")?;
-    }
-    Ok(())
-}
-
-/// Appends a knowledge base, one line for each item.
-fn push_items(text: &mut Text, kb: &Kb) -> Result<(), Memory>
-    ensures { OnOk result (text.new ≡ text.old ++ items_text (kb_of kb.now)) }
-{
-    match kb {
-        Kb::Classical(formulas) => push_formulas(text, formulas),
-        Kb::DefaultTheory(items) => push_theory(text, items),
-        Kb::Program(rules) => push_program(text, rules),
-    }
-}
 
 /// Appends a context.
 fn push_context(text: &mut Text, context: &Context) -> Result<(), Memory>

@@ -7,11 +7,12 @@ use Rattle.mcs_system.specs.Logic.{with_heads}
 use Rattle.mcs_system.specs.Seen.{formula_of, context_of}
 use Rattle.mcs_system.specs.Systems.{variables_of, heads_into}
 use Rattle.mcs_system.specs.Views.{at_places, beliefs_at}
-use Rattle.mcs_system.proofs.ValidLemmas.{few_defaults, few_variables}
+use Rattle.mcs_system.proofs.ValidLemmas.{few_variables}
 use Rattle.mcs_asking.specs.Certificates.{plain_of, IsAcceptedFor}
 use Rattle.mcs_asking.proofs.AnswerLemmas.{accepted_none, accepted_views, accepted_right, as_asked}
 use Rattle.mcs_asking.proofs.AskingLemmas.{context_there}
 use Rattle.mcs_asking.proofs.CoverLemmas.{own_over, heads_over, beliefs_over, few_beliefs}
+use Rattle.mcs_asking.proofs.KindItems.{few_parts}
 use Rattle.mcs_asking.proofs.KindLemmas.{beliefs_of_kind}
 use Rattle.mcs_certificate.proofs.acceptance.accepts.Goals as goal
 
@@ -32,7 +33,7 @@ invariant_of-question c =
     let told : map (λ f. formula_of f.now) c.deref-2.result.now ≡ heads_into m c.args.context c.args.active = ap (map (λ f. formula_of f.now)) c.deref-2.ensures.value ∙ c.in_ok-heads.ensures in
     let asked : map (λ f. formula_of f.now) c.deref.result.now ≡ beliefs_at m (variables_of m c.args.context) = ap (map (λ f. formula_of f.now)) c.deref.ensures.value ∙ c.in_ok-beliefs.ensures in
     record {
-      few_defaults = few_defaults m c.contexts.ensures.valid c.args.context _ there;
+      few_parts = few_parts m c.contexts.ensures.valid c.args.context _ there;
       own = rw c.atoms_of.ensures.value (own_over m c.args.context _ there);
       told = rw (c.atoms_of.ensures.value, told) (heads_over m c.args.context c.args.active);
       kinds = rw asked (beliefs_of_kind m c.contexts.ensures.valid c.args.context _ there);

@@ -2,13 +2,13 @@ use Rattle.std.proofs.Common.{◌≡◌, ◌∙◌, ◌↔◌, ◌≤◌, IsTrue
 use Rattle.std.proofs.lemmas.List.{length-map}
 use Rattle.mcs_system.specs.Plain.{Kb, System}
 use Rattle.mcs_system.specs.Atoms.{atoms_of}
-use Rattle.mcs_system.specs.Faults.{default_count}
 use Rattle.mcs_system.specs.Seen.{formula_of, kb_of}
 use Rattle.mcs_system.specs.Systems.{variables_of, heads_into}
 use Rattle.mcs_system.specs.Views.{at_places, beliefs_at}
-use Rattle.mcs_system.proofs.ValidLemmas.{few_defaults, few_variables}
-use Rattle.mcs_asking.specs.Kinds.{IsOverKb, AreOfKind}
+use Rattle.mcs_system.proofs.ValidLemmas.{few_variables}
+use Rattle.mcs_asking.specs.Kinds.{part_count, IsOverKb, AreOfKind}
 use Rattle.mcs_asking.proofs.CoverLemmas.{own_over, heads_over, beliefs_over, few_beliefs}
+use Rattle.mcs_asking.proofs.KindItems.{few_parts}
 use Rattle.mcs_asking.proofs.KindLemmas.{beliefs_of_kind}
 use Rattle.mcs_steps.proofs.Judged.{judged_err}
 use Rattle.mcs_check.proofs.JudgedAnswers.{fault_there, refused_there, views_judged}
@@ -34,7 +34,7 @@ invariant_of-told c =
     let told : map (λ f. formula_of f.now) c.deref-2.result.now ≡ heads_into m i c.args.question.1 = ap (map (λ f. formula_of f.now)) c.deref-2.ensures.value ∙ c.in_ok-heads.ensures in
     let asked : map (λ f. formula_of f.now) c.deref.result.now ≡ beliefs_at m (variables_of m i) = ap (map (λ f. formula_of f.now)) c.deref.ensures.value ∙ c.in_ok-beliefs.ensures in
     record {
-      few_defaults = subst (λ (k : Kb). default_count k ≤ 10) h.kb_is (few_defaults m valid i h.context h.is_it);
+      few_parts = subst (λ (k : Kb). part_count k ≤ 10) h.kb_is (few_parts m valid i h.context h.is_it);
       own = rw c.atoms_of.ensures.value (subst (IsOverKb (atoms_of m i)) h.kb_is (own_over m i h.context h.is_it));
       told = rw (c.atoms_of.ensures.value, told) (heads_over m i c.args.question.1);
       kinds = rw asked (subst (λ (k : Kb). AreOfKind k (beliefs_at m (variables_of m i))) h.kb_is (beliefs_of_kind m valid i h.context h.is_it));

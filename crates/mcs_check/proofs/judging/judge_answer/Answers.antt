@@ -1,10 +1,10 @@
-use Rattle.std.proofs.Common.{◌≡◌, ◌∙◌, IsTrue, length, map, ap, sym, subst, arith}
+use Rattle.std.proofs.Common.{◌≡◌, ◌∙◌, IsTrue, length, map, ap, refl, sym, subst, arith}
 use Rattle.mcs_base.proofs.Mapped.{all_from_map}
 use Rattle.mcs_system.specs.Plain.{Formula, Classical, DefaultTheory, Program}
 use Rattle.mcs_system.specs.Faults.{is_atom}
 use Rattle.mcs_system.specs.Seen.{formula_of, item_of, rule_of, kb_of}
-use Rattle.mcs_asking.specs.Kinds.{IsOverKb, AreOfKind}
-use Rattle.mcs_check.proofs.JudgedAnswers.{formulas_judged, theory_judged, rules_judged}
+use Rattle.mcs_asking.specs.Kinds.{OfFormulas, OfDefaults, OfProgram, IsOverKb, AreOfKind}
+use Rattle.mcs_check.proofs.JudgedAnswers.{judged_as}
 use Rattle.mcs_check.proofs.judging.judge_answer.Goals as goal
 
 pub invariant_of-named : goal.invariant_of-named
@@ -43,19 +43,18 @@ pub returns-in-Classical : goal.returns-in-Classical
 returns-in-Classical c =
     let q = c.args.question.now in
     let words : c.deref.result.now ≡ q.asked.now.atoms.now = c.deref.ensures.value ∙ c.in_ok-names.ensures in
-    formulas_judged q.asked.now.atoms.now c.deref.result.now c.args.numbers.now words (map (λ f. formula_of f.now) q.heads.now) (map (λ f. formula_of f.now) q.asked.now.beliefs.now) (length q.asked.now.beliefs.now) c.args.count (kb_of q.kb.now) c.judge_classical.result c.judge_classical.new.lines c.args.lines.now
-    (map formula_of c.deref-in-Classical.result.now) (ap kb_of c.in-Classical.is ∙ ap (λ fs. Classical (map formula_of fs)) (sym c.deref-in-Classical.ensures.value)) c.judge_classical.ensures
+    judged_as q.asked.now.atoms.now c.deref.result.now c.args.numbers.now words (map (λ f. formula_of f.now) q.heads.now) (map (λ f. formula_of f.now) q.asked.now.beliefs.now) (length q.asked.now.beliefs.now) c.args.count (kb_of q.kb.now) c.judge_classical.result c.judge_classical.new.lines c.args.lines.now
+    OfFormulas (Classical (map formula_of c.deref-in-Classical.result.now)) (ap kb_of c.in-Classical.is ∙ ap (λ fs. Classical (map formula_of fs)) (sym c.deref-in-Classical.ensures.value)) _ refl c.judge_classical.ensures
 
 pub returns-in-DefaultTheory : goal.returns-in-DefaultTheory
 returns-in-DefaultTheory c =
     let q = c.args.question.now in
-    let words : c.deref.result.now ≡ q.asked.now.atoms.now = c.deref.ensures.value ∙ c.in_ok-names.ensures in
-    theory_judged q.asked.now.atoms.now c.deref.result.now c.args.numbers.now words (map (λ f. formula_of f.now) q.heads.now) (map (λ f. formula_of f.now) q.asked.now.beliefs.now) (length q.asked.now.beliefs.now) c.args.count (kb_of q.kb.now) c.judge_extensions.result c.judge_extensions.new.lines c.args.lines.now
-    (map item_of c.deref-in-DefaultTheory.result.now) (ap kb_of c.in-DefaultTheory.is ∙ ap (λ xs. DefaultTheory (map item_of xs)) (sym c.deref-in-DefaultTheory.ensures.value)) c.judge_extensions.ensures
+    judged_as q.asked.now.atoms.now q.asked.now.atoms.now c.args.numbers.now refl (map (λ f. formula_of f.now) q.heads.now) (map (λ f. formula_of f.now) q.asked.now.beliefs.now) (length q.asked.now.beliefs.now) c.args.count (kb_of q.kb.now) c.judge_extensions.result c.judge_extensions.new.lines c.args.lines.now
+    OfDefaults (DefaultTheory (map item_of c.deref-in-DefaultTheory.result.now)) (ap kb_of c.in-DefaultTheory.is ∙ ap (λ xs. DefaultTheory (map item_of xs)) (sym c.deref-in-DefaultTheory.ensures.value)) _ refl c.judge_extensions.ensures
 
 pub returns : goal.returns
 returns c =
     let q = c.args.question.now in
     let words : c.deref.result.now ≡ q.asked.now.atoms.now = c.deref.ensures.value ∙ c.in_ok-names.ensures in
-    rules_judged q.asked.now.atoms.now c.deref.result.now c.args.numbers.now words (map (λ f. formula_of f.now) q.heads.now) (map (λ f. formula_of f.now) q.asked.now.beliefs.now) (length q.asked.now.beliefs.now) c.args.count (kb_of q.kb.now) c.judge_program.result c.judge_program.new.lines c.args.lines.now
-    (map rule_of c.deref-in-Program.result.now) (ap kb_of c.in-Program.is ∙ ap (λ rs. Program (map rule_of rs)) (sym c.deref-in-Program.ensures.value)) c.judge_program.ensures
+    judged_as q.asked.now.atoms.now c.deref.result.now c.args.numbers.now words (map (λ f. formula_of f.now) q.heads.now) (map (λ f. formula_of f.now) q.asked.now.beliefs.now) (length q.asked.now.beliefs.now) c.args.count (kb_of q.kb.now) c.judge_program.result c.judge_program.new.lines c.args.lines.now
+    OfProgram (Program (map rule_of c.deref-in-Program.result.now)) (ap kb_of c.in-Program.is ∙ ap (λ rs. Program (map rule_of rs)) (sym c.deref-in-Program.ensures.value)) _ refl c.judge_program.ensures

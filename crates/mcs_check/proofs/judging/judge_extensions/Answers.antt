@@ -1,9 +1,8 @@
 use Rattle.std.proofs.Common.{◌∙◌, ◌≤◌, ◌++◌, List, length, map, ap, refl, subst, arith}
 use Rattle.mcs_system.specs.Plain.{Item, Kb, Fact}
-use Rattle.mcs_system.specs.Faults.{default_count}
 use Rattle.mcs_system.specs.Seen.{formula_of, item_of}
 use Rattle.mcs_evidence.specs.Defaults.{IsAcceptedDefault}
-use Rattle.mcs_asking.specs.Kinds.{IsOverKb}
+use Rattle.mcs_asking.specs.Kinds.{part_count, IsOverKb}
 use Rattle.mcs_asking.proofs.KindLemmas.{defaults_counted}
 use Rattle.mcs_proof_lines.specs.Verdicts.{Terms, verdicts_at}
 use Rattle.mcs_judging.specs.Judging.{Tells, AreViewsOf}
@@ -18,7 +17,7 @@ judge_verdicts-requires-clause-few_numbers c = c.requires.numbers
 
 pub judge_verdicts-requires-clause-few_defaults : goal.judge_verdicts-requires-clause-few_defaults
 judge_verdicts-requires-clause-few_defaults c =
-    let few = subst (λ (k : Kb). default_count k ≤ 10) c.requires.items c.args.question.now.few_defaults in
+    let few = subst (λ (k : Kb). part_count k ≤ 10) c.requires.items c.args.question.now.few_parts in
     omega (arith, few, defaults_counted (map item_of c.args.items.now))
 
 pub judge_verdicts-requires-clause-justs : goal.judge_verdicts-requires-clause-justs

@@ -19,7 +19,7 @@ use Rattle.mcs_grounded.specs.declared.placed.NormalRule.{NormalRule}
 use Rattle.mcs_grounded.proofs.Cones.{cone_derives}
 use Rattle.mcs_grounded.proofs.Gathering.{heads_placed, reads_are_atoms}
 use Rattle.mcs_grounded.proofs.AtPlaces.{AreOfHeads}
-use Rattle.mcs_grounded.proofs.Derivers.{classical_derives, program_derives, no_default, all_found_set}
+use Rattle.mcs_grounded.proofs.Derivers.{classical_derives, program_derives, not_plain, all_found_set}
 use Rattle.mcs_grounded.proofs.Telling.{own_is}
 use Rattle.mcs_grounded.proofs.derivation.told.Goals as goal
 
@@ -64,7 +64,7 @@ pub unreachable-requires : goal.unreachable-requires
 unreachable-requires c =
     let m = c.args.derivation.now.system.now in
     let i = c.args.context in
-    no_default m i _ _ c.requires.derivation.set_up.plain (context_there m c.contexts.result.now i c.index-contexts-place.result c.contexts.ensures.value c.requires.context) (ap kb_of c.in-DefaultTheory.is)
+    true≢false (sym (c.requires.derivation.set_up.plain i _ (context_there m c.contexts.result.now i c.index-contexts-place.result c.contexts.ensures.value c.requires.context)) ∙ not_plain _ c.in_default.not-Classical c.in_default.not-Program)
 
 -- and a program what is in the least model of its cone
 pub returns-in-Program-clause-found : goal.returns-in-Program-clause-found

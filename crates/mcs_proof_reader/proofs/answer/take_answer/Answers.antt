@@ -1,7 +1,7 @@
 use Rattle.std.proofs.Common.{◌≡◌, Option, Some, get_or, slice_get, ap, ◌∙◌, refl}
 use Rattle.mcs_system.specs.Plain.{Context, System}
 use Rattle.mcs_system.specs.Seen.{context_of}
-use Rattle.mcs_system.proofs.ValidLemmas.{few_defaults}
+use Rattle.mcs_asking.proofs.KindItems.{few_parts}
 use Rattle.mcs_asking.proofs.AskingLemmas.{context_there}
 use Rattle.mcs_proof_reader.specs.Answers.{shown_of}
 use Rattle.mcs_proof_reader.specs.Readers.{shown_of_code}
@@ -11,7 +11,7 @@ use Rattle.mcs_proof_reader.proofs.answer.take_answer.Goals as goal
 pub take_shown-requires-clause-few : goal.take_shown-requires-clause-few
 take_shown-requires-clause-few c =
     let m : System = c.args.system.now in
-    few_defaults m c.requires.texts.valid c.args.question.0 _ (context_there m c.contexts.result.now c.args.question.0 c.index-contexts-context.result c.contexts.ensures.value c.requires.context)
+    few_parts m c.requires.texts.valid c.args.question.0 _ (context_there m c.contexts.result.now c.args.question.0 c.index-contexts-context.result c.contexts.ensures.value c.requires.context)
 
 pub returns-in_err-outputs : goal.returns-in_err-outputs
 returns-in_err-outputs c =

@@ -11,7 +11,7 @@ use Rattle.mcs_system.specs.Logic.{with_heads}
 use Rattle.mcs_system.specs.Seen.{formula_of, context_of}
 use Rattle.mcs_system.specs.Systems.{variables_of, heads_into, IsAcceptedPart}
 use Rattle.mcs_system.specs.Views.{IsAcceptedView, at_places, beliefs_at}
-use Rattle.mcs_system.proofs.ValidLemmas.{few_defaults, few_variables}
+use Rattle.mcs_system.proofs.ValidLemmas.{few_variables}
 use Rattle.mcs_cnf.specs.ClauseLists.{AreOver, IsOver}
 use Rattle.mcs_cnf.proofs.OverLemmas.{context_atoms}
 use Rattle.mcs_classical.specs.Assumptions.{assumed}
@@ -23,6 +23,7 @@ use Rattle.mcs_asking.specs.Kinds.{AreOfKind, IsOverKb}
 use Rattle.mcs_asking.proofs.AnswerLemmas.{as_asked}
 use Rattle.mcs_asking.proofs.AskingLemmas.{context_there}
 use Rattle.mcs_asking.proofs.CoverLemmas.{own_over, heads_over, beliefs_over, few_beliefs}
+use Rattle.mcs_asking.proofs.KindItems.{few_parts}
 use Rattle.mcs_asking.proofs.KindLemmas.{heads_of_kind, beliefs_of_kind}
 use Rattle.mcs_keeping.specs.Certified.{IsCertified}
 use Rattle.mcs_solver.proofs.KeepingLemmas.{certified_there}
@@ -54,10 +55,10 @@ invariant_of-given c =
           (subst (λ (xs : List Assumption). AreOver (atoms_of m i) (map (λ (a : Assumption). formula_of a.formula.now) xs)) (sym c.deref-2.ensures.value) each);
     }
 
-pub accepted_views-requires-clause-few_defaults : goal.accepted_views-requires-clause-few_defaults
-accepted_views-requires-clause-few_defaults c =
+pub accepted_views-requires-clause-few_parts : goal.accepted_views-requires-clause-few_parts
+accepted_views-requires-clause-few_parts c =
     let m : System = c.args.system.now in
-    few_defaults m c.contexts.ensures.valid c.args.context _ (context_there m c.contexts.result.now c.args.context c.index-contexts-context.result c.contexts.ensures.value c.requires.context)
+    few_parts m c.contexts.ensures.valid c.args.context _ (context_there m c.contexts.result.now c.args.context c.index-contexts-context.result c.contexts.ensures.value c.requires.context)
 
 pub accepted_views-requires-clause-kb : goal.accepted_views-requires-clause-kb
 accepted_views-requires-clause-kb c =

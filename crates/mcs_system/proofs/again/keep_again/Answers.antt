@@ -21,4 +21,4 @@ pub returns-in_err-pass_last_with-clause-fault : goal.returns-in_err-pass_last_w
 returns-in_err-pass_last_with-clause-fault c = fault_handed _ _ c.args.bridges.now _ _ c.from_residual-in_err-pass_last_with.ensures.1 c.deref-2.ensures.value c.in_err-pass_last_with.ensures.fault
 
 pub returns-clause-ok : goal.returns-clause-ok
-returns-clause-ok c = kept_known c.args.contexts.now c.args.bridges.now c.in_ok-kept.kept c.requires c.in_ok-kept.ensures.ok (rw c.deref-2.ensures.value at c.in_ok-pass_last_with.ensures.ok) c.bridges_are_named.ensures
+returns-clause-ok c = kept_known c.args.contexts.now c.args.bridges.now c.in_ok-kept.kept c.requires c.in_ok-kept.ensures.ok (rw c.deref-2.ensures.value at c.in_ok-pass_last_with.ensures.ok) c.are_named.ensures

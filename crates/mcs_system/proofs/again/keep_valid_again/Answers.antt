@@ -7,7 +7,7 @@ pub gather_again-requires-clause-first : goal.gather_again-requires-clause-first
 gather_again-requires-clause-first c = first_passed (made_of c.args.contexts.now c.args.bridges.now) c.requires.valid
 
 pub returns-in-Ok : goal.returns-in-Ok
-returns-in-Ok c = kept_known c.args.contexts.now c.args.bridges.now c.in-Ok.kept c.requires.known c.in-Ok.ensures.ok c.requires.valid c.bridges_are_named.ensures
+returns-in-Ok c = kept_known c.args.contexts.now c.args.bridges.now c.in-Ok.kept c.requires.known c.in-Ok.ensures.ok c.requires.valid c.are_named.ensures
 
 pub unreachable-requires : goal.unreachable-requires
 unreachable-requires c =

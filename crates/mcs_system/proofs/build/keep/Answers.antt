@@ -15,4 +15,4 @@ pub returns-in_err-pass_last-clause-fault : goal.returns-in_err-pass_last-clause
 returns-in_err-pass_last-clause-fault c = fault_handed _ _ c.args.bridges.now _ _ c.from_residual-in_err-pass_last.ensures.1 (c.deref-2.ensures.value ∙ c.in_ok-built.ensures.ok.contexts_are) c.in_err-pass_last.ensures.fault
 
 pub returns-clause-ok : goal.returns-clause-ok
-returns-clause-ok c = system_built c.args.contexts.items c.args.bridges.now c.in_ok-built.built c.in_ok-built.ensures.ok (rw c.deref-2.ensures.value at c.in_ok-pass_last.ensures.ok) (rw c.deref-3.ensures.value at c.are_named.ensures)
+returns-clause-ok c = system_built c.args.contexts.items c.args.bridges.now c.in_ok-built.built c.in_ok-built.ensures.ok (rw c.deref-2.ensures.value at c.in_ok-pass_last.ensures.ok) (rw c.deref-3.ensures.value at c.system_is_named.ensures)

@@ -6,7 +6,7 @@ pub gather-requires : goal.gather-requires
 gather-requires c = first_passed (system_of c.args.contexts.items c.args.bridges.now) c.requires
 
 pub returns-in-Ok : goal.returns-in-Ok
-returns-in-Ok c = system_built_valid c.args.contexts.items c.args.bridges.now c.in-Ok.built c.in-Ok.ensures.ok c.requires (rw c.deref.ensures.value at c.are_named.ensures)
+returns-in-Ok c = system_built_valid c.args.contexts.items c.args.bridges.now c.in-Ok.built c.in-Ok.ensures.ok c.requires (rw c.deref.ensures.value at c.system_is_named.ensures)
 
 pub unreachable-requires : goal.unreachable-requires
 unreachable-requires c =

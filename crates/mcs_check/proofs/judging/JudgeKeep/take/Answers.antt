@@ -6,7 +6,7 @@ use Rattle.mcs_asking.proofs.AskingLemmas.{context_there}
 use Rattle.mcs_proof_lines.specs.Walks.{ReturnsReading}
 use Rattle.mcs_proof_reader.proofs.AnswerSteps.{taken_err}
 use Rattle.mcs_check.specs.Judging.{HasKb}
-use Rattle.mcs_check.specs.Parts.{certificate_of}
+use Rattle.mcs_proof_reader.specs.Answers.{certificate_of}
 use Rattle.mcs_check.proofs.JudgedAnswers.{no_outputs, no_certificate, answer_read}
 use Rattle.mcs_check.proofs.judging.JudgeKeep.take.Goals as goal
 
