@@ -50,7 +50,7 @@ class Statement(Ground):
         for names, _, files in rows("Case"):
             text = "\n".join(content(os.path.join(TOP, "crates", file)) for file in quoted(files))
             for name in quoted(names):
-                self.assertTrue(re.search(rf"^\s*(abbrev pub|pub record|pub fn|fn) {name}\b", text, re.MULTILINE),
+                self.assertTrue(re.search(rf"^\s*((pattern )?abbrev pub|pub record|pub fn|fn) {name}\b", text, re.MULTILINE),
                                 f"docs/BELIEVE.md has the case `{name}`, which is not in {files}")
 
     def test_the_clauses_of_the_page_are_those_of_run(self):
@@ -94,7 +94,7 @@ class Statement(Ground):
         self.assertEqual(self.names("run"), self.names())
         for name, path in self.names():
             self.assertIn(f"==== {path}\n", told)
-            head = rf"^((pub|abbrev|unfoldable|pub\(crate\)|record|data|enum|struct|trait|type|fn) )+{name}\b"
+            head = rf"^((pub|pattern|abbrev|unfoldable|pub\(crate\)|record|data|enum|struct|trait|type|fn) )+{name}\b"
             self.assertTrue(re.search(head, told, re.MULTILINE), f"{name} of {path} is not printed")
 
     def test_words(self):
